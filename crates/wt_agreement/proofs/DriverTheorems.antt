@@ -43,74 +43,74 @@ use Rattle.wt_wire.specs.HeaderList.{Fields}
 use Rattle.wt_wire.specs.declared.side.Side.{Side}
 
 -- with whether anything happened, where the delivered request ends, and the walk over the response while a connect goes on
-pub drivers_tell_theorem : (side : Side) (d : DriverValue) (log : Log) (untaken : List Action) (first : Bool) (end : ℕ) (walk : ResponseWalk)
-    → Refines side d log untaken → first ≡ is_first log → KeepsRequestEnd side log end
+pub drivers_tell_theorem : (side : Side) (d : DriverValue) (log : Log) (uncollected : List Action) (first : Bool) (end : ℕ) (walk : ResponseWalk)
+    → Refines side d log uncollected → first ≡ is_first log → KeepsRequestEnd side log end
     → ((reserved : Option (List ℕ)) (head : List ℕ) → handshake_state (calls_of log) ≡ Connecting reserved head → walk ≡ (driver_facts side log).response)
     → IsReachable side log → TellsFacts side log d.inbox.transport (answers_now d.inbox.transport d.state first end walk)
-drivers_tell_theorem side d log untaken first end walk r f k w reach =
-    inbox_tells side log d.inbox r.stage untaken (answers_now d.inbox.transport d.state first end walk) r.inbox (λ j h. read-staged side log r.stage j r.fits r.uses r.staged h)
+drivers_tell_theorem side d log uncollected first end walk r f k w reach =
+    inbox_tells side log d.inbox r.stage uncollected (answers_now d.inbox.transport d.state first end walk) r.inbox (λ j h. read-staged side log r.stage j r.fits r.uses r.staged h)
     (subst (λ (s : DriverState). AnswersLog side log (answers_now d.inbox.transport s first end walk)) (sym r.state_is)
-    (answers_same side log d.inbox.transport r.inbox.position untaken first end walk r.inbox.transport f k w)) reach
+    (answers_same side log d.inbox.transport r.inbox.position uncollected first end walk r.inbox.transport f k w)) reach
 
-pub driver_error_theorem : (side : Side) (d : DriverValue) (log : Log) (untaken : List Action) → Refines side d log untaken → error_now d.inbox.transport d.state.progress.ending ≡ driver_error side log
-driver_error_theorem side d log untaken r =
+pub driver_error_theorem : (side : Side) (d : DriverValue) (log : Log) (uncollected : List Action) → Refines side d log uncollected → error_now d.inbox.transport d.state.progress.ending ≡ driver_error side log
+driver_error_theorem side d log uncollected r =
     let own = driver_facts side log in
     subst (λ (s : DriverState). error_now d.inbox.transport s.progress.ending ≡ driver_error side log) (sym r.state_is)
-    (answers_same side log d.inbox.transport r.inbox.position untaken (is_first log) own.request_end own.response r.inbox.transport refl (λ a. refl) (λ reserved head c. refl)).driver_error
+    (answers_same side log d.inbox.transport r.inbox.position uncollected (is_first log) own.request_end own.response r.inbox.transport refl (λ a. refl) (λ reserved head c. refl)).driver_error
 
-pub transport_open_theorem : (side : Side) (d : DriverValue) (log : Log) (untaken : List Action) → Refines side d log untaken → d.inbox.transport.is_open ≡ is_open log
-transport_open_theorem side d log untaken r = ap (λ (t : TransportState). t.is_open) r.inbox.transport.state
+pub transport_open_theorem : (side : Side) (d : DriverValue) (log : Log) (uncollected : List Action) → Refines side d log uncollected → d.inbox.transport.is_open ≡ is_open log
+transport_open_theorem side d log uncollected r = ap (λ (t : TransportState). t.is_open) r.inbox.transport.state
 
-pub state_open_theorem : (side : Side) (d : DriverValue) (log : Log) (untaken : List Action) → Refines side d log untaken → d.state.is_open ≡ is_open log
+pub state_open_theorem : (side : Side) (d : DriverValue) (log : Log) (uncollected : List Action) → Refines side d log uncollected → d.state.is_open ≡ is_open log
 unfolding state_of
-state_open_theorem side d log untaken r = ap (λ (s : DriverState). s.is_open) r.state_is
+state_open_theorem side d log uncollected r = ap (λ (s : DriverState). s.is_open) r.state_is
 
-pub pending_theorem : (side : Side) (d : DriverValue) (log : Log) (untaken : List Action) → Refines side d log untaken
+pub pending_theorem : (side : Side) (d : DriverValue) (log : Log) (uncollected : List Action) → Refines side d log uncollected
     → pending_or_failed side log ≡ (if d.inbox.transport.is_open then replies.Pending else replies.Failed (error_now d.inbox.transport d.state.progress.ending))
-pending_theorem side d log untaken r =
-    ap (λ (open_ : Bool). if open_ then replies.Pending else replies.Failed (driver_error side log)) (sym (transport_open_theorem side d log untaken r))
-    ∙ ap (λ e. if d.inbox.transport.is_open then replies.Pending else replies.Failed e) (sym (driver_error_theorem side d log untaken r))
+pending_theorem side d log uncollected r =
+    ap (λ (open_ : Bool). if open_ then replies.Pending else replies.Failed (driver_error side log)) (sym (transport_open_theorem side d log uncollected r))
+    ∙ ap (λ e. if d.inbox.transport.is_open then replies.Pending else replies.Failed e) (sym (driver_error_theorem side d log uncollected r))
 
-pub requests_theorem : (side : Side) (d : DriverValue) (log : Log) (untaken : List Action) → Refines side d log untaken → requests_now d.state ≡ queued_requests side log
+pub requests_theorem : (side : Side) (d : DriverValue) (log : Log) (uncollected : List Action) → Refines side d log uncollected → requests_now d.state ≡ queued_requests side log
 unfolding state_of
-requests_theorem side d log untaken r = ap requests_now r.state_is
+requests_theorem side d log uncollected r = ap requests_now r.state_is
 
--- ---- where a request ends that is told
+-- ---- where a request ends that is reported
 
-abbrev told_fields : Option (ℕ × Fields × ℕ) → Fields
-told_fields None = []
-told_fields (Some reported) = reported.1
+abbrev reported_fields : Option (ℕ × Fields × ℕ) → Fields
+reported_fields None = []
+reported_fields (Some reported) = reported.1
 
-abbrev told_end : Option (ℕ × Fields × ℕ) → ℕ
-told_end None = 0
-told_end (Some reported) = reported.2
+abbrev reported_end : Option (ℕ × Fields × ℕ) → ℕ
+reported_end None = 0
+reported_end (Some reported) = reported.2
 
-request-told : (j id : ℕ) (v : Verdict) (headers : Fields) (at : ℕ) → request_in j v ≡ Some (id, headers, at) → v ≡ verdicts.Request headers at
-request-told j id (verdicts.Request fields end) headers at e =
-    let x : fields ≡ headers = ap told_fields e in
-    let y : end ≡ at = ap told_end e in
+request-reported : (j id : ℕ) (v : Verdict) (headers : Fields) (offset : ℕ) → request_in j v ≡ Some (id, headers, offset) → v ≡ verdicts.Request headers offset
+request-reported j id (verdicts.Request fields end) headers offset e =
+    let x : fields ≡ headers = ap reported_fields e in
+    let y : end ≡ offset = ap reported_end e in
     rw (x, y) refl
-request-told j id _ headers at e = absurd (cc)
+request-reported j id _ headers offset e = absurd (cc)
 
-first-told : (id : ℕ) (headers : Fields) (at : ℕ) (cs : List Classified) → first_request cs ≡ Some (id, headers, at) → (queued : Classified) × (later : List Classified) × (cs ≡ queued ∷ later) × (queued.verdict ≡ verdicts.Request headers at)
-first-told id headers at [] e = absurd (cc)
-first-told id headers at (c ∷ later) e = (c, later, refl, request-told c.id id c.verdict headers at e)
+first-reported : (id : ℕ) (headers : Fields) (offset : ℕ) (cs : List Classified) → first_request cs ≡ Some (id, headers, offset) → (queued : Classified) × (later : List Classified) × (cs ≡ queued ∷ later) × (queued.verdict ≡ verdicts.Request headers offset)
+first-reported id headers offset [] e = absurd (cc)
+first-reported id headers offset (c ∷ later) e = (c, later, refl, request-reported c.id id c.verdict headers offset e)
 
-pub told_end_theorem : (side : Side) (d : DriverValue) (log : Log) (untaken : List Action) (call : Call) (own : List Action) (k : ℕ) (reply : Reply) (id : ℕ) (headers : Fields) (at : ℕ)
-    → Refines side d log untaken → may_call side log call ≡ true → plan_of (facts_of side log) (session_state log) call ≡ Step own (RequestDelivered k) reply
-    → first_request (requests_now d.state) ≡ Some (id, headers, at) → KeepsRequestEnd side (call_effect side log call).log at
-told_end_theorem side d log untaken call own k reply id headers at r l e f =
-    let t = first-told id headers at (requests_now d.state) f in
-    delivered_theorem side log call own k reply t.0 t.1 headers at l e (sym (requests_theorem side d log untaken r) ∙ t.2) t.3
+pub reported_end_theorem : (side : Side) (d : DriverValue) (log : Log) (uncollected : List Action) (call : Call) (own : List Action) (k : ℕ) (reply : Reply) (id : ℕ) (headers : Fields) (offset : ℕ)
+    → Refines side d log uncollected → may_call side log call ≡ true → plan_of (facts_of side log) (session_state log) call ≡ Step own (RequestDelivered k) reply
+    → first_request (requests_now d.state) ≡ Some (id, headers, offset) → KeepsRequestEnd side (call_effect side log call).log offset
+reported_end_theorem side d log uncollected call own k reply id headers offset r l e f =
+    let t = first-reported id headers offset (requests_now d.state) f in
+    delivered_theorem side log call own k reply t.0 t.1 headers offset l e (sym (requests_theorem side d log uncollected r) ∙ t.2) t.3
 
 -- ---- streams that are let go
 
-module _ (side : Side) (d : DriverValue) (log : Log) (untaken : List Action) (k : ℕ) (r : Refines side d log untaken) where
+module _ (side : Side) (d : DriverValue) (log : Log) (uncollected : List Action) (k : ℕ) (r : Refines side d log uncollected) where
   -- no byte of a stream that is given up is held
   none-held : r.stage k ≡ GivenUp → unread_now d.inbox.transport k ≡ []
   none-held e =
       let position_is : r.inbox.position k ≡ positions.GivenUp = subst (λ (s : Stage). IsAt d.inbox k (contents log k) (r.inbox.position k) s) e (r.inbox.staged k) in
-      refined_unread side d.inbox.transport log r.inbox.position untaken r.inbox.transport k ∙ ap (λ (p : ReadPosition). from_position p (contents log k)) position_is
+      refined_unread side d.inbox.transport log r.inbox.position uncollected r.inbox.transport k ∙ ap (λ (p : ReadPosition). from_position p (contents log k)) position_is
 
   pub let_go_theorem : is_let_go side log k ≡ true → unread_now d.inbox.transport k ≡ []
   let_go_theorem e = none-held (let-go-gone side log r.stage k r.fits r.uses r.staged e)

@@ -15,7 +15,7 @@ use Rattle.wt_laws.specs.Reachable.{AfterTurn, IsReachable}
 use Rattle.wt_laws.specs.RecordCauses.{RecordCause}
 use Rattle.wt_laws.specs.ReplyCauses.{ReplyCause}
 use Rattle.wt_turn.specs.Turns.{is_call}
-use Rattle.wt_laws.specs.ReplyTells.{Logged, NoRecord, OneRecord, TellsOf, ThenPolled, request_told}
+use Rattle.wt_laws.specs.ReplyTells.{Logged, NoRecord, OneRecord, TellsOf, ThenPolled, request_reported}
 use Rattle.wt_plan.proofs.AnswersSame.{delivered_end, request_end_kept}
 use Rattle.wt_plan.specs.PlansAgree.{KeepsRequestEnd}
 use Rattle.wt_proto.specs.declared.verdict.Verdict.{Verdict}
@@ -97,7 +97,7 @@ record-stays : (r : CallRecord) (own : List Action) (reply : Reply) (before : Li
 record-stays (RequestDelivered k) own reply before d s = absurd (cc)
 record-stays (ResponseStarted accepts head) own reply before d s = record { back = λ a. request-answering (handshake_state before) s; same = λ a. refl }
 record-stays (ConnectStarted reserved head) own reply before d s = record { back = λ a. absurd (cc); same = λ a. refl }
-record-stays (SessionEstablished id at) own reply before d s = record { back = λ a. absurd (cc); same = λ a. refl }
+record-stays (SessionEstablished id offset) own reply before d s = record { back = λ a. absurd (cc); same = λ a. refl }
 record-stays HandshakeOver own reply before d s = record { back = λ a. absurd (cc); same = λ a. refl }
 record-stays _ own reply before d s = record { back = λ a. a; same = λ a. refl }
 
@@ -111,7 +111,7 @@ handshake-serves side h k = record {
   passed = λ log id p. let c = pass-calls side log id in record { state = ap handshake_state c ∙ p.state; request = ap requested_stream c ∙ p.request };
   given = λ log id p. let c = calls-logged side log [] (StreamAccepted id) in record { state = ap handshake_state c ∙ p.state; request = ap requested_stream c ∙ p.request };
   skipped = λ log p. let c = calls-logged side log [] DatagramPassed in record { state = ap handshake_state c ∙ p.state; request = ap requested_stream c ∙ p.request };
-  taken = λ log p. let c = calls-logged side log [] DatagramReceived in record { state = ap handshake_state c ∙ p.state; request = ap requested_stream c ∙ p.request };
+  received = λ log p. let c = calls-logged side log [] DatagramReceived in record { state = ap handshake_state c ∙ p.state; request = ap requested_stream c ∙ p.request };
   polled = λ log p. let c = calls-logged side log [] Polled in record { state = ap handshake_state c ∙ p.state; request = ap requested_stream c ∙ p.request };
 }
 
@@ -121,15 +121,15 @@ is-answering log later i = record { back = λ a. ap is_answering (sym i.state) �
 serve-handshake : (side : Side) (log : Log) → PlansServe side log (HandshakeIs (handshake_state (calls_of log)) (requested_stream (calls_of log)))
 serve-handshake side log = plans_serve (handshake-serves side (handshake_state (calls_of log)) (requested_stream (calls_of log))) log (record { state = refl; request = refl })
 
-establish-over : (id at : ℕ) (cs before : List CallRecord) → cs ≡ Polled ∷ SessionEstablished id at ∷ before → StaysAnswering cs before
-establish-over id at cs before e = subst (λ rs. StaysAnswering rs before) (sym e) (record { back = λ a. absurd (cc); same = λ a. refl })
+establish-over : (id offset : ℕ) (cs before : List CallRecord) → cs ≡ Polled ∷ SessionEstablished id offset ∷ before → StaysAnswering cs before
+establish-over id offset cs before e = subst (λ rs. StaysAnswering rs before) (sym e) (record { back = λ a. absurd (cc); same = λ a. refl })
 
 plan-stays : (side : Side) (log : Log) (p : Plan) → delivers_request p ≡ false → StartsFrom (calls_of (perform side log p).log) → StaysAnswering (calls_of (perform side log p).log) (calls_of log)
 plan-stays side log (Step own r reply) d s =
     let c = calls-logged side log own r in
     subst (λ cs. StaysAnswering cs (calls_of log)) (sym c) (record-stays r own reply (calls_of log) d (subst StartsFrom c s))
-plan-stays side log (Establish own id at) d s =
-    establish-over id at _ (calls_of log) (calls-logged side (log_call side log own (SessionEstablished id at)) [] Polled ∙ ap (λ cs. Polled ∷ cs) (calls-logged side log own (SessionEstablished id at)))
+plan-stays side log (Establish own id offset) d s =
+    establish-over id offset _ (calls_of log) (calls-logged side (log_call side log own (SessionEstablished id offset)) [] Polled ∙ ap (λ cs. Polled ∷ cs) (calls-logged side log own (SessionEstablished id offset)))
 plan-stays side log (AcceptUni session) d s = is-answering log _ ((serve-handshake side log).accepts replies.Uni _ session)
 plan-stays side log (AcceptBi session) d s = is-answering log _ ((serve-handshake side log).accepts replies.Bi _ session)
 plan-stays side log (Receive session) d s = is-answering log _ ((serve-handshake side log).receives session)
@@ -148,33 +148,33 @@ call_end side log call end r l d k =
 longer : (r : CallRecord) (cs : List CallRecord) → cs ≡ r ∷ cs → ⊥
 longer r cs e = let n : length cs ≡ length (r ∷ cs) = ap length e in omega arith
 
-same-record : (turn : Turn) (reply : Reply) (k : ℕ) (r : CallRecord) (before : List CallRecord) → r ∷ before ≡ RequestDelivered k ∷ before → TellsOf turn r reply → request_told reply ≡ Some k
+same-record : (turn : Turn) (reply : Reply) (k : ℕ) (r : CallRecord) (before : List CallRecord) → r ∷ before ≡ RequestDelivered k ∷ before → TellsOf turn r reply → request_reported reply ≡ Some k
 same-record turn reply k (RequestDelivered j) before e t = let i : j ≡ k = cc in t ∙ ap Some i
 same-record turn reply k _ before e t = absurd (cc)
 
-told-request : (turn : Turn) (k : ℕ) (before after : List CallRecord) (reply : Reply) → after ≡ RequestDelivered k ∷ before → Logged turn before after reply → request_told reply ≡ Some k
-told-request turn k before after reply e (NoRecord f q) = absurd (longer (RequestDelivered k) before (sym f ∙ e))
-told-request turn k before after reply e (OneRecord r f t) = same-record turn reply k r before (sym f ∙ e) t
-told-request turn k before after reply e (ThenPolled r f t) = absurd (let x = sym f ∙ e in cc)
+reported-request : (turn : Turn) (k : ℕ) (before after : List CallRecord) (reply : Reply) → after ≡ RequestDelivered k ∷ before → Logged turn before after reply → request_reported reply ≡ Some k
+reported-request turn k before after reply e (NoRecord f q) = absurd (longer (RequestDelivered k) before (sym f ∙ e))
+reported-request turn k before after reply e (OneRecord r f t) = same-record turn reply k r before (sym f ∙ e) t
+reported-request turn k before after reply e (ThenPolled r f t) = absurd (let x = sym f ∙ e in cc)
 
-request-verdict : (v : Verdict) → is_request v ≡ true → (headers : Fields) × (at : ℕ) × (v ≡ verdicts.Request headers at)
-request-verdict (verdicts.Request headers at) e = (headers, at, refl)
+request-verdict : (v : Verdict) → is_request v ≡ true → (headers : Fields) × (offset : ℕ) × (v ≡ verdicts.Request headers offset)
+request-verdict (verdicts.Request headers offset) e = (headers, offset, refl)
 request-verdict _ e = absurd (cc)
 
 -- where a request is queued first, its verdict is that of its stream
 first-queued : (side : Side) (log : Log) (queued : Classified) (later : List Classified) → queued_requests side log ≡ queued ∷ later
     → (is_request queued.verdict ≡ true) × (verdict_of queued.id (stream_table side log).classified ≡ Some queued.verdict)
-first-queued side log queued later f = at (settings_came side log) f
+first-queued side log queued later f = by (settings_came side log) f
   where
-    at : (b : Bool) → (if b then (dispatched_streams (call_view log) (stream_table side log).classified).requests else []) ≡ queued ∷ later
+    by : (b : Bool) → (if b then (dispatched_streams (call_view log) (stream_table side log).classified).requests else []) ≡ queued ∷ later
         → (is_request queued.verdict ≡ true) × (verdict_of queued.id (stream_table side log).classified ≡ Some queued.verdict)
-    at true e =
+    by true e =
         let p = first-picked (awaits_delivery (call_view log).delivered) (λ x. true) (stream_table side log).classified queued (once side log) (ap (first_of (λ x. true)) e) in
         let a = and_parts (not (list_any (delivers queued.id) (calls_of log))) _ p.kept_for in
         ((and_parts (is_request queued.verdict) _ a.1).0, p.among)
-    at false e = absurd (cc)
+    by false e = absurd (cc)
 
-caused-first : (side : Side) (turn : Turn) (log : Log) (k : ℕ) (reply : Reply) → request_told reply ≡ Some k → ReplyCause side turn log reply → DeliversFirst side log k
+caused-first : (side : Side) (turn : Turn) (log : Log) (k : ℕ) (reply : Reply) → request_reported reply ≡ Some k → ReplyCause side turn log reply → DeliversFirst side log k
 caused-first side turn log k (replies.Request id headers) e (asking, queued, later, first, same, h) =
     let i : id ≡ k = cc in
     let v = request-verdict queued.verdict (first-queued side log queued later first).0 in
@@ -205,20 +205,20 @@ module _ (side : Side) (log : Log) (own : List Action) (k : ℕ) (reply : Reply)
       let c = caused side (turns.Call call) log l in
       let d = c.at_once (at-once call e) in
       let after = ap calls_of (delivered-calls call e) ∙ calls-logged side log own (RequestDelivered k) in
-      let t = told-request (turns.Call call) k (calls_of log) _ _ after (subst (λ (g : Log). Logged (turns.Call call) (calls_of g) (calls_of (call_effect side log call).log) (call_effect side log call).reply) d c.logged) in
+      let t = reported-request (turns.Call call) k (calls_of log) _ _ after (subst (λ (g : Log). Logged (turns.Call call) (calls_of g) (calls_of (call_effect side log call).log) (call_effect side log call).reply) d c.logged) in
       caused-first side (turns.Call call) log k _ t (subst (λ (g : Log). ReplyCause side (turns.Call call) g (call_effect side log call).reply) d c.why)
 
   -- then the request ends where the first of the queue does
-  pub delivered_request_end : (call : Call) (queued : Classified) (later : List Classified) (headers : Fields) (at : ℕ) → may_call side log call ≡ true
-      → plan_of (facts_of side log) (session_state log) call ≡ Step own (RequestDelivered k) reply → queued_requests side log ≡ queued ∷ later → queued.verdict ≡ verdicts.Request headers at
-      → KeepsRequestEnd side (call_effect side log call).log at
-  delivered_request_end call queued later headers at l e f v =
+  pub delivered_request_end : (call : Call) (queued : Classified) (later : List Classified) (headers : Fields) (offset : ℕ) → may_call side log call ≡ true
+      → plan_of (facts_of side log) (session_state log) call ≡ Step own (RequestDelivered k) reply → queued_requests side log ≡ queued ∷ later → queued.verdict ≡ verdicts.Request headers offset
+      → KeepsRequestEnd side (call_effect side log call).log offset
+  delivered_request_end call queued later headers offset l e f v =
       let w = first_request call l e in
       let i : queued.id ≡ k = first-id w.queued queued w.later later (sym w.first ∙ f) ∙ w.same in
       let x = extend (actions-extend own log) (flush-extends side (Called (RequestDelivered k)) (with_actions own log)) in
       let u = subst (λ (j : ℕ). verdict_of j (stream_table side log).classified ≡ Some queued.verdict) i (first-queued side log queued later f).1 in
       let q : requested_stream (calls_of (x.0 ++ log)) ≡ k = ap (λ (g : Log). requested_stream (calls_of g)) (sym x.1) ∙ ap requested_stream (calls-logged side log own (RequestDelivered k)) in
-      subst (λ (g : Log). KeepsRequestEnd side g at) (sym (delivered-calls call e ∙ x.1)) (delivered_end side x.0 log k headers at (u ∙ ap Some v) q)
+      subst (λ (g : Log). KeepsRequestEnd side g offset) (sym (delivered-calls call e ∙ x.1)) (delivered_end side x.0 log k headers offset (u ∙ ap Some v) q)
     where
       first-id : (c d : Classified) (cs ds : List Classified) → c ∷ cs ≡ d ∷ ds → d.id ≡ c.id
       first-id c d cs ds e = let s : d ≡ c = cc in ap (λ (z : Classified). z.id) s
@@ -230,13 +230,13 @@ first-serves side = record {
   passed = λ log k p. tt;
   given = λ log k p. tt;
   skipped = λ log p. tt;
-  taken = λ log p. tt;
+  received = λ log p. tt;
   polled = λ log p. entry-first side (Called Polled) log;
 }
 
 plan-first : (side : Side) (log : Log) (p : Plan) → is_first (perform side log p).log ≡ false
 plan-first side log (Step own r reply) = entry-first side (Called r) (with_actions own log)
-plan-first side log (Establish own id at) = entry-first side (Called Polled) (log_call side log own (SessionEstablished id at))
+plan-first side log (Establish own id offset) = entry-first side (Called Polled) (log_call side log own (SessionEstablished id offset))
 plan-first side log (AcceptUni session) = (plans_serve (first-serves side) log tt).accepts replies.Uni _ session
 plan-first side log (AcceptBi session) = (plans_serve (first-serves side) log tt).accepts replies.Bi _ session
 plan-first side log (Receive session) = (plans_serve (first-serves side) log tt).receives session

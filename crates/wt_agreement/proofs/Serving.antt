@@ -20,7 +20,7 @@ pub record Serves (side : Side) (P R : Log → Type 0) : Type 0 where
   pub passed : (log : Log) (k : ℕ) → P log → P (pass_stream side log k)
   pub given : (log : Log) (k : ℕ) → P log → P (log_call side log [] (StreamAccepted k))
   pub skipped : (log : Log) → P log → P (log_call side log [] DatagramPassed)
-  pub taken : (log : Log) → P log → P (log_call side log [] DatagramReceived)
+  pub received : (log : Log) → P log → P (log_call side log [] DatagramReceived)
   pub polled : (log : Log) → P log → R (log_call side log [] Polled)
 
 accept-first-serves : {side : Side} {P R : Log → Type 0} (w : Serves side P R) (n : ℕ) (reply : ℕ → Reply) (kind s : ℕ) (log : Log) → P log → R (accept_first n side reply kind s log).log
@@ -40,7 +40,7 @@ receive-first-serves w zero s log p = w.polled log p
 receive-first-serves {side} {P} {R} w (suc n) s log p = by (λ later q. receive-first-serves w n s later q) (next_datagram side log)
   where
     one : ((later : Log) → P later → R (receive_first n side s later).log) → (b : Bool) (payload : List ℕ) → R (receive_or_pass b side (λ later. receive_first n side s later) log payload).log
-    one again true payload = w.polled (log_call side log [] DatagramReceived) (w.taken log p)
+    one again true payload = w.polled (log_call side log [] DatagramReceived) (w.received log p)
     one again false payload = again (log_call side log [] DatagramPassed) (w.skipped log p)
 
     by : ((later : Log) → P later → R (receive_first n side s later).log) → (o : Option (ℕ × List ℕ)) → R (receive_next side (λ later. receive_first n side s later) s log o).log

@@ -36,7 +36,7 @@ After P Q (Some item) s = Q item s
 
 goes-due : {S T : Type 0} {rule : DueRule S T} {P : S → Type 0} {Q : T → S → Type 0} (w : Goes rule P Q) (n : ℕ) (s : S) → P s → After P Q (take_due rule n s).given (take_due rule n s).state
 goes-due w zero s p = p
-goes-due {S} {T} {rule} {P} {Q} w (suc n) s p = by (λ u q. goes-due w n u q) (rule.next s)
+goes-due {S} {T} {rule} {P} {Q} w (suc n) s p = by (λ u q. goes-due w n u q) (rule.due_now s)
   where
     one : ((u : S) → P u → After P Q (take_due rule n u).given (take_due rule n u).state) → (b : Bool) (item : T) → After P Q (give_or_pass_due b rule (λ u. take_due rule n u) item s).given (give_or_pass_due b rule (λ u. take_due rule n u) item s).state
     one again true item = w.gives item s p
@@ -51,12 +51,12 @@ abbrev KeepsLog : TableValue → Log → Type 0
 KeepsLog t log = KeepsCalls t (calls_of log)
 
 -- the log's newest call gave this stream, and a table keeps those before it
-record GaveBehind (t : TableValue) (k : ℕ) (log : Log) : Type 0 where
+record GaveAfter (t : TableValue) (k : ℕ) (log : Log) : Type 0 where
   pub before : List CallRecord
   pub calls : calls_of log ≡ StreamAccepted k ∷ before
   pub kept : KeepsCalls t before
 
-streams-go : (side : Side) (kind session : ℕ) (t : TableValue) → Goes (log_streams side kind session) (KeepsLog t) (GaveBehind t)
+streams-go : (side : Side) (kind session : ℕ) (t : TableValue) → Goes (log_streams side kind session) (KeepsLog t) (GaveAfter t)
 streams-go side kind session t = record {
   passes = λ k log p. subst (KeepsCalls t) (sym (pass-calls side log k)) (passed-spares k t (calls_of log) p);
   gives = λ k log p. record { before = calls_of log; calls = calls-logged side log [] (StreamAccepted k); kept = p };
@@ -71,13 +71,13 @@ datagrams-go side session t = record {
 -- an accept that gives nothing leaves what a table keeps
 pub accept_passes : (side : Side) (log : Log) (kind session : ℕ) (t : TableValue) → KeepsCalls t (calls_of log) → (accept_outcome side kind log session).given ≡ None → KeepsCalls t (calls_of (accept_outcome side kind log session).state)
 accept_passes side log kind session t k e =
-    subst (λ (o : Option ℕ). After (KeepsLog t) (GaveBehind t) o (accept_outcome side kind log session).state) e (goes-due (streams-go side kind session t) (suc (peer_count side (events_of log) kind)) log k)
+    subst (λ (o : Option ℕ). After (KeepsLog t) (GaveAfter t) o (accept_outcome side kind log session).state) e (goes-due (streams-go side kind session t) (suc (peer_count side (events_of log) kind)) log k)
 
 -- an accept that gives a stream leads to what a table keeps that noted it
 pub accept_gives : (side : Side) (log : Log) (kind session id : ℕ) (old new : TableValue) → KeepsCalls old (calls_of log) → ((calls : List CallRecord) → KeepsCalls old calls → KeepsCalls new (StreamAccepted id ∷ calls))
     → (accept_outcome side kind log session).given ≡ Some id → KeepsCalls new (calls_of (accept_outcome side kind log session).state)
 accept_gives side log kind session id old new k f e =
-    let g : GaveBehind old id (accept_outcome side kind log session).state = subst (λ (o : Option ℕ). After (KeepsLog old) (GaveBehind old) o (accept_outcome side kind log session).state) e (goes-due (streams-go side kind session old) (suc (peer_count side (events_of log) kind)) log k) in
+    let g : GaveAfter old id (accept_outcome side kind log session).state = subst (λ (o : Option ℕ). After (KeepsLog old) (GaveAfter old) o (accept_outcome side kind log session).state) e (goes-due (streams-go side kind session old) (suc (peer_count side (events_of log) kind)) log k) in
     subst (KeepsCalls new) (sym g.calls) (f g.before g.kept)
 
 -- a receive leaves what a table keeps

@@ -50,10 +50,10 @@ pub first_request_theorem : (side : Side) (log : Log) (call : Call) (own : List 
     → plan_of (facts_of side log) (session_state log) call ≡ Step own (RequestDelivered k) reply → DeliversFirst side log k
 first_request_theorem side log call own k reply l e = first_request side log own k reply call l e
 
-pub delivered_theorem : (side : Side) (log : Log) (call : Call) (own : List Action) (k : ℕ) (reply : Reply) (queued : Classified) (later : List Classified) (headers : Fields) (at : ℕ) → may_call side log call ≡ true
-    → plan_of (facts_of side log) (session_state log) call ≡ Step own (RequestDelivered k) reply → queued_requests side log ≡ queued ∷ later → queued.verdict ≡ verdicts.Request headers at
-    → KeepsRequestEnd side (call_effect side log call).log at
-delivered_theorem side log call own k reply queued later headers at l e f v = delivered_request_end side log own k reply call queued later headers at l e f v
+pub delivered_theorem : (side : Side) (log : Log) (call : Call) (own : List Action) (k : ℕ) (reply : Reply) (queued : Classified) (later : List Classified) (headers : Fields) (offset : ℕ) → may_call side log call ≡ true
+    → plan_of (facts_of side log) (session_state log) call ≡ Step own (RequestDelivered k) reply → queued_requests side log ≡ queued ∷ later → queued.verdict ≡ verdicts.Request headers offset
+    → KeepsRequestEnd side (call_effect side log call).log offset
+delivered_theorem side log call own k reply queued later headers offset l e f v = delivered_request_end side log own k reply call queued later headers offset l e f v
 
 pub stays_theorem : (side : Side) (log : Log) (call : Call) (end : ℕ) → IsReachable side log → may_call side log call ≡ true
     → delivers_request (plan_of (facts_of side log) (session_state log) call) ≡ false → KeepsRequestEnd side log end → KeepsRequestEnd side (call_effect side log call).log end

@@ -32,8 +32,8 @@ ghost use Rattle.wt_wire.specs.declared.side.Side.{Side};
 /// A driver tells what calls ask of it, with whether anything happened, where the delivered request
 /// ends, and the walk over the response while a connect goes on.
 pub fn drivers_tell()
-    ensures { (side : Side) (d : DriverValue) (log : Log) (untaken : List Action) (first : Bool) (end : ℕ) (walk : ResponseWalk)
-        → Refines side d log untaken → first ≡ is_first log → KeepsRequestEnd side log end → ((reserved : Option (List ℕ)) (head : List ℕ)
+    ensures { (side : Side) (d : DriverValue) (log : Log) (uncollected : List Action) (first : Bool) (end : ℕ) (walk : ResponseWalk)
+        → Refines side d log uncollected → first ≡ is_first log → KeepsRequestEnd side log end → ((reserved : Option (List ℕ)) (head : List ℕ)
         → handshake_state (calls_of log) ≡ Connecting reserved head → walk ≡ (driver_facts side log).response) → IsReachable side log
         → TellsFacts side log d.inbox.transport (answers_now d.inbox.transport d.state first end walk) }
 {}
@@ -41,38 +41,38 @@ pub fn drivers_tell()
 /// A driver tells how the connection ended, whether it is open, and what a call is answered for
 /// which nothing is left.
 pub fn drivers_tell_the_end()
-    ensures error { (side : Side) (d : DriverValue) (log : Log) (untaken : List Action) → Refines side d log untaken
+    ensures error { (side : Side) (d : DriverValue) (log : Log) (uncollected : List Action) → Refines side d log uncollected
         → error_now d.inbox.transport d.state.progress.ending ≡ driver_error side log }
-    ensures transport_open { (side : Side) (d : DriverValue) (log : Log) (untaken : List Action) → Refines side d log untaken
+    ensures transport_open { (side : Side) (d : DriverValue) (log : Log) (uncollected : List Action) → Refines side d log uncollected
         → d.inbox.transport.is_open ≡ is_open log }
-    ensures state_open { (side : Side) (d : DriverValue) (log : Log) (untaken : List Action) → Refines side d log untaken
+    ensures state_open { (side : Side) (d : DriverValue) (log : Log) (uncollected : List Action) → Refines side d log uncollected
         → d.state.is_open ≡ is_open log }
-    ensures reply { (side : Side) (d : DriverValue) (log : Log) (untaken : List Action) → Refines side d log untaken
+    ensures reply { (side : Side) (d : DriverValue) (log : Log) (uncollected : List Action) → Refines side d log uncollected
         → pending_or_failed side log
         ≡ (if d.inbox.transport.is_open then replies.Pending else replies.Failed (error_now d.inbox.transport d.state.progress.ending)) }
 {}
 
 /// A driver tells which requests are queued.
 pub fn drivers_tell_the_requests()
-    ensures { (side : Side) (d : DriverValue) (log : Log) (untaken : List Action) → Refines side d log untaken
+    ensures { (side : Side) (d : DriverValue) (log : Log) (uncollected : List Action) → Refines side d log uncollected
         → requests_now d.state ≡ queued_requests side log }
 {}
 
 /// A call that delivers a request leads to a log on which that request ends where the driver tells.
 pub fn requests_end_where_drivers_tell()
-    ensures { (side : Side) (d : DriverValue) (log : Log) (untaken : List Action) (call : Call) (own : List Action) (k : ℕ) (reply : Reply)
-        (id : ℕ) (headers : Fields) (at : ℕ)
-        → Refines side d log untaken → may_call side log call ≡ true
+    ensures { (side : Side) (d : DriverValue) (log : Log) (uncollected : List Action) (call : Call) (own : List Action) (k : ℕ) (reply : Reply)
+        (id : ℕ) (headers : Fields) (offset : ℕ)
+        → Refines side d log uncollected → may_call side log call ≡ true
         → plan_of (facts_of side log) (session_state log) call ≡ Step own (RequestDelivered k) reply
-        → first_request (requests_now d.state) ≡ Some (id, headers, at) → KeepsRequestEnd side (call_effect side log call).log at }
+        → first_request (requests_now d.state) ≡ Some (id, headers, offset) → KeepsRequestEnd side (call_effect side log call).log offset }
 {}
 
 /// A driver holds no byte of a stream that a call let go, and none of one that is dropped, refused, of QPACK,
 /// or a surplus request. Each stream of the peer's that a call passed or gave up was let go.
 pub fn drivers_let_streams_go()
-    ensures let_go { (side : Side) (d : DriverValue) (log : Log) (untaken : List Action) (k : ℕ) → Refines side d log untaken
+    ensures let_go { (side : Side) (d : DriverValue) (log : Log) (uncollected : List Action) (k : ℕ) → Refines side d log uncollected
         → is_let_go side log k ≡ true → unread_now d.inbox.transport k ≡ [] }
-    ensures unwanted { (side : Side) (d : DriverValue) (log : Log) (untaken : List Action) (k : ℕ) → Refines side d log untaken
+    ensures unwanted { (side : Side) (d : DriverValue) (log : Log) (uncollected : List Action) (k : ℕ) → Refines side d log uncollected
         → is_unwanted (classified_of k (stream_table side log).classified) ≡ true → unread_now d.inbox.transport k ≡ [] }
     ensures peers { (side : Side) (log : Log) (k : ℕ) → has_local_kind side k ≡ false → (use_of k (calls_of log)).is_dropped ≡ true
         → is_let_go side log k ≡ true }

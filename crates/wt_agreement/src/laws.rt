@@ -44,10 +44,10 @@ pub fn calls_keep_the_request_end()
     ensures queued { (side : Side) (log : Log) (call : Call) (own : List Action) (k : ℕ) (reply : Reply) → may_call side log call ≡ true
         → plan_of (facts_of side log) (session_state log) call ≡ Step own (RequestDelivered k) reply → DeliversFirst side log k }
     ensures delivered { (side : Side) (log : Log) (call : Call) (own : List Action) (k : ℕ) (reply : Reply) (queued : Classified)
-        (later : List Classified) (headers : Fields) (at : ℕ)
+        (later : List Classified) (headers : Fields) (offset : ℕ)
         → may_call side log call ≡ true → plan_of (facts_of side log) (session_state log) call ≡ Step own (RequestDelivered k) reply
-        → queued_requests side log ≡ queued ∷ later → queued.verdict ≡ verdicts.Request headers at
-        → KeepsRequestEnd side (call_effect side log call).log at }
+        → queued_requests side log ≡ queued ∷ later → queued.verdict ≡ verdicts.Request headers offset
+        → KeepsRequestEnd side (call_effect side log call).log offset }
     ensures stays { (side : Side) (log : Log) (call : Call) (end : ℕ) → IsReachable side log → may_call side log call ≡ true
         → delivers_request (plan_of (facts_of side log) (session_state log) call) ≡ false → KeepsRequestEnd side log end
         → KeepsRequestEnd side (call_effect side log call).log end }

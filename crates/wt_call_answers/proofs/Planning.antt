@@ -3,7 +3,7 @@ use Rattle.std.specs.Prelude.{◌&&◌, ◌≡◌, Bool, Err, IfOk, Ok, Result, 
 use Rattle.std.proofs.Common.{◌∙◌, ap, refl, subst, sym}
 use Rattle.std.proofs.lemmas.Bool.{and_parts}
 use Rattle.wt_driver_state.specs.DriverValue.{DriverValue}
-use Rattle.wt_driver_state.specs.Tie.{Follows, untaken_since}
+use Rattle.wt_driver_state.specs.Tie.{Follows, uncollected_since}
 use Rattle.wt_driver_spec.specs.Asking.{AwaitsResponse}
 use Rattle.wt_driver_spec.specs.DriverState.{DriverState, requests_now, state_of}
 use Rattle.wt_driver_spec.specs.Uses.{role_of, use_of}
@@ -93,7 +93,7 @@ connects-as : (side : Side) (log : Log) → IsReachable side log → (h : Handsh
 connects-as side log r (Connecting reserved head) e = ((record_facts_theorem side log r).connecting reserved head e).client
 connects-as side log r _ e = tt
 
-module _ (side : Side) (d : DriverValue) (log : Log) (taken : ℕ) (s : TableValue) (f : Follows side d log taken) (k : KeepsCalls s (calls_of log)) (r : IsReachable side log) where
+module _ (side : Side) (d : DriverValue) (log : Log) (collected : ℕ) (s : TableValue) (f : Follows side d log collected) (k : KeepsCalls s (calls_of log)) (r : IsReachable side log) where
   side-is : d.inbox.transport.side ≡ side
   side-is = ap (λ (t : TransportState). t.side) f.refines.inbox.transport.state
 
@@ -114,7 +114,7 @@ module _ (side : Side) (d : DriverValue) (log : Log) (taken : ℕ) (s : TableVal
   responds m = answers (and_parts (not (is_client side)) _ m).1
 
   may-answer : (call : Call) → may_call side log call ≡ true → MayAnswer s (requests_now d.state) call
-  may-answer calls.Incoming m = queued_is_request side log r m (requests_now d.state) (sym (requests_theorem side d log (untaken_since taken log) f.refines))
+  may-answer calls.Incoming m = queued_is_request side log r m (requests_now d.state) (sym (requests_theorem side d log (uncollected_since collected log) f.refines))
   may-answer (calls.Accept headers) m = responds m
   may-answer calls.Forbidden m = responds m
   may-answer calls.NotFound m = responds m
@@ -126,7 +126,7 @@ module _ (side : Side) (d : DriverValue) (log : Log) (taken : ℕ) (s : TableVal
     answered = answers_now d.inbox.transport d.state (is_first log) s.request_end walk
 
     says : TellsFacts side log d.inbox.transport answered
-    says = drivers_tell_theorem side d log (untaken_since taken log) (is_first log) s.request_end walk f.refines refl end known r
+    says = drivers_tell_theorem side d log (uncollected_since collected log) (is_first log) s.request_end walk f.refines refl end known r
 
     sending-there : SendingThere d.inbox.transport s
     sending-there = record {

@@ -37,8 +37,8 @@ fn step(
     own: Vec<Action>,
     call: Record,
 ) -> Result<(), OutOfMemory>
-    ensures log { OfEachLog d.old (λ side log taken. MaySendAll side log own.items → MayBeCalled side (with_actions own.items log) (record_of call)
-        → OnOk result (Follows side d.new (log_call side log own.items (record_of call)) taken)) }
+    ensures log { OfEachLog d.old (λ side log collected. MaySendAll side log own.items → MayBeCalled side (with_actions own.items log) (record_of call)
+        → OnOk result (Follows side d.new (log_call side log own.items (record_of call)) collected)) }
     ensures session { (calls : List CallRecord) → KeepsCalls s.old calls → OnOk result (KeepsCalls s.new (record_of call ∷ calls)) }
 {
     acting::step(d, own, &call)?;
@@ -46,7 +46,7 @@ fn step(
 }
 
 /// The table takes in the stream that was given, and the poll.
-fn settle(s: &mut SessionTable, given: Option<StreamId>) -> Result<(), OutOfMemory>
+fn note_given(s: &mut SessionTable, given: Option<StreamId>) -> Result<(), OutOfMemory>
     ensures { (calls : List CallRecord) → KeepsCalls s.old calls → OnOk result (KeepsCalls s.new (Polled ∷ with_given given calls)) }
 {
     if let Some(id) = given {
@@ -78,7 +78,7 @@ fn accept_uni(
         → OnOk result (KeepsCalls s.new (calls_of (accept_stream side replies.Uni (peer_uni side) log session).log))) }
 {
     let answer = acting::accept_uni(alloc, d, session)?;
-    settle(s, given_in(&answer))?;
+    note_given(s, given_in(&answer))?;
     Ok(acting::uni_reply(answer))
 }
 
@@ -95,7 +95,7 @@ fn accept_bi(
         → OnOk result (KeepsCalls s.new (calls_of (accept_stream side replies.Bi (peer_bi side) log session).log))) }
 {
     let answer = acting::accept_bi(alloc, d, session)?;
-    settle(s, given_in(&answer))?;
+    note_given(s, given_in(&answer))?;
     Ok(acting::bi_reply(answer))
 }
 
@@ -112,11 +112,11 @@ fn receive(
         → OnOk result (KeepsCalls s.new (calls_of (receive_datagram side log session).log))) }
 {
     let answer = acting::receive(alloc, d, session)?;
-    settle(s, None)?;
+    note_given(s, None)?;
     Ok(acting::datagram_reply(answer))
 }
 
-/// A step, and the session is told.
+/// A step, and the session is reported.
 fn establish(
     d: &mut Driver,
     s: &mut SessionTable,
@@ -125,8 +125,8 @@ fn establish(
     offset: usize,
 ) -> Result<Reply, OutOfMemory>
     ensures reply { (side : Side) (log : Log) → IfOk result (λ r. r ≡ (perform side log (session.Establish own.items id offset)).reply) }
-    ensures log { OfEachLog d.old (λ side log taken. MayPerform side log (session.Establish own.items id offset)
-        → OnOk result (Follows side d.new (perform side log (session.Establish own.items id offset)).log taken)) }
+    ensures log { OfEachLog d.old (λ side log collected. MayPerform side log (session.Establish own.items id offset)
+        → OnOk result (Follows side d.new (perform side log (session.Establish own.items id offset)).log collected)) }
     ensures session { (side : Side) (log : Log) → KeepsCalls s.old (calls_of log)
         → OnOk result (KeepsCalls s.new (calls_of (perform side log (session.Establish own.items id offset)).log)) }
 {
@@ -145,8 +145,8 @@ pub fn perform(
 ) -> Result<Reply, OutOfMemory>
     ensures reply { Tells d.old (λ side log. MayPerform side log (defined_plan plan)
         → IfOk result (λ r. r ≡ (perform side log (defined_plan plan)).reply)) }
-    ensures log { OfEachLog d.old (λ side log taken. MayPerform side log (defined_plan plan)
-        → OnOk result (Follows side d.new (perform side log (defined_plan plan)).log taken)) }
+    ensures log { OfEachLog d.old (λ side log collected. MayPerform side log (defined_plan plan)
+        → OnOk result (Follows side d.new (perform side log (defined_plan plan)).log collected)) }
     ensures session { Tells d.old (λ side log. KeepsCalls s.old (calls_of log)
         → OnOk result (KeepsCalls s.new (calls_of (perform side log (defined_plan plan)).log))) }
 {

@@ -64,9 +64,9 @@ fn is_connecting(handshake: &Handshake) -> bool
 
 /// The response on a client's first bidirectional stream, where a connect goes on.
 fn response(d: &mut Driver, s: &SessionTable) -> Result<ResponseWalk, OutOfMemory>
-    ensures log { (side : Side) (log : Log) (taken : ℕ) → Follows side d.old log taken → KeepsCalls s.now (calls_of log)
-        → IsReachable side log → OnOk result (Follows side d.new log taken) }
-    ensures walk { (side : Side) (log : Log) (taken : ℕ) → Follows side d.old log taken → KeepsCalls s.now (calls_of log)
+    ensures log { (side : Side) (log : Log) (collected : ℕ) → Follows side d.old log collected → KeepsCalls s.now (calls_of log)
+        → IsReachable side log → OnOk result (Follows side d.new log collected) }
+    ensures walk { (side : Side) (log : Log) (collected : ℕ) → Follows side d.old log collected → KeepsCalls s.now (calls_of log)
         → IsReachable side log → IfOk result (λ walk. KnowsResponse side log walk) }
 {
     if is_connecting(s.handshake()) {
@@ -84,7 +84,7 @@ fn planned_call(
     walk: ResponseWalk,
     call: &Call,
 ) -> Result<Plan, OutOfMemory>
-    ensures { (side : Side) (log : Log) (taken : ℕ) → Follows side d.now log taken → KeepsCalls s.now (calls_of log)
+    ensures { (side : Side) (log : Log) (collected : ℕ) → Follows side d.now log collected → KeepsCalls s.now (calls_of log)
         → KeepsRequestEnd side log s.now.request_end → IsReachable side log → may_call side log call.now ≡ true
         → KnowsResponse side log walk
         → IfOk result (λ p. defined_plan p ≡ plan_of (facts_of side log) (session_state log) call.now) }
@@ -115,7 +115,7 @@ fn delivers_request(plan: &Plan) -> bool
 
 /// Where the delivered request ends, once this plan is performed.
 fn request_end(d: &Driver, s: &SessionTable, plan: &Plan) -> usize
-    ensures { (side : Side) (log : Log) (taken : ℕ) (call : Call) → Follows side d.now log taken
+    ensures { (side : Side) (log : Log) (collected : ℕ) (call : Call) → Follows side d.now log collected
         → KeepsRequestEnd side log s.now.request_end → IsReachable side log → may_call side log call ≡ true
         → defined_plan plan.now ≡ plan_of (facts_of side log) (session_state log) call
         → KeepsRequestEnd side (call_effect side log call).log result }
@@ -149,7 +149,7 @@ impl Session {
         admission::may_call(side, self.is_first, &self.table, call)
     }
 
-    /// The transport told something.
+    /// The transport reported something.
     pub fn note_event(&mut self)
         ensures log { (side : Side) (log : Log) (turn : Turn) → Keeps side self.old log → IsReachable side log → is_call turn ≡ false
             → is_lawful side log turn ≡ true → Keeps side self.new (log_after side log turn) }
@@ -164,11 +164,11 @@ impl Session {
         d: &mut Driver,
         call: &Call,
     ) -> Result<Reply, OutOfMemory>
-        ensures reply { (side : Side) (log : Log) (taken : ℕ) → Follows side d.old log taken → Keeps side self.old log → IsReachable side log
+        ensures reply { (side : Side) (log : Log) (collected : ℕ) → Follows side d.old log collected → Keeps side self.old log → IsReachable side log
             → may_call side log call.now ≡ true → IfOk result (λ r. r ≡ (call_effect side log call.now).reply) }
-        ensures log { (side : Side) (log : Log) (taken : ℕ) → Follows side d.old log taken → Keeps side self.old log → IsReachable side log
-            → may_call side log call.now ≡ true → OnOk result (Follows side d.new (call_effect side log call.now).log taken) }
-        ensures kept { (side : Side) (log : Log) (taken : ℕ) → Follows side d.old log taken → Keeps side self.old log → IsReachable side log
+        ensures log { (side : Side) (log : Log) (collected : ℕ) → Follows side d.old log collected → Keeps side self.old log → IsReachable side log
+            → may_call side log call.now ≡ true → OnOk result (Follows side d.new (call_effect side log call.now).log collected) }
+        ensures kept { (side : Side) (log : Log) (collected : ℕ) → Follows side d.old log collected → Keeps side self.old log → IsReachable side log
             → may_call side log call.now ≡ true → OnOk result (Keeps side self.new (call_effect side log call.now).log) }
     {
         let walk = response(d, &self.table)?;

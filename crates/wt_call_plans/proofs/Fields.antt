@@ -17,7 +17,7 @@ pub put_next : (fields : Fields) (i : ℕ) (f : List ℕ × List ℕ) → IsHead
 put_next [] i f h e = absurd cc
 put_next (g ∷ fields) zero f h e = let same : f ≡ g = cc in ap (λ (x : List ℕ × List ℕ). x ∷ []) same
 put_next (g ∷ fields) (suc i) f h e =
-    let next : suc (i + 1) ≡ suc i + 1 = omega arith in
+    let following : suc (i + 1) ≡ suc i + 1 = omega arith in
     ap (λ o. match_ordering o ((f.0, f.1) ∷ g ∷ take i fields) ((g.0, f.1) ∷ take i fields) (g ∷ with_field f.0 f.1 (take i fields)))
     (nat_list_cmp_total.antisymm (sort_key f.0) (sort_key g.0) ∙ ap ordering_reverse (ahead_at g.0 fields i f h.0 h.3 e))
-    ∙ ap (λ (fs : Fields). g ∷ fs) (put_next fields i f h.3 e) ∙ ap (λ n. take n (g ∷ fields)) next
+    ∙ ap (λ (fs : Fields). g ∷ fs) (put_next fields i f h.3 e) ∙ ap (λ n. take n (g ∷ fields)) following

@@ -21,12 +21,12 @@ use Rattle.wt_wire.specs.declared.error.OutOfMemory.{OutOfMemory}
 
 -- ---- a server's request
 
-pub delivered_first : (f : CallFacts) (requests : List Classified) (id : ℕ) (fields : Fields) (at : ℕ) (p : Plan) → FirstIsRequest requests → first_request requests ≡ Some (id, fields, at)
+pub delivered_first : (f : CallFacts) (requests : List Classified) (id : ℕ) (fields : Fields) (offset : ℕ) (p : Plan) → FirstIsRequest requests → first_request requests ≡ Some (id, fields, offset)
     → ((c : Classified) (later : List Classified) → c.id ≡ id → request_fields_of c.verdict ≡ fields → p ≡ delivery f (c ∷ later)) → p ≡ delivery f requests
-delivered_first f [] id fields at p q e g = absurd cc
-delivered_first f (c ∷ later) id fields at p q e g =
-    let found : Some (c.id, q.fields, q.offset) ≡ Some (id, fields, at) = sym (ap (request_in c.id) q.verdict) ∙ e in
-    let reported : (c.id, q.fields, q.offset) ≡ (id, fields, at) = cc in
+delivered_first f [] id fields offset p q e g = absurd cc
+delivered_first f (c ∷ later) id fields offset p q e g =
+    let found : Some (c.id, q.fields, q.offset) ≡ Some (id, fields, offset) = sym (ap (request_in c.id) q.verdict) ∙ e in
+    let reported : (c.id, q.fields, q.offset) ≡ (id, fields, offset) = cc in
     g c later (ap (λ (x : ℕ × Fields × ℕ). x.0) reported) (ap request_fields_of q.verdict ∙ ap (λ (x : ℕ × Fields × ℕ). x.1) reported)
 
 pub delivered_none : (f : CallFacts) (requests : List Classified) (p : Plan) → FirstIsRequest requests → first_request requests ≡ None → p ≡ delivery f [] → p ≡ delivery f requests

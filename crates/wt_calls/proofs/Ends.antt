@@ -4,7 +4,7 @@ use Rattle.std.proofs.Common.{◌∙◌, ap, refl, sym}
 use Rattle.std.specs.Borrow.{Bor}
 use Rattle.wt_driver_state.specs.DriverValue.{DriverValue}
 use Rattle.wt_dispatch.specs.Requests.{first_request, request_as}
-use Rattle.wt_driver_state.specs.Tie.{Follows, untaken_since}
+use Rattle.wt_driver_state.specs.Tie.{Follows, uncollected_since}
 use Rattle.wt_laws.specs.Reachable.{IsReachable}
 use Rattle.wt_driver_spec.specs.DriverState.{requests_now}
 use Rattle.wt_plan.specs.PlansAgree.{KeepsRequestEnd}
@@ -14,7 +14,7 @@ use Rattle.wt_session_spec.specs.Plans.{plan_of}
 use Rattle.wt_session_spec.specs.SessionState.{session_state}
 use Rattle.wt_spec.specs.Answers.{call_effect, may_call}
 use Rattle.wt_spec.specs.Handshake.{queued_requests, requested_by}
-use Rattle.wt_agreement.proofs.DriverTheorems.{requests_theorem, told_end_theorem}
+use Rattle.wt_agreement.proofs.DriverTheorems.{requests_theorem, reported_end_theorem}
 use Rattle.wt_agreement.proofs.Theorems.{first_request_theorem, stays_theorem}
 use Rattle.wt_agreement.specs.Delivering.{delivers_request}
 use Rattle.wt_turn.specs.Log.{CallRecord, Log, RequestDelivered}
@@ -29,21 +29,21 @@ pub step_delivers : (own : List Action) (r : CallRecord) (reply : Reply) → del
 step_delivers own (RequestDelivered k) reply = refl
 step_delivers own _ reply = refl
 
-module _ (side : Side) (d : DriverValue) (log : Log) (taken : ℕ) (f : Follows side d log taken) (call : Call) (m : may_call side log call ≡ true) where
-  told-by : (p : Plan) → plan_of (facts_of side log) (session_state log) call ≡ p → delivers_request p ≡ true → (id : ℕ) (fields : Fields) (at : ℕ)
-      → first_request (requests_now d.state) ≡ Some (id, fields, at) → KeepsRequestEnd side (call_effect side log call).log at
-  told-by (Step own (RequestDelivered k) reply) e t id fields at n = told_end_theorem side d log (untaken_since taken log) call own k reply id fields at f.refines m e n
-  told-by _ e t id fields at n = absurd (cc)
+module _ (side : Side) (d : DriverValue) (log : Log) (collected : ℕ) (f : Follows side d log collected) (call : Call) (m : may_call side log call ≡ true) where
+  reported-by : (p : Plan) → plan_of (facts_of side log) (session_state log) call ≡ p → delivers_request p ≡ true → (id : ℕ) (fields : Fields) (offset : ℕ)
+      → first_request (requests_now d.state) ≡ Some (id, fields, offset) → KeepsRequestEnd side (call_effect side log call).log offset
+  reported-by (Step own (RequestDelivered k) reply) e t id fields offset n = reported_end_theorem side d log (uncollected_since collected log) call own k reply id fields offset f.refines m e n
+  reported-by _ e t id fields offset n = absurd (cc)
 
   -- it ends where the driver tells
-  pub told_end : (p : Plan) → p ≡ plan_of (facts_of side log) (session_state log) call → delivers_request p ≡ true → (reported : ℕ × Bor Fields × ℕ) (result : Option (ℕ × Bor Fields × ℕ))
+  pub reported_end : (p : Plan) → p ≡ plan_of (facts_of side log) (session_state log) call → delivers_request p ≡ true → (reported : ℕ × Bor Fields × ℕ) (result : Option (ℕ × Bor Fields × ℕ))
       → request_as result ≡ first_request (requests_now d.state) → result ≡ Some reported → KeepsRequestEnd side (call_effect side log call).log reported.2
-  told_end p e t reported result n is = told-by p (sym e) t reported.0 reported.1.now reported.2 (sym n ∙ ap request_as is)
+  reported_end p e t reported result n is = reported-by p (sym e) t reported.0 reported.1.now reported.2 (sym n ∙ ap request_as is)
 
   none-by : (p : Plan) → plan_of (facts_of side log) (session_state log) call ≡ p → delivers_request p ≡ true → requests_now d.state ≡ [] → ⊥
   none-by (Step own (RequestDelivered k) reply) e t n =
       let first = first_request_theorem side log call own k reply m e in
-      let none : queued_requests side log ≡ [] = sym (requests_theorem side d log (untaken_since taken log) f.refines) ∙ n in
+      let none : queued_requests side log ≡ [] = sym (requests_theorem side d log (uncollected_since collected log) f.refines) ∙ n in
       let both : first.queued ∷ first.later ≡ [] = sym first.first ∙ none in cc
   none-by _ e t n = absurd (cc)
 

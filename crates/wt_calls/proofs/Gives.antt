@@ -2,7 +2,7 @@
 use Rattle.std.specs.Prelude.{[], ◌++◌, ◌∷◌, ◌≡◌, Bool, List, None, Option, Some, false, if◌then◌else◌, length, suc, ℕ}
 use Rattle.std.proofs.Common.{◌∙◌, ap, append-nil, refl, subst, sym}
 use Rattle.wt_driver_state.specs.DriverValue.{DriverValue}
-use Rattle.wt_driver_state.specs.Tie.{Follows, untaken_since}
+use Rattle.wt_driver_state.specs.Tie.{Follows, uncollected_since}
 use Rattle.wt_driver_spec.proofs.Accepting.{accept-is, receive-is}
 use Rattle.wt_driver_spec.specs.Asking.{MayBeCalled, SparesControl, SparesControlAll}
 use Rattle.wt_driver_spec.specs.Due.{accept_outcome, receive_outcome, reply_or}
@@ -29,8 +29,8 @@ use Rattle.wt_wire.specs.declared.side.Side.{Side}
 -- ---- polls
 
 -- a poll may be recorded at any time
-pub polled_may : (side : Side) (d : DriverValue) (log : Log) (taken : ℕ) → Follows side d log taken → MayBeCalled side log Polled
-polled_may side d log taken f = record {
+pub polled_may : (side : Side) (d : DriverValue) (log : Log) (collected : ℕ) → Follows side d log collected → MayBeCalled side log Polled
+polled_may side d log collected f = record {
   may = tt;
   can = tt;
   sends = λ o. let x = f.sends o in record { unfinished = x.unfinished; unreset = x.unreset; session = x.session };
@@ -38,18 +38,18 @@ polled_may side d log taken f = record {
 }
 
 -- without anything to give a call waits, or fails as the driver tells it
-pub pending_now : (side : Side) (d : DriverValue) (log : Log) (taken : ℕ) → Follows side d log taken
+pub pending_now : (side : Side) (d : DriverValue) (log : Log) (collected : ℕ) → Follows side d log collected
     → pending_or_failed side log ≡ (if d.inbox.transport.is_open then replies.Pending else replies.Failed (error_now d.inbox.transport d.state.progress.ending))
-pending_now side d log taken f = pending_theorem side d log (untaken_since taken log) f.refines
+pending_now side d log collected f = pending_theorem side d log (uncollected_since collected log) f.refines
 
 -- so it does once the connection has ended
-pub failed_now : (side : Side) (d : DriverValue) (log : Log) (taken : ℕ) → Follows side d log taken → (t : TransportState) → t ≡ d.inbox.transport → t.is_open ≡ false
+pub failed_now : (side : Side) (d : DriverValue) (log : Log) (collected : ℕ) → Follows side d log collected → (t : TransportState) → t ≡ d.inbox.transport → t.is_open ≡ false
     → (e : ConnectionError) → e ≡ error_now t d.state.progress.ending → replies.Failed e ≡ pending_or_failed side log
-failed_now side d log taken f t same closed e is =
+failed_now side d log collected f t same closed e is =
     let reported = replies.Failed (error_now d.inbox.transport d.state.progress.ending) in
     let ended : d.inbox.transport.is_open ≡ false = sym (ap (λ (x : TransportState). x.is_open) same) ∙ closed in
     ap replies.Failed (is ∙ ap (λ (x : TransportState). error_now x d.state.progress.ending) same)
-    ∙ sym (pending_now side d log taken f ∙ ap (λ (b : Bool). if b then replies.Pending else reported) ended)
+    ∙ sym (pending_now side d log collected f ∙ ap (λ (b : Bool). if b then replies.Pending else reported) ended)
 
 -- a poll changes nothing in a table
 unpolled : (t : TableValue) (calls : List CallRecord) → KeepsCalls t (Polled ∷ calls) → KeepsCalls t calls
@@ -64,9 +64,9 @@ module _ (side : Side) (reply : ℕ → Reply) (kind s : ℕ) (log : Log) where
   pub accept_log : (accept_stream side reply kind log s).log ≡ log_and_flush side (accept_outcome side kind log s).state (Called Polled)
   accept_log = ap (λ (e : Effect). e.log) (accept-is side reply kind s (suc (peer_count side (events_of log) kind)) log)
 
-  pub accept_told : (item : Option ℕ) (r : Reply) → r ≡ reply_or reply (pending_or_failed side (accept_outcome side kind log s).state) item → item ≡ (accept_outcome side kind log s).given
+  pub accept_reported : (item : Option ℕ) (r : Reply) → r ≡ reply_or reply (pending_or_failed side (accept_outcome side kind log s).state) item → item ≡ (accept_outcome side kind log s).given
       → r ≡ (accept_stream side reply kind log s).reply
-  accept_told item r e f =
+  accept_reported item r e f =
       e ∙ ap (λ i. reply_or reply (pending_or_failed side (accept_outcome side kind log s).state) i) f
       ∙ sym (ap (λ (x : Effect). x.reply) (accept-is side reply kind s (suc (peer_count side (events_of log) kind)) log))
 
@@ -90,9 +90,9 @@ module _ (side : Side) (s : ℕ) (log : Log) where
   pub receive_log : (receive_datagram side log s).log ≡ log_and_flush side (receive_outcome side log s).state (Called Polled)
   receive_log = ap (λ (e : Effect). e.log) (receive-is side s (suc (length (datagrams_of (events_of log)))) log)
 
-  pub receive_told : (item : Option (List ℕ)) (r : Reply) → r ≡ reply_or replies.Datagram (pending_or_failed side (receive_outcome side log s).state) item → item ≡ (receive_outcome side log s).given
+  pub receive_reported : (item : Option (List ℕ)) (r : Reply) → r ≡ reply_or replies.Datagram (pending_or_failed side (receive_outcome side log s).state) item → item ≡ (receive_outcome side log s).given
       → r ≡ (receive_datagram side log s).reply
-  receive_told item r e f =
+  receive_reported item r e f =
       e ∙ ap (λ i. reply_or replies.Datagram (pending_or_failed side (receive_outcome side log s).state) i) f
       ∙ sym (ap (λ (x : Effect). x.reply) (receive-is side s (suc (length (datagrams_of (events_of log)))) log))
 
@@ -133,9 +133,9 @@ spares-next side [] a left log m = m.0
 spares-next side (b ∷ done) a left log m = spares-next side done a left (Sent b ∷ log) m.1
 
 -- with none left all of them went out
-pub all_out : (side : Side) (d : DriverValue) (log : Log) (taken : ℕ) (own done left : List Action) → own ≡ done ++ left → length left ≡ 0 → Follows side d (with_actions done log) taken → Follows side d (with_actions own log) taken
-all_out side d log taken own done [] e n f = subst (λ (all : List Action). Follows side d (with_actions all log) taken) (sym (e ∙ append-nil done)) f
-all_out side d log taken own done (a ∷ left) e n f = absurd (cc)
+pub all_out : (side : Side) (d : DriverValue) (log : Log) (collected : ℕ) (own done left : List Action) → own ≡ done ++ left → length left ≡ 0 → Follows side d (with_actions done log) collected → Follows side d (with_actions own log) collected
+all_out side d log collected own done [] e n f = subst (λ (all : List Action). Follows side d (with_actions all log) collected) (sym (e ∙ append-nil done)) f
+all_out side d log collected own done (a ∷ left) e n f = absurd (cc)
 
 -- it may go out after those before it
 pub may_next : (side : Side) (done : List Action) (a : Action) (left : List Action) (log : Log) → MaySendAll side log (done ++ a ∷ left)
@@ -143,6 +143,6 @@ pub may_next : (side : Side) (done : List Action) (a : Action) (left : List Acti
 may_next side done a left log m = (may-next side done a left log m.act, spares-next side done a left log m.spares)
 
 -- one more in front of the rest is one more at the end
-pub one_behind : (front back : List Action) (a : Action) → front ++ (a ∷ back) ≡ (front ++ a ∷ []) ++ back
-one_behind [] back a = refl
-one_behind (b ∷ front) back a = ap (λ (all : List Action). b ∷ all) (one_behind front back a)
+pub one_after : (front back : List Action) (a : Action) → front ++ (a ∷ back) ≡ (front ++ a ∷ []) ++ back
+one_after [] back a = refl
+one_after (b ∷ front) back a = ap (λ (all : List Action). b ∷ all) (one_after front back a)

@@ -51,9 +51,9 @@ module _ (side : Side) (log : Log) (r : IsReachable side log) where
       let q = has-one (handshake_state (calls_of log)) a in
       delivered-on (requested_stream (calls_of log)) (h.out.asked q) (h.out.heads.given.handshakes.has_one q)
 
-  on-session : (s at : ℕ) (b : Bool) → is_client side ≡ b → (if b then s == local_bi side else list_any (delivers s) (calls_of log)) ≡ true → IsSessionStream s
-  on-session s at true c e = of-client side s c e
-  on-session s at false c e = delivered-on s c e
+  on-session : (s offset : ℕ) (b : Bool) → is_client side ≡ b → (if b then s == local_bi side else list_any (delivers s) (calls_of log)) ≡ true → IsSessionStream s
+  on-session s offset true c e = of-client side s c e
+  on-session s offset false c e = delivered-on s c e
 
   -- that of the established session
   pub established_on : (o : Option (ℕ × ℕ)) → established_session (calls_of log) ≡ o → OnSessionStream o

@@ -42,8 +42,8 @@ use wt_wire::ids::{SessionId, StreamId};
 ///
 /// `OutOfMemory` where one of them found no memory.
 pub fn act_all(d: &mut Driver, own: Vec<Action>) -> Result<(), OutOfMemory>
-    ensures log { OfEachLog d.old (λ side log taken. MaySendAll side log own.items
-        → OnOk result (Follows side d.new (with_actions own.items log) taken)) }
+    ensures log { OfEachLog d.old (λ side log collected. MaySendAll side log own.items
+        → OnOk result (Follows side d.new (with_actions own.items log) collected)) }
 {
     for action in own {
         d.act(action)?;
@@ -57,9 +57,9 @@ pub fn act_all(d: &mut Driver, own: Vec<Action>) -> Result<(), OutOfMemory>
 ///
 /// `OutOfMemory` where an action or the record found no memory.
 pub fn step(d: &mut Driver, own: Vec<Action>, call: &Record) -> Result<(), OutOfMemory>
-    ensures log { OfEachLog d.old (λ side log taken. MaySendAll side log own.items
+    ensures log { OfEachLog d.old (λ side log collected. MaySendAll side log own.items
         → MayBeCalled side (with_actions own.items log) (record_of call.now)
-        → OnOk result (Follows side d.new (log_call side log own.items (record_of call.now)) taken)) }
+        → OnOk result (Follows side d.new (log_call side log own.items (record_of call.now)) collected)) }
 {
     act_all(d, own)?;
     d.record_call(call)
@@ -73,7 +73,7 @@ fn poll(d: &mut Driver) -> Result<(), OutOfMemory>
     d.record_call(&Record::Polled)
 }
 
-/// These actions go out, the session is established, and told.
+/// These actions go out, the session is established, and reported.
 ///
 /// # Errors
 ///
@@ -84,8 +84,8 @@ pub fn establish(
     id: SessionId,
     offset: usize,
 ) -> Result<(), OutOfMemory>
-    ensures log { OfEachLog d.old (λ side log taken. MayPerform side log (session.Establish own.items id offset)
-        → OnOk result (Follows side d.new (perform side log (session.Establish own.items id offset)).log taken)) }
+    ensures log { OfEachLog d.old (λ side log collected. MayPerform side log (session.Establish own.items id offset)
+        → OnOk result (Follows side d.new (perform side log (session.Establish own.items id offset)).log collected)) }
 {
     step(
         d,
@@ -125,7 +125,7 @@ fn accept_answer(
     d: &Driver,
     given: Option<StreamId>,
 ) -> Result<Poll<Result<StreamId, ConnectionError>>, OutOfMemory>
-    ensures reply { (kind : ℕ → Reply) (side : Side) (log : Log) (taken : ℕ) → Follows side d.now log taken
+    ensures reply { (kind : ℕ → Reply) (side : Side) (log : Log) (collected : ℕ) → Follows side d.now log collected
         → IfOk result (λ p. poll_reply kind p ≡ reply_or kind (pending_or_failed side log) given) }
     ensures given { IfOk result (λ p. given_in p ≡ given) }
 {
@@ -275,8 +275,8 @@ pub fn datagram_reply(answer: Poll<Result<Piece, ConnectionError>>) -> Reply
 /// `OutOfMemory` where a part of it found no memory.
 pub fn perform(alloc: Global, d: &mut Driver, plan: Plan) -> Result<Reply, OutOfMemory>
     ensures reply { Tells d.old (λ side log. IfOk result (λ r. r ≡ (perform side log (defined_plan plan)).reply)) }
-    ensures log { OfEachLog d.old (λ side log taken. MayPerform side log (defined_plan plan)
-        → OnOk result (Follows side d.new (perform side log (defined_plan plan)).log taken)) }
+    ensures log { OfEachLog d.old (λ side log collected. MayPerform side log (defined_plan plan)
+        → OnOk result (Follows side d.new (perform side log (defined_plan plan)).log collected)) }
 {
     match plan {
         Plan::Step { own, call, reply } => {

@@ -29,7 +29,7 @@ impl Case {
         let mut source = MemSource::new(self.script.clone()?, Vec::new(alloc));
         let mut sink = MemSink::new(alloc, Vec::new(alloc));
         let status = run_program(alloc, self.words.as_slice(), &mut source, &mut sink);
-        Ok(self.is_answer(status, sink.taken()))
+        Ok(self.is_answer(status, sink.written()))
     }
 
     /// Tells whether this is the recorded answer, and no fault, nor out of memory.

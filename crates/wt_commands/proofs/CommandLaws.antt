@@ -17,8 +17,8 @@ so_far side turns = record { side = Some side; turns = turns }
 one-line : (side : Side) (first turns : List Turn) (number : ℕ) (later : List (List ℕ))
     → ((more : List Turn) → read_lines (number + 1) (so_far side (first ++ more)) later ≡ with_first_turn first (read_lines (number + 1) (so_far side more) later))
     → (is_out : Bool) (turn : Option Turn)
-    → elim (if is_out then Some (so_far side (first ++ turns)) else option_map (with_turn (so_far side (first ++ turns))) turn) [ Some next ↦ read_lines (number + 1) next later | None ↦ Err (record { line = number }) ]
-    ≡ with_first_turn first (elim (if is_out then Some (so_far side turns) else option_map (with_turn (so_far side turns)) turn) [ Some next ↦ read_lines (number + 1) next later | None ↦ Err (record { line = number }) ])
+    → elim (if is_out then Some (so_far side (first ++ turns)) else option_map (with_turn (so_far side (first ++ turns))) turn) [ Some following ↦ read_lines (number + 1) following later | None ↦ Err (record { line = number }) ]
+    ≡ with_first_turn first (elim (if is_out then Some (so_far side turns) else option_map (with_turn (so_far side turns)) turn) [ Some following ↦ read_lines (number + 1) following later | None ↦ Err (record { line = number }) ])
 one-line side first turns number later more true turn = more turns
 one-line side first turns number later more false None = refl
 one-line side first turns number later more false (Some turn) =

@@ -9,27 +9,27 @@ use Rattle.std.specs.Io.KnownBytes.{Appends, Keeps}
 use Rattle.std.specs.List.{flat_map}
 use Rattle.wt_commands.specs.Outside.{AppendsPart, Passes}
 
-part_length : (bytes part : List ℕ) (at count : ℕ) → count ≤ length bytes - at → part ≡ take (at + count - at) (drop at bytes) → length part ≡ count
-part_length bytes part at count within p =
-    ap length p ∙ length-take-le (at + count - at) (drop at bytes) (omega (arith, length-drop at bytes)) ∙ (let e : at + count - at ≡ count = omega arith in e)
+part_length : (bytes part : List ℕ) (offset count : ℕ) → count ≤ length bytes - offset → part ≡ take (offset + count - offset) (drop offset bytes) → length part ≡ count
+part_length bytes part offset count within p =
+    ap length p ∙ length-take-le (offset + count - offset) (drop offset bytes) (omega (arith, length-drop offset bytes)) ∙ (let e : offset + count - offset ≡ count = omega arith in e)
 
-pub read_part : (bytes buf part : List ℕ) (at count : ℕ) → at ≤ length bytes → count ≡ min (length buf) (length bytes - at)
-    → part ≡ take (at + count - at) (drop at bytes)
-    → drop at bytes ≡ take count (part ++ drop count buf) ++ drop (at + count) bytes
-read_part bytes buf part at count begun e p =
-    let size : length part ≡ count = part_length bytes part at count (omega arith) p in
-    let width : at + count - at ≡ count = omega arith in
+pub read_part : (bytes buf part : List ℕ) (offset count : ℕ) → offset ≤ length bytes → count ≡ min (length buf) (length bytes - offset)
+    → part ≡ take (offset + count - offset) (drop offset bytes)
+    → drop offset bytes ≡ take count (part ++ drop count buf) ++ drop (offset + count) bytes
+read_part bytes buf part offset count begun e p =
+    let size : length part ≡ count = part_length bytes part offset count (omega arith) p in
+    let width : offset + count - offset ≡ count = omega arith in
     let front : take count (part ++ drop count buf) ≡ part = ap (λ n. take n (part ++ drop count buf)) (sym size) ∙ take-append_seam part (drop count buf) in
-    sym (ap (λ l. l ++ drop (at + count) bytes) (front ∙ p ∙ ap (λ n. take n (drop at bytes)) width)
-    ∙ ap (λ l. take count (drop at bytes) ++ l) (sym (drop-drop count at bytes))
-    ∙ take-append-drop count (drop at bytes))
+    sym (ap (λ l. l ++ drop (offset + count) bytes) (front ∙ p ∙ ap (λ n. take n (drop offset bytes)) width)
+    ∙ ap (λ l. take count (drop offset bytes) ++ l) (sym (drop-drop count offset bytes))
+    ∙ take-append-drop count (drop offset bytes))
 
-pub read_none : (bytes buf part : List ℕ) (at count : ℕ) → at ≤ length bytes → count ≡ min (length buf) (length bytes - at)
-    → part ≡ take (at + count - at) (drop at bytes)
-    → count ≡ 0 → 0 < length (part ++ drop count buf) → drop (at + count) bytes ≡ []
-read_none bytes buf part at count begun e p none some =
-    let size : length part ≡ count = part_length bytes part at count (omega arith) p in
-    drop_all (at + count) bytes (omega (arith, length-append part (drop count buf), length-drop count buf))
+pub read_none : (bytes buf part : List ℕ) (offset count : ℕ) → offset ≤ length bytes → count ≡ min (length buf) (length bytes - offset)
+    → part ≡ take (offset + count - offset) (drop offset bytes)
+    → count ≡ 0 → 0 < length (part ++ drop count buf) → drop (offset + count) bytes ≡ []
+read_none bytes buf part offset count begun e p none some =
+    let size : length part ≡ count = part_length bytes part offset count (omega arith) p in
+    drop_all (offset + count) bytes (omega (arith, length-append part (drop count buf), length-drop count buf))
 
 pub appends_then : (old mid new : Option (List ℕ)) (first second : List ℕ) → Appends old mid first → Appends mid new second → Appends old new (first ++ second)
 appends_then None mid new first second a b = tt
@@ -64,20 +64,20 @@ part_then old mid new first second a p = record {
 }
 
 -- where a write failed, the text up to there was taken
-pub part_up_to : (old mid new : Option (List ℕ)) (text : List ℕ) (at : ℕ) → Appends old mid (take at text) → Keeps mid new → AppendsPart old new text
-part_up_to old mid new text at a k = record {
-  part = take at text;
-  rest = drop at text;
-  whole = take-append-drop at text;
-  appends = appends_kept old mid new (take at text) a k;
+pub part_up_to : (old mid new : Option (List ℕ)) (text : List ℕ) (offset : ℕ) → Appends old mid (take offset text) → Keeps mid new → AppendsPart old new text
+part_up_to old mid new text offset a k = record {
+  part = take offset text;
+  rest = drop offset text;
+  whole = take-append-drop offset text;
+  appends = appends_kept old mid new (take offset text) a k;
 }
 
-pub rest_of : (text : List ℕ) (at : ℕ) → take (length text - at) (drop at text) ≡ drop at text
-rest_of text at = take_all (length text - at) (drop at text) (omega (arith, length-drop at text))
+pub rest_of : (text : List ℕ) (offset : ℕ) → take (length text - offset) (drop offset text) ≡ drop offset text
+rest_of text offset = take_all (length text - offset) (drop offset text) (omega (arith, length-drop offset text))
 
 -- some more of a text
-pub appends_more : (old mid new : Option (List ℕ)) (text : List ℕ) (at n : ℕ) → Appends old mid (take at text) → Appends mid new (take n (drop at text)) → Appends old new (take (at + n) text)
-appends_more old mid new text at n a b = subst (Appends old new) (sym (take-add at n text)) (appends_then old mid new (take at text) (take n (drop at text)) a b)
+pub appends_more : (old mid new : Option (List ℕ)) (text : List ℕ) (offset n : ℕ) → Appends old mid (take offset text) → Appends mid new (take n (drop offset text)) → Appends old new (take (offset + n) text)
+appends_more old mid new text offset n a b = subst (Appends old new) (sym (take-add offset n text)) (appends_then old mid new (take offset text) (take n (drop offset text)) a b)
 
 -- ---- text that is gathered before it is written
 

@@ -13,7 +13,7 @@ use Rattle.wt_turn.specs.declared.turn.Turn.TheVariants as turns
 abbrev pub request_bytes : List ℕ
 request_bytes = headers_frame_bytes (request_fields (codes "h") (codes "/"))
 
--- a server's connection stands, the peer's control stream brings empty SETTINGS (RFC 9114, section 6.2.1), and a
+-- a server's connection is established, the peer's control stream carries empty SETTINGS (RFC 9114, section 6.2.1), and a
 -- session is asked for and accepted
 abbrev pub session_turns : List Turn
 session_turns =

@@ -48,7 +48,7 @@ pub fn generate(alloc: Global, streams: u32) -> Result<Turns, OutOfMemory>
     Ok(turns)
 }
 
-/// The connection stands, the peer's settings come, and a session is asked for and accepted.
+/// The connection is established, the peer's settings come, and a session is asked for and accepted.
 fn session(alloc: Global) -> Result<Turns, OutOfMemory>
     ensures { IfOk result (λ turns. turns ≡ session_turns) }
 {

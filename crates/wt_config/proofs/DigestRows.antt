@@ -26,9 +26,9 @@ blank_in_front : digest_of_text BytesArray (codes " [97, 98, 99, 100, 101, 102, 
 unfolding trim_start trim_end chars lib.Utf8.encode
 blank_in_front = refl
 
-blank_behind : digest_of_text BytesArray (codes "[97, 98, 99, 100, 101, 102, 103, 104, 105, 106, 107, 108, 109, 110, 111, 112, 113, 114, 115, 116, 117, 118, 119, 120, 121, 122, 123, 124, 125, 126, 127, 64] ") ≡ None
+blank_after : digest_of_text BytesArray (codes "[97, 98, 99, 100, 101, 102, 103, 104, 105, 106, 107, 108, 109, 110, 111, 112, 113, 114, 115, 116, 117, 118, 119, 120, 121, 122, 123, 124, 125, 126, 127, 64] ") ≡ None
 unfolding trim_start trim_end chars lib.Utf8.encode
-blank_behind = refl
+blank_after = refl
 
 large_number : digest_of_text BytesArray (codes "[97, 98, 99, 100, 101, 102, 103, 104, 105, 106, 107, 108, 109, 110, 111, 112, 113, 114, 115, 116, 117, 118, 119, 120, 121, 122, 123, 124, 125, 126, 256, 64]") ≡ None
 unfolding trim_start trim_end chars lib.Utf8.encode

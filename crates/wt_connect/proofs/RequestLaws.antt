@@ -10,8 +10,8 @@ pub from_here : (fields : Fields) (i : ℕ) (f : List ℕ × List ℕ) → slice
 from_here [] i f h = cc
 from_here (g ∷ fields) zero f h = let same : g ≡ f = cc in ap (λ x. x ∷ fields) same
 from_here (g ∷ fields) (suc i) f h =
-    let next : suc i + 1 ≡ suc (i + 1) = omega arith in
-    from_here fields i f h ∙ ap (λ n. f ∷ drop n (g ∷ fields)) (sym next)
+    let following : suc i + 1 ≡ suc (i + 1) = omega arith in
+    from_here fields i f h ∙ ap (λ n. f ∷ drop n (g ∷ fields)) (sym following)
 
 -- what the first field's name makes of the answer
 pub first_is_reserved : (f : List ℕ × List ℕ) (fields : Fields) → is_reserved f.0 ≡ true → reserved_name (f ∷ fields) ≡ Some f.0

@@ -55,10 +55,10 @@ outcome_refuses_no_url outcomes.Proceed address refusal = λ h. cc
 outcome_refuses_no_url _ address refusal = λ h. cc
 
 -- two steps that don't give an error don't give it together
-neither : {A B E : Type 0} (first : Result A E) (next : A → Result B E) (error : E) →
-    first ≢ Err error → ((value : A) → next value ≢ Err error) → and_then first next ≢ Err error
-neither (Ok value) next error one other = other value
-neither (Err given) next error one other = λ h. one (let same : given ≡ error = cc in rw same refl)
+neither : {A B E : Type 0} (first : Result A E) (further : A → Result B E) (error : E) →
+    first ≢ Err error → ((value : A) → further value ≢ Err error) → and_then first further ≢ Err error
+neither (Ok value) further error one other = other value
+neither (Err given) further error one other = λ h. one (let same : given ≡ error = cc in rw same refl)
 
 url_is_not_refused : (url : Parts) (lookup : Lookup) (outcome : ConnectOutcome) (refusal : UrlRefusal) → target_of_url (Ok url) lookup outcome ≢ Err (errors.InvalidUrl refusal)
 url_is_not_refused url lookup outcome refusal =

@@ -48,8 +48,8 @@ unless_hindered (Some error) address = Err error
 
 -- the next step, unless this one failed
 abbrev pub and_then : {A B E : Type 0} → Result A E → (A → Result B E) → Result B E
-and_then (Ok value) next = next value
-and_then (Err error) next = Err error
+and_then (Ok value) further = further value
+and_then (Err error) further = Err error
 
 -- the address that is dialled for a URL: first the lookup decides, then the endpoint
 abbrev pub dialled_address : Parts → Lookup → ConnectOutcome → Result Addr ConnectingError

@@ -56,16 +56,16 @@ module _ (side : Side) (log : Log) (text : List ℕ) (headers : Fields) (lookup 
     }
 
     -- what the driver follows then
-    pub dialled_log : (d new : DriverValue) (taken : ℕ) → Follows side d log taken → IsReachable side log → may_call side log (calls.Connect (text, headers) lookup outcome) ≡ true → (h : Fields) → h ≡ headers
+    pub dialled_log : (d new : DriverValue) (collected : ℕ) → Follows side d log collected → IsReachable side log → may_call side log (calls.Connect (text, headers) lookup outcome) ≡ true → (h : Fields) → h ≡ headers
         → (MaySendAll side log (actions.Dial target.address target.server_name ∷ [])
         → MayBeCalled side (with_actions (actions.Dial target.address target.server_name ∷ []) log) (ConnectStarted (reserved_name h) (request_head target.authority target.path h))
-        → Follows side new (dial side log target.server_name target.authority target.path h target.address).log taken)
-        → Follows side new (call_effect side log (calls.Connect (text, headers) lookup outcome)).log taken
-    dialled_log d new taken f reach may h same g =
+        → Follows side new (dial side log target.server_name target.authority target.path h target.address).log collected)
+        → Follows side new (call_effect side log (calls.Connect (text, headers) lookup outcome)).log collected
+    dialled_log d new collected f reach may h same g =
         let m = may_dial reach may in
         let can = subst (λ (fs : Fields). MayBeCalled side (with_actions (actions.Dial target.address target.server_name ∷ []) log) (ConnectStarted (reserved_name fs) (request_head target.authority target.path fs))) (sym same) m.1 in
-        subst (λ (x : Effect). Follows side new x.log taken) (sym dialled_effect)
-        (subst (λ (fs : Fields). Follows side new (dial side log target.server_name target.authority target.path fs target.address).log taken) same (g m.0 can))
+        subst (λ (x : Effect). Follows side new x.log collected) (sym dialled_effect)
+        (subst (λ (fs : Fields). Follows side new (dial side log target.server_name target.authority target.path fs target.address).log collected) same (g m.0 can))
 
     -- and the connect that is kept
     pub dialled_begins : (c : Connect) (h : Fields) → h ≡ headers → c ≡ record { reserved = reserved_name h; head = request_head target.authority target.path h }

@@ -4,7 +4,7 @@ use Rattle.std.proofs.Common.{◌∙◌, ap, refl, subst, sym}
 use Rattle.wt_connecting.proofs.Over.{establishes}
 use Rattle.wt_connecting.specs.Connecting.{Connect, IsConnectReply, IsConnecting, StandsWith}
 use Rattle.wt_driver_state.specs.DriverValue.{DriverValue}
-use Rattle.wt_driver_state.specs.Tie.{Follows, untaken_since}
+use Rattle.wt_driver_state.specs.Tie.{Follows, uncollected_since}
 use Rattle.wt_driver_spec.specs.Asking.{AwaitsResponse}
 use Rattle.wt_driver_spec.specs.Uses.{role_of, use_of}
 use Rattle.wt_laws.specs.Reachable.{IsReachable}
@@ -75,7 +75,7 @@ module _ (side : Side) (log : Log) (reach : IsReachable side log) (c : Connect) 
   pub walk_is : (id : ℕ) → id ≡ 0 → response_walk_of (contents log id) (end_of (events_of log) id) ≡ (driver_facts side log).response
   walk_is id z = ap (λ (j : ℕ). response_walk_of (contents log j) (end_of (events_of log) j)) (first-bi id z)
 
-  module _ (d : DriverValue) (taken : ℕ) (f : Follows side d log taken) where
+  module _ (d : DriverValue) (collected : ℕ) (f : Follows side d log collected) where
     pub side_now : d.inbox.transport.side ≡ Client
     side_now = ap (λ (t : TransportState). t.side) f.refines.inbox.transport.state ∙ is_client_side
 
@@ -84,8 +84,8 @@ module _ (side : Side) (log : Log) (reach : IsReachable side log) (c : Connect) 
     connect_by_log walk w =
         let answered : DriverAnswers = answers_now d.inbox.transport d.state (is_first log) 0 walk in
         let says : TellsFacts side log d.inbox.transport answered =
-        drivers_tell_theorem side d log (untaken_since taken log) (is_first log) 0 walk f.refines refl (λ a. absurd (connecting-answers-none side log c s a)) (λ r h e. w) reach in
-        ap (λ (x : CallFacts). continued_connect x c.reserved c.head) (facts-same side d.inbox.transport log says.position says.untaken says.refines answered says.answers says.lawful)
+        drivers_tell_theorem side d log (uncollected_since collected log) (is_first log) 0 walk f.refines refl (λ a. absurd (connecting-answers-none side log c s a)) (λ r h e. w) reach in
+        ap (λ (x : CallFacts). continued_connect x c.reserved c.head) (facts-same side d.inbox.transport log says.position says.uncollected says.refines answered says.answers says.lawful)
         ∙ connect-same (facts_of side log) 0 walk (unread_now d.inbox.transport) w c.reserved c.head
 
 -- ---- the call of a poll
@@ -103,7 +103,7 @@ module _ (side : Side) (log : Log) (c : Connect) (s : IsConnecting log c) where
 abbrev IsConnectPlan : Plan → Type 0
 IsConnectPlan (Step own r replies.Pending) = r ≡ Polled
 IsConnectPlan (Step own r (replies.ConnectFailed e)) = r ≡ HandshakeOver
-IsConnectPlan (Establish own id at) = Unit {0}
+IsConnectPlan (Establish own id offset) = Unit {0}
 IsConnectPlan _ = ⊥
 
 -- one of two plans
@@ -116,9 +116,9 @@ module _ (f : CallFacts) where
   read-planned id own (responses.Fault code) = refl
   read-planned id own responses.Ended = refl
   read-planned id own responses.Incomplete = either f.is_open (send_and_reply own replies.Pending) (failed_connect own (lost_connect f)) refl refl
-  read-planned id own (responses.Response fields at) =
+  read-planned id own (responses.Response fields offset) =
       either (not (has_success fields)) (abandon_plan f own failures.SessionRejected) _ refl
-      (either f.is_open (Establish own id at) (failed_connect own (failures.ConnectionError f.driver_error)) tt refl)
+      (either f.is_open (Establish own id offset) (failed_connect own (failures.ConnectionError f.driver_error)) tt refl)
 
   sent-planned : (p : HeadProgress) (id : ℕ) (own out : List Action) → IsConnectPlan (request_sent p f id own out)
   sent-planned AllOut id own out = read-planned id (own ++ out) f.response
@@ -150,7 +150,7 @@ module _ (f : CallFacts) where
 reply-of-plan : (side : Side) (log : Log) (p : Plan) → IsConnectPlan p → IsConnectReply (perform side log p).reply
 reply-of-plan side log (Step own r replies.Pending) k = tt
 reply-of-plan side log (Step own r (replies.ConnectFailed e)) k = tt
-reply-of-plan side log (Establish own id at) k = tt
+reply-of-plan side log (Establish own id offset) k = tt
 reply-of-plan side log _ k = absurd k
 
 stands-by : (side : Side) (log : Log) (c : Connect) → IsConnecting log c → (p : Plan) → IsConnectPlan p → StandsWith (perform side log p).log c (perform side log p).reply
@@ -158,7 +158,7 @@ stands-by side log c s (Step own r replies.Pending) k =
     let made : calls_of (log_call side log own r) ≡ Polled ∷ calls_of log = logged_theorem side log own r ∙ ap (λ (x : CallRecord). x ∷ calls_of log) k in
     record { state = ap handshake_state made ∙ s.state }
 stands-by side log c s (Step own r (replies.ConnectFailed e)) k = tt
-stands-by side log c s (Establish own id at) k = establishes side log own id at
+stands-by side log c s (Establish own id offset) k = establishes side log own id offset
 stands-by side log c s _ k = absurd k
 
 module _ (side : Side) (log : Log) (c : Connect) (s : IsConnecting log c) where
@@ -182,17 +182,17 @@ module _ (side : Side) (log : Log) (c : Connect) (s : IsConnecting log c) where
 
 module _ (p : Result code.Plan OutOfMemory) (side : Side) (log : Log) (c : Connect) (s : IsConnecting log c) where
   -- what is planned by what a driver keeps is planned by the log
-  pub planned_by_log : (d : DriverValue) (taken : ℕ) → Follows side d log taken → IsReachable side log → (t : TransportState) → t ≡ d.inbox.transport → (has_come : Bool) → has_come ≡ d.state.progress.settings
+  pub planned_by_log : (d : DriverValue) (collected : ℕ) → Follows side d log collected → IsReachable side log → (t : TransportState) → t ≡ d.inbox.transport → (has_come : Bool) → has_come ≡ d.state.progress.settings
       → (error : ConnectionError) → error ≡ error_now t d.state.progress.ending → (walk : ResponseWalk) → walk ≡ (driver_facts side log).response → (head : List ℕ) → head ≡ c.head
       → ((f : DriverAnswers) → t.side ≡ Client → f.settings_came ≡ has_come → f.driver_error ≡ error → f.response ≡ walk → IfOk p (λ q. defined_plan q ≡ continued_connect (facts_now t f) c.reserved head))
       → IfOk p (λ q. defined_plan q ≡ continued_connect (facts_of side log) c.reserved c.head)
-  planned_by_log d taken f reach t there has_come came_is error error_is walk walk_told head same g =
+  planned_by_log d collected f reach t there has_come came_is error error_is walk walk_reported head same g =
       let now =
-      g (answers_now d.inbox.transport d.state (is_first log) 0 walk) (ap (λ (u : TransportState). u.side) there ∙ side_now side log reach c s d taken f) (sym came_is)
+      g (answers_now d.inbox.transport d.state (is_first log) 0 walk) (ap (λ (u : TransportState). u.side) there ∙ side_now side log reach c s d collected f) (sym came_is)
       (ap (λ (u : TransportState). error_now u d.state.progress.ending) (sym there) ∙ sym error_is) refl in
       let by_transport = subst (λ (u : TransportState). IfOk p (λ q. defined_plan q ≡ continued_connect (facts_now u (answers_now d.inbox.transport d.state (is_first log) 0 walk)) c.reserved head)) there now in
       let by_head = subst (λ (h : List ℕ). IfOk p (λ q. defined_plan q ≡ continued_connect (facts_now d.inbox.transport (answers_now d.inbox.transport d.state (is_first log) 0 walk)) c.reserved h)) same by_transport in
-      subst (λ (x : Plan). IfOk p (λ q. defined_plan q ≡ x)) (connect_by_log side log reach c s d taken f walk walk_told) by_head
+      subst (λ (x : Plan). IfOk p (λ q. defined_plan q ≡ x)) (connect_by_log side log reach c s d collected f walk walk_reported) by_head
 
   module _ (g : IfOk p (λ q. defined_plan q ≡ continued_connect (facts_of side log) c.reserved c.head)) where
     -- it is the plan of the poll's call

@@ -15,8 +15,8 @@ use Rattle.wt_turn.specs.declared.action.Action.{Action}
 use Rattle.wt_wire.specs.declared.side.Side.{Side}
 
 -- it may be recorded at any time
-pub over_may : (side : Side) (d : DriverValue) (log : Log) (taken : ℕ) → Follows side d log taken → MayBeCalled side log HandshakeOver
-over_may side d log taken f =
+pub over_may : (side : Side) (d : DriverValue) (log : Log) (collected : ℕ) → Follows side d log collected → MayBeCalled side log HandshakeOver
+over_may side d log collected f =
     let made = over-made side log in
     record {
       may = made.may;
@@ -26,8 +26,8 @@ over_may side d log taken f =
     }
 
 -- the session that is established stands
-pub establishes : (side : Side) (log : Log) (own : List Action) (id at : ℕ) → IsEstablished (perform side log (Establish own id at)).log id
-establishes side log own id at = record {
-  offset = at;
-  is = ap established_session (logged_theorem side (log_call side log own (SessionEstablished id at)) [] Polled ∙ ap (λ (rs : List CallRecord). Polled ∷ rs) (logged_theorem side log own (SessionEstablished id at)));
+pub establishes : (side : Side) (log : Log) (own : List Action) (id offset : ℕ) → IsEstablished (perform side log (Establish own id offset)).log id
+establishes side log own id offset = record {
+  offset = offset;
+  is = ap established_session (logged_theorem side (log_call side log own (SessionEstablished id offset)) [] Polled ∙ ap (λ (rs : List CallRecord). Polled ∷ rs) (logged_theorem side log own (SessionEstablished id offset)));
 }

@@ -55,7 +55,7 @@ connecting_reply Pending = replies.Pending
 connecting_reply (Ready (Ok id)) = replies.Session id
 connecting_reply (Ready (Err e)) = replies.ConnectFailed e
 
--- what stands with a reply: the connect while it waits, and the session once it is told
+-- what stands with a reply: the connect while it waits, and the session once it is reported
 abbrev pub StandsWith : Log → Connect → Reply → Type 0
 StandsWith log c replies.Pending = IsConnecting log c
 StandsWith log c (replies.Session id) = IsEstablished log id

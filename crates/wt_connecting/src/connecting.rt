@@ -3,7 +3,7 @@ ghost use Rattle.std.specs.Prelude.{◌≡◌, ◌∷◌, [], Err, IfOk, None, O
 ghost use Rattle.wt_connecting.specs.Connecting.{BeginsConnect, Connect, HasConnect, IsConnectReply, IsConnecting, StandsWith, beginning_reply, connect_call, connecting_reply};
 ghost use Rattle.wt_driver_state.specs.Tie.{Follows};
 ghost use Rattle.wt_driver_spec.specs.Asking.{MayBeCalled};
-ghost use Rattle.wt_halves.specs.Answering.{LeadsOn, MayCall, RepliesTo, StandsBehind};
+ghost use Rattle.wt_halves.specs.Answering.{LeadsOn, MayCall, RepliesTo, StandsAfter};
 ghost use Rattle.wt_laws.specs.Reachable.{IsReachable};
 ghost use Rattle.wt_plan.specs.Planned.{defined_plan};
 ghost use Rattle.wt_plan.specs.PlansAgree.{driver_facts};
@@ -94,9 +94,9 @@ fn connected(reply: Reply) -> Poll<Result<Connection, ConnectingError>>
 
 /// The response on the client's first bidirectional stream, as far as it came.
 fn response(d: &mut Driver) -> Result<ResponseWalk, OutOfMemory>
-    ensures log { (side : Side) (log : Log) (taken : ℕ) (c : Connect) → Follows side d.old log taken → IsReachable side log
-        → IsConnecting log c → OnOk result (Follows side d.new log taken) }
-    ensures walk { (side : Side) (log : Log) (taken : ℕ) (c : Connect) → Follows side d.old log taken → IsReachable side log
+    ensures log { (side : Side) (log : Log) (collected : ℕ) (c : Connect) → Follows side d.old log collected → IsReachable side log
+        → IsConnecting log c → OnOk result (Follows side d.new log collected) }
+    ensures walk { (side : Side) (log : Log) (collected : ℕ) (c : Connect) → Follows side d.old log collected → IsReachable side log
         → IsConnecting log c → IfOk result (λ walk. walk ≡ (driver_facts side log).response) }
 {
     let id = StreamId::new(VarInt::from_u32(0));
@@ -137,10 +137,10 @@ impl Connecting {
     ) -> Result<Connecting, OutOfMemory>
         ensures connecting { IfOk result (λ c. c
             ≡ record { reserved = connects.reserved_name headers.now; head = connects.request_head target.authority target.path headers.now }) }
-        ensures log { (side : Side) (log : Log) (taken : ℕ) → Follows side d.old log taken
+        ensures log { (side : Side) (log : Log) (collected : ℕ) → Follows side d.old log collected
             → MaySendAll side log (actions.Dial target.address target.server_name ∷ [])
             → MayBeCalled side (with_actions (actions.Dial target.address target.server_name ∷ []) log) (ConnectStarted (connects.reserved_name headers.now) (connects.request_head target.authority target.path headers.now))
-            → OnOk result (Follows side d.new (connects.dial side log target.server_name target.authority target.path headers.now target.address).log taken) }
+            → OnOk result (Follows side d.new (connects.dial side log target.server_name target.authority target.path headers.now target.address).log collected) }
     {
         let connecting = Connecting::to_target(alloc, &target, headers)?;
         let beginning = connecting.beginning()?;
@@ -171,7 +171,7 @@ impl Connecting {
     ) -> Result<Result<Connecting, ConnectingError>, OutOfMemory>
         ensures reply { IfOk result (RepliesTo d.old (MayCall (connect_call options lookup outcome)) (connect_call options lookup outcome) beginning_reply) }
         ensures log { OnOk result (LeadsOn d.old (MayCall (connect_call options lookup outcome)) (connect_call options lookup outcome) d.new) }
-        ensures in_log { IfOk result (λ r. StandsBehind d.old (MayCall (connect_call options lookup outcome)) (connect_call options lookup outcome) (λ side log. BeginsConnect log r)) }
+        ensures in_log { IfOk result (λ r. StandsAfter d.old (MayCall (connect_call options lookup outcome)) (connect_call options lookup outcome) (λ side log. BeginsConnect log r)) }
     {
         let target = connect_target(alloc, options.url(), lookup, outcome)?;
         match target {
@@ -189,7 +189,7 @@ impl Connecting {
 
     /// What the next poll does, by the response as far as it came.
     fn plan(&self, alloc: Global, d: &Driver, walk: ResponseWalk) -> Result<Plan, OutOfMemory>
-        ensures { (side : Side) (log : Log) (taken : ℕ) → Follows side d.now log taken → IsReachable side log → IsConnecting log self.now
+        ensures { (side : Side) (log : Log) (collected : ℕ) → Follows side d.now log collected → IsReachable side log → IsConnecting log self.now
             → walk ≡ (driver_facts side log).response
             → IfOk result (λ p. defined_plan p ≡ plan_of (facts_of side log) (session_state log) calls.Handshake) }
     {
@@ -215,7 +215,7 @@ impl Connecting {
     ) -> Result<Poll<Result<Connection, ConnectingError>>, OutOfMemory>
         ensures reply { IfOk result (RepliesTo d.old (HasConnect self.old) calls.Handshake connecting_reply) }
         ensures log { OnOk result (LeadsOn d.old (HasConnect self.old) calls.Handshake d.new) }
-        ensures in_log { IfOk result (λ p. StandsBehind d.old (HasConnect self.old) calls.Handshake (λ side log. StandsWith log self.new (connecting_reply p))) }
+        ensures in_log { IfOk result (λ p. StandsAfter d.old (HasConnect self.old) calls.Handshake (λ side log. StandsWith log self.new (connecting_reply p))) }
         ensures lawful { (side : Side) (log : Log) → IsConnecting log self.old → may_call side log calls.Handshake ≡ true }
         ensures same { self.new ≡ self.old }
     {

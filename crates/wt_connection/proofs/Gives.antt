@@ -17,7 +17,7 @@ use Rattle.wt_laws.proofs.TurnCauses.{reply-is-recorded}
 use Rattle.wt_laws.specs.RecordCauses.{AtEnd, HeaderStopped, OpeningOver, RecordCause}
 use Rattle.wt_laws.specs.Laws.{AcceptedRightly, IsDuring}
 use Rattle.wt_laws.specs.Reachable.{IsReachable}
-use Rattle.wt_laws.specs.ReplyTells.{Logged, NoRecord, OneRecord, TellsOf, ThenPolled, datagram_told, given_stream, is_quiet, read_piece, request_told, session_told}
+use Rattle.wt_laws.specs.ReplyTells.{Logged, NoRecord, OneRecord, TellsOf, ThenPolled, datagram_reported, given_stream, is_quiet, read_piece, request_reported, session_reported}
 use Rattle.wt_reached.proofs.Handshaking.{reached-holds}
 use Rattle.wt_seam_spec.specs.Outgoing.{bytes_within_credit, may_open, next_id, actions_to_open}
 use Rattle.wt_seam_spec.specs.Joined.{send_of}
@@ -53,9 +53,9 @@ use Rattle.wt_wire.specs.declared.side.Side.TheVariants.{Client, Server}
 record TellsStream (reply : Reply) : Type 0 where
   pub loud : is_quiet reply ≡ false
   pub no_bytes : read_piece reply ≡ None
-  pub no_datagram : datagram_told reply ≡ None
-  pub no_session : session_told reply ≡ None
-  pub no_request : request_told reply ≡ None
+  pub no_datagram : datagram_reported reply ≡ None
+  pub no_session : session_reported reply ≡ None
+  pub no_request : request_reported reply ≡ None
 
 tells-stream : (k : ℕ) (reply : Reply) → given_stream reply ≡ Some k → TellsStream reply
 tells-stream k (replies.Uni j) g = record { loud = refl; no_bytes = refl; no_datagram = refl; no_session = refl; no_request = refl }
@@ -64,18 +64,18 @@ tells-stream k (replies.SendReady j) g = record { loud = refl; no_bytes = refl; 
 tells-stream k (replies.BiReady j) g = record { loud = refl; no_bytes = refl; no_datagram = refl; no_session = refl; no_request = refl }
 tells-stream k _ g = absurd (cc)
 
-told-accepts : (turn : Turn) (k : ℕ) (reply : Reply) → given_stream reply ≡ Some k → TellsStream reply → (r : CallRecord) → TellsOf turn r reply → accepts_stream k r ≡ true
-told-accepts turn k reply g t (StreamAccepted i) q = let e : i ≡ k = cc in eq-eqb i k e
-told-accepts turn k reply g t (BytesRead i n) (piece, e, count, rest) = absurd (let x = t.no_bytes in cc)
-told-accepts turn k reply g t DatagramReceived (piece, e) = absurd (let x = t.no_datagram in cc)
-told-accepts turn k reply g t (SessionEstablished i n) q = absurd (let x = t.no_session in cc)
-told-accepts turn k reply g t (RequestDelivered i) q = absurd (let x = t.no_request in cc)
-told-accepts turn k reply g t _ q = absurd (let x = t.loud in cc)
+reported-accepts : (turn : Turn) (k : ℕ) (reply : Reply) → given_stream reply ≡ Some k → TellsStream reply → (r : CallRecord) → TellsOf turn r reply → accepts_stream k r ≡ true
+reported-accepts turn k reply g t (StreamAccepted i) q = let e : i ≡ k = cc in eq-eqb i k e
+reported-accepts turn k reply g t (BytesRead i n) (piece, e, count, rest) = absurd (let x = t.no_bytes in cc)
+reported-accepts turn k reply g t DatagramReceived (piece, e) = absurd (let x = t.no_datagram in cc)
+reported-accepts turn k reply g t (SessionEstablished i n) q = absurd (let x = t.no_session in cc)
+reported-accepts turn k reply g t (RequestDelivered i) q = absurd (let x = t.no_request in cc)
+reported-accepts turn k reply g t _ q = absurd (let x = t.loud in cc)
 
 logged-accepts : (turn : Turn) (k : ℕ) (before after : List CallRecord) (reply : Reply) → given_stream reply ≡ Some k → TellsStream reply → Logged turn before after reply → list_any (accepts_stream k) after ≡ true
 logged-accepts turn k before after reply g t (NoRecord e q) = absurd (let x = t.loud in cc)
-logged-accepts turn k before after reply g t (OneRecord r e q) = ap (list_any (accepts_stream k)) e ∙ or_left (accepts_stream k r) (list_any (accepts_stream k) before) (told-accepts turn k reply g t r q)
-logged-accepts turn k before after reply g t (ThenPolled r e q) = ap (list_any (accepts_stream k)) e ∙ or_left (accepts_stream k r) (list_any (accepts_stream k) before) (told-accepts turn k reply g t r q)
+logged-accepts turn k before after reply g t (OneRecord r e q) = ap (list_any (accepts_stream k)) e ∙ or_left (accepts_stream k r) (list_any (accepts_stream k) before) (reported-accepts turn k reply g t r q)
+logged-accepts turn k before after reply g t (ThenPolled r e q) = ap (list_any (accepts_stream k)) e ∙ or_left (accepts_stream k r) (list_any (accepts_stream k) before) (reported-accepts turn k reply g t r q)
 
 given-accepted : (side : Side) (log : Log) (call : Call) (k : ℕ) → is_lawful side log (turns.Call call) ≡ true → given_stream (call_effect side log call).reply ≡ Some k → is_accepted (call_effect side log call).log k ≡ true
 given-accepted side log call k l g = let x = reply-is-recorded side log (turns.Call call) l in logged-accepts (turns.Call call) k _ _ (call_effect side log call).reply g (tells-stream k (call_effect side log call).reply g) x.logged
@@ -103,21 +103,21 @@ only-given side log r = reached OnlyGiven (λ k e. absurd (cc)) (λ turn. by-ent
 
 -- a stream that wasn't given has no half that was given up
 kept-half : (side : Side) (log : Log) (k : ℕ) → IsReachable side log → is_accepted log k ≡ false → list_any (gives_up k) (calls_of log) ≡ false
-kept-half side log k r n = at (list_any (gives_up k) (calls_of log)) refl
+kept-half side log k r n = by (list_any (gives_up k) (calls_of log)) refl
   where
-    at : (b : Bool) → list_any (gives_up k) (calls_of log) ≡ b → b ≡ false
-    at false e = refl
-    at true e = absurd (let a = only-given side log r k e in cc)
+    by : (b : Bool) → list_any (gives_up k) (calls_of log) ≡ b → b ≡ false
+    by false e = refl
+    by true e = absurd (let a = only-given side log r k e in cc)
 
 -- ---- kinds
 
 -- the stream is of another kind than this
 other-than : (k kind other : ℕ) → kind ≢ other → (k % 4 == kind) ≡ true → not (k % 4 == other) ≡ true
-other-than k kind other n e = at (k % 4 == other) refl
+other-than k kind other n e = by (k % 4 == other) refl
   where
-    at : (b : Bool) → (k % 4 == other) ≡ b → not b ≡ true
-    at false f = refl
-    at true f = absurd (n (sym (eqb-true (k % 4) kind e) ∙ eqb-true (k % 4) other f))
+    by : (b : Bool) → (k % 4 == other) ≡ b → not b ≡ true
+    by false f = refl
+    by true f = absurd (n (sym (eqb-true (k % 4) kind e) ∙ eqb-true (k % 4) other f))
 
 uni-apart : (side : Side) → peer_uni side ≢ local_uni side
 uni-apart Client e = absurd (omega arith)
@@ -193,11 +193,11 @@ module _ (side : Side) (log : Log) (call : Call) (kind k : ℕ) (m : (middle : L
 
   -- it wasn't given before
   fresh : is_accepted log k ≡ false
-  fresh = at (is_accepted log k) refl
+  fresh = by (is_accepted log k) refl
     where
-      at : (b : Bool) → is_accepted log k ≡ b → b ≡ false
-      at false e = refl
-      at true e = absurd (let a = any-stays (releases k) log m.0 (m.1).from_start (released k (calls_of log) e) in let f = (m.2).fresh in cc)
+      by : (b : Bool) → is_accepted log k ≡ b → b ≡ false
+      by false e = refl
+      by true e = absurd (let a = any-stays (releases k) log m.0 (m.1).from_start (released k (calls_of log) e) in let f = (m.2).fresh in cc)
 
 module _ (side : Side) (log : Log) (r : IsReachable side log) (session : ℕ) (s : IsEstablished log session) where
   uni-receives : (k : ℕ) → (call_effect side log calls.AcceptUni).reply ≡ replies.Uni k → has_receiving_half side (call_effect side log calls.AcceptUni).log k ≡ true
@@ -247,7 +247,7 @@ OnlyStarted log = (k : ℕ) → list_any (fails_opening k) (calls_of log) ≡ tr
 
 over-opening : (side : Side) (turn : Turn) (log : Log) (k : ℕ) → OpeningOver side turn log k → is_opening log k ≡ true
 over-opening side turn log k (AtEnd p o e) = o
-over-opening side turn log k (HeaderStopped session at p o e r) = o
+over-opening side turn log k (HeaderStopped session offset p o e r) = o
 
 new-failed : (side : Side) (turn : Turn) (log : Log) (k : ℕ) (r : CallRecord) → RecordCause side turn log r → fails_opening k r ≡ true → list_any (starts_opening k) (r ∷ calls_of log) ≡ true
 new-failed side turn log k (OpeningFailed id) c e = subst (λ (j : ℕ). list_any (starts_opening j) (calls_of log) ≡ true) (eqb-true id k e) (and_parts (list_any (starts_opening id) (calls_of log)) _ (over-opening side turn log id c)).0
@@ -286,11 +286,11 @@ module _ (side : Side) (log : Log) (r : IsReachable side log) (kind : ℕ) (smal
   heads = (reached-holds side log r).out.heads
 
   unstarted : list_any (starts_opening next_stream) (calls_of log) ≡ false
-  unstarted = at (list_any (starts_opening next_stream) (calls_of log)) refl
+  unstarted = by (list_any (starts_opening next_stream) (calls_of log)) refl
     where
-      at : (b : Bool) → list_any (starts_opening next_stream) (calls_of log) ≡ b → b ≡ false
-      at false e = refl
-      at true e =
+      by : (b : Bool) → list_any (starts_opening next_stream) (calls_of log) ≡ b → b ≡ false
+      by false e = refl
+      by true e =
           absurd
           (past-count (next_stream / 4) (peer_count side (all_events_of log) kind) (local_count (actions_of log) kind) (index-of-next kind (stream_count side log kind) small)
           (subst (λ (n : ℕ). next_stream / 4 < local_count (actions_of log) n) next-kind (heads.count_is next_stream e)))
@@ -299,18 +299,18 @@ module _ (side : Side) (log : Log) (r : IsReachable side log) (kind : ℕ) (smal
   next-local = subst (λ (n : ℕ). (n == local_uni side || n == local_bi side) ≡ true) (sym next-kind) own
 
   unfailed-next : list_any (fails_opening next_stream) (calls_of log) ≡ false
-  unfailed-next = at (list_any (fails_opening next_stream) (calls_of log)) refl
+  unfailed-next = by (list_any (fails_opening next_stream) (calls_of log)) refl
     where
-      at : (b : Bool) → list_any (fails_opening next_stream) (calls_of log) ≡ b → b ≡ false
-      at false e = refl
-      at true e = absurd (let s = only-started side log r next_stream e in let n = unstarted in cc)
+      by : (b : Bool) → list_any (fails_opening next_stream) (calls_of log) ≡ b → b ≡ false
+      by false e = refl
+      by true e = absurd (let s = only-started side log r next_stream e in let n = unstarted in cc)
 
   ungiven-next : is_accepted log next_stream ≡ false
-  ungiven-next = at (is_accepted log next_stream) refl
+  ungiven-next = by (is_accepted log next_stream) refl
     where
-      at : (b : Bool) → is_accepted log next_stream ≡ b → b ≡ false
-      at false e = refl
-      at true e = absurd (let s = heads.local_accepted next_stream next-local e in let n = unstarted in cc)
+      by : (b : Bool) → is_accepted log next_stream ≡ b → b ≡ false
+      by false e = refl
+      by true e = absurd (let s = heads.local_accepted next_stream next-local e in let n = unstarted in cc)
 
   next-opens : (own_ : List Action) (s : ℕ) → is_opening (log_call side log own_ (OpeningStarted next_stream s)) next_stream ≡ true
   next-opens own_ s =
@@ -319,18 +319,18 @@ module _ (side : Side) (log : Log) (r : IsReachable side log) (kind : ℕ) (smal
 
   -- an opening that begins is under way
   begins : (s k : ℕ) → (open_stream side log kind s).reply ≡ replies.Opening k → (is_opening (open_stream side log kind s).log k ≡ true) × (k % 4 ≡ kind)
-  begins s k e = at (not (is_open log)) (may_open side log kind) e
+  begins s k e = by (not (is_open log)) (may_open side log kind) e
     where
-      at : (c m : Bool)
+      by : (c m : Bool)
           → (if c then poll_only side log (replies.Failed (transport_error log)) else
           (if m then reply_with (log_call side log (actions_to_open side log kind) (OpeningStarted (next_id side log kind) s)) (replies.Opening (next_id side log kind)) else poll_only side log replies.Pending)).reply ≡ replies.Opening k
           → (is_opening (if c then poll_only side log (replies.Failed (transport_error log)) else
           (if m then reply_with (log_call side log (actions_to_open side log kind) (OpeningStarted (next_id side log kind) s)) (replies.Opening (next_id side log kind)) else poll_only side log replies.Pending)).log k ≡ true) × (k % 4 ≡ kind)
-      at true m e = absurd (cc)
-      at false true e =
+      by true m e = absurd (cc)
+      by false true e =
           let same : next_stream ≡ k = cc in
           (subst (λ (j : ℕ). is_opening (log_call side log (actions_to_open side log kind) (OpeningStarted next_stream s)) j ≡ true) same (next-opens (actions_to_open side log kind) s), subst (λ (j : ℕ). j % 4 ≡ kind) same next-kind)
-      at false false e = absurd (cc)
+      by false false e = absurd (cc)
 
 small-uni : (side : Side) → local_uni side < 4
 small-uni Client = omega arith

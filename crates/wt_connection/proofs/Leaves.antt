@@ -107,9 +107,9 @@ module _ (call : Call) where
   read-left f id own (responses.Fault code) = refl
   read-left f id own responses.Ended = refl
   read-left f id own responses.Incomplete = either f.is_open (send_and_reply own replies.Pending) (failed_connect own (lost_connect f)) refl refl
-  read-left f id own (responses.Response fields at) =
-      either (not (has_success fields)) (abandon_plan f own connects.SessionRejected) (if f.is_open then Establish own id at else failed_connect own (connects.ConnectionError f.driver_error)) refl
-      (either f.is_open (Establish own id at) (failed_connect own (connects.ConnectionError f.driver_error)) tt refl)
+  read-left f id own (responses.Response fields by_case) =
+      either (not (has_success fields)) (abandon_plan f own connects.SessionRejected) (if f.is_open then Establish own id by_case else failed_connect own (connects.ConnectionError f.driver_error)) refl
+      (either f.is_open (Establish own id by_case) (failed_connect own (connects.ConnectionError f.driver_error)) tt refl)
 
   sent-left : (p : HeadProgress) (f : CallFacts) (id : ℕ) (own out : List Action) → Left (request_sent p f id own out)
   sent-left AllOut f id own out = read-left f id (own ++ out) f.response
@@ -170,16 +170,16 @@ module _ (call : Call) where
 
   datagram-left : (f : CallFacts) (payload : List ℕ) (session : ℕ) → Left (datagram_plan f payload session)
   datagram-left f payload session =
-      either f.is_open (datagram_if (datagram_bytes (session / 4) payload) f.datagram_fact) (only_reply (replies.DatagramFailed datagrams.NotConnected)) (at (datagram_bytes (session / 4) payload) f.datagram_fact) refl
+      either f.is_open (datagram_if (datagram_bytes (session / 4) payload) f.datagram_fact) (only_reply (replies.DatagramFailed datagrams.NotConnected)) (by_case (datagram_bytes (session / 4) payload) f.datagram_fact) refl
     where
       by : (bytes : List ℕ) (fact : DatagramFact) → Left (datagram_by bytes fact)
       by bytes facts.Disabled = refl
       by bytes facts.Unsupported = refl
       by bytes (facts.Limit limit) = either (nat_lt limit (length bytes)) (only_reply (replies.DatagramFailed datagrams.TooLarge)) (send_and_reply (actions.DatagramOut bytes ∷ []) replies.Done) refl refl
 
-      at : (bytes : List ℕ) (fact : Option DatagramFact) → Left (datagram_if bytes fact)
-      at bytes None = refl
-      at bytes (Some fact) = by bytes fact
+      by_case : (bytes : List ℕ) (fact : Option DatagramFact) → Left (datagram_if bytes fact)
+      by_case bytes None = refl
+      by_case bytes (Some fact) = by bytes fact
 
   -- ---- halves
 
@@ -260,12 +260,12 @@ module _ (side : Side) (call : Call) (test : CallRecord → Bool) (n : (r : Call
 
   accept-same : (m : ℕ) (reply : ℕ → Reply) (kind s : ℕ) (log : Log) → list_any test (calls_of (accept_first m side reply kind s log).log) ≡ list_any test (calls_of log)
   accept-same zero reply kind s log = logged-same log [] Polled refl
-  accept-same (suc m) reply kind s log = at (next_due side log kind s) (accept-same m reply kind s)
+  accept-same (suc m) reply kind s log = by (next_due side log kind s) (accept-same m reply kind s)
     where
-      at : (o : Option Classified) → ((later : Log) → list_any test (calls_of (accept_first m side reply kind s later).log) ≡ list_any test (calls_of later))
+      by : (o : Option Classified) → ((later : Log) → list_any test (calls_of (accept_first m side reply kind s later).log) ≡ list_any test (calls_of later))
           → list_any test (calls_of (accept_due side reply (λ later. accept_first m side reply kind s later) s log o).log) ≡ list_any test (calls_of log)
-      at None a = logged-same log [] Polled refl
-      at (Some c) a = given-same (is_for_session s c.verdict) reply (λ later. accept_first m side reply kind s later) log c.id a
+      by None a = logged-same log [] Polled refl
+      by (Some c) a = given-same (is_for_session s c.verdict) reply (λ later. accept_first m side reply kind s later) log c.id a
 
   received-same : (b : Bool) (again : Log → Effect) (log : Log) (payload : List ℕ) → ((later : Log) → list_any test (calls_of (again later).log) ≡ list_any test (calls_of later))
       → list_any test (calls_of (receive_or_pass b side again log payload).log) ≡ list_any test (calls_of log)
@@ -274,16 +274,16 @@ module _ (side : Side) (call : Call) (test : CallRecord → Bool) (n : (r : Call
 
   receive-same : (m s : ℕ) (log : Log) → list_any test (calls_of (receive_first m side s log).log) ≡ list_any test (calls_of log)
   receive-same zero s log = logged-same log [] Polled refl
-  receive-same (suc m) s log = at (next_datagram side log) (receive-same m s)
+  receive-same (suc m) s log = by (next_datagram side log) (receive-same m s)
     where
-      at : (o : Option (ℕ × List ℕ)) → ((later : Log) → list_any test (calls_of (receive_first m side s later).log) ≡ list_any test (calls_of later))
+      by : (o : Option (ℕ × List ℕ)) → ((later : Log) → list_any test (calls_of (receive_first m side s later).log) ≡ list_any test (calls_of later))
           → list_any test (calls_of (receive_next side (λ later. receive_first m side s later) s log o).log) ≡ list_any test (calls_of log)
-      at None a = logged-same log [] Polled refl
-      at (Some d) a = received-same (4 * d.0 == s) (λ later. receive_first m side s later) log d.1 a
+      by None a = logged-same log [] Polled refl
+      by (Some d) a = received-same (4 * d.0 == s) (λ later. receive_first m side s later) log d.1 a
 
   performed-same : (log : Log) (p : Plan) → Left call p → list_any test (calls_of (perform side log p).log) ≡ list_any test (calls_of log)
   performed-same log (Step own made reply) l = logged-same log own made l
-  performed-same log (Establish own id at) l = logged-same (log_call side log own (SessionEstablished id at)) [] Polled refl ∙ logged-same log own (SessionEstablished id at) refl
+  performed-same log (Establish own id by) l = logged-same (log_call side log own (SessionEstablished id by)) [] Polled refl ∙ logged-same log own (SessionEstablished id by) refl
   performed-same log (AcceptUni session) l = accept-same (suc (peer_count side (events_of log) (peer_uni side))) replies.Uni (peer_uni side) session log
   performed-same log (AcceptBi session) l = accept-same (suc (peer_count side (events_of log) (peer_bi side))) replies.Bi (peer_bi side) session log
   performed-same log (Receive session) l = receive-same (suc (length (datagrams_of (events_of log)))) session log

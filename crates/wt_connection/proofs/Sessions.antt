@@ -1,7 +1,7 @@
 -- The calls on the established session: their plans are those by the log, and what their replies may be.
 use Rattle.std.specs.Prelude.{[], ◌/◌, ◌∷◌, ◌≡◌, Bool, List, Option, Some, false, if◌then◌else◌, length, nat_lt, not, true, ℕ}
 use Rattle.std.proofs.Common.{◌∙◌, ap, refl, subst, sym}
-use Rattle.wt_halves.proofs.DriverAnswered.{facts_told, leads, reported}
+use Rattle.wt_halves.proofs.DriverAnswered.{facts_reported, leads, reported}
 use Rattle.wt_connection.specs.Openings.{IsOpening, OpeningStream, opening_in, ready_in}
 use Rattle.wt_halves.specs.Replies.{closed_in, closed_poll_reply, ready_reply, sent_in, sent_reply}
 use Rattle.wt_connection.specs.TypesInLog.{IsEstablished}
@@ -82,11 +82,11 @@ sent_comes f side log payload session = sent-if side log (datagram_bytes (sessio
 
 -- of whether and how the connection ended
 pub closed_comes : (f : CallFacts) (side : Side) (log : Log) → let reply = (perform side log (closed_plan f)).reply in closed_poll_reply (closed_in reply) ≡ reply
-closed_comes f side log = at f.is_open
+closed_comes f side log = by f.is_open
   where
-    at : (open_ : Bool) → let reply : Reply = if open_ then replies.Pending else replies.Closed f.transport_error in closed_poll_reply (closed_in reply) ≡ reply
-    at true = refl
-    at false = refl
+    by : (open_ : Bool) → let reply : Reply = if open_ then replies.Pending else replies.Closed f.transport_error in closed_poll_reply (closed_in reply) ≡ reply
+    by true = refl
+    by false = refl
 
 -- of an opening that goes on
 uni-ready : (side : Side) (log : Log) (p : HeadProgress) (id : ℕ) (own : List Action) → is_bidirectional id ≡ false → let reply = (perform side log (header_sent p id own)).reply in ready_reply replies.SendReady (ready_in reply) ≡ reply
@@ -119,54 +119,54 @@ module _ (side : Side) (log : Log) (session : ℕ) (s : IsEstablished log sessio
 
   -- ---- calls that are planned
 
-  module _ (d : DriverValue) (taken : ℕ) (f : Follows side d log taken) (r : IsReachable side log) where
+  module _ (d : DriverValue) (collected : ℕ) (f : Follows side d log collected) (r : IsReachable side log) where
     abbrev now : CallFacts
-    now = facts_now d.inbox.transport (reported side d log taken f r)
+    now = facts_now d.inbox.transport (reported side d log collected f r)
 
     pub open_uni_by_log : opening_plan now (local_uni d.inbox.transport.side) session ≡ plan_of (facts_of side log) (session_state log) calls.OpenUni
     unfolding plan_of
-    open_uni_by_log = ap (λ (x : CallFacts). opening_plan x (local_uni x.side) session) (facts_told side d log taken f r) ∙ had (opening_plan (facts_of side log) (local_uni side))
+    open_uni_by_log = ap (λ (x : CallFacts). opening_plan x (local_uni x.side) session) (facts_reported side d log collected f r) ∙ had (opening_plan (facts_of side log) (local_uni side))
 
     pub open_bi_by_log : opening_plan now (local_bi d.inbox.transport.side) session ≡ plan_of (facts_of side log) (session_state log) calls.OpenBi
     unfolding plan_of
-    open_bi_by_log = ap (λ (x : CallFacts). opening_plan x (local_bi x.side) session) (facts_told side d log taken f r) ∙ had (opening_plan (facts_of side log) (local_bi side))
+    open_bi_by_log = ap (λ (x : CallFacts). opening_plan x (local_bi x.side) session) (facts_reported side d log collected f r) ∙ had (opening_plan (facts_of side log) (local_bi side))
 
     pub datagram_by_log : (payload : List ℕ) → datagram_plan now payload session ≡ plan_of (facts_of side log) (session_state log) (calls.SendDatagram payload)
     unfolding plan_of
-    datagram_by_log payload = ap (λ (x : CallFacts). datagram_plan x payload session) (facts_told side d log taken f r) ∙ had (datagram_plan (facts_of side log) payload)
+    datagram_by_log payload = ap (λ (x : CallFacts). datagram_plan x payload session) (facts_reported side d log collected f r) ∙ had (datagram_plan (facts_of side log) payload)
 
     pub size_by_log : only_reply (replies.Size (payload_limit session d.inbox.transport.datagram_fact)) ≡ plan_of (facts_of side log) (session_state log) calls.MaxDatagramSize
     unfolding plan_of
-    size_by_log = ap (λ (x : CallFacts). only_reply (replies.Size (payload_limit session x.datagram_fact))) (facts_told side d log taken f r)
+    size_by_log = ap (λ (x : CallFacts). only_reply (replies.Size (payload_limit session x.datagram_fact))) (facts_reported side d log collected f r)
         ∙ had (λ k. only_reply (replies.Size (payload_limit k (facts_of side log).datagram_fact)))
 
     pub close_by_log : (code : ℕ) (reason : List ℕ) → close_plan now code reason ≡ plan_of (facts_of side log) (session_state log) (calls.Close code reason)
     unfolding plan_of
-    close_by_log code reason = ap (λ (x : CallFacts). close_plan x code reason) (facts_told side d log taken f r) ∙ had (λ k. close_plan (facts_of side log) code reason)
+    close_by_log code reason = ap (λ (x : CallFacts). close_plan x code reason) (facts_reported side d log collected f r) ∙ had (λ k. close_plan (facts_of side log) code reason)
 
     pub closed_by_log : closed_plan now ≡ plan_of (facts_of side log) (session_state log) calls.Closed
     unfolding plan_of
-    closed_by_log = ap (λ (x : CallFacts). closed_plan x) (facts_told side d log taken f r) ∙ had (λ k. closed_plan (facts_of side log))
+    closed_by_log = ap (λ (x : CallFacts). closed_plan x) (facts_reported side d log collected f r) ∙ had (λ k. closed_plan (facts_of side log))
 
     pub open_uni_planned : (t : TransportState) → t ≡ d.inbox.transport → (p : planning.Plan) → ((x : DriverAnswers) → defined_plan p ≡ opening_plan (facts_now t x) (local_uni t.side) session) → defined_plan p ≡ plan_of (facts_of side log) (session_state log) calls.OpenUni
     open_uni_planned t same p e =
-        e (reported side d log taken f r) ∙ ap (λ (u : TransportState). opening_plan (facts_now u (reported side d log taken f r)) (local_uni u.side) session) same ∙ open_uni_by_log
+        e (reported side d log collected f r) ∙ ap (λ (u : TransportState). opening_plan (facts_now u (reported side d log collected f r)) (local_uni u.side) session) same ∙ open_uni_by_log
 
     pub open_bi_planned : (t : TransportState) → t ≡ d.inbox.transport → (p : planning.Plan) → ((x : DriverAnswers) → defined_plan p ≡ opening_plan (facts_now t x) (local_bi t.side) session) → defined_plan p ≡ plan_of (facts_of side log) (session_state log) calls.OpenBi
     open_bi_planned t same p e =
-        e (reported side d log taken f r) ∙ ap (λ (u : TransportState). opening_plan (facts_now u (reported side d log taken f r)) (local_bi u.side) session) same ∙ open_bi_by_log
+        e (reported side d log collected f r) ∙ ap (λ (u : TransportState). opening_plan (facts_now u (reported side d log collected f r)) (local_bi u.side) session) same ∙ open_bi_by_log
 
     pub datagram_planned : (payload : List ℕ) → (t : TransportState) → t ≡ d.inbox.transport → (p : planning.Plan) → ((x : DriverAnswers) → defined_plan p ≡ datagram_plan (facts_now t x) payload session) → defined_plan p ≡ plan_of (facts_of side log) (session_state log) (calls.SendDatagram payload)
     datagram_planned payload t same p e =
-        e (reported side d log taken f r) ∙ ap (λ (u : TransportState). datagram_plan (facts_now u (reported side d log taken f r)) payload session) same ∙ datagram_by_log payload
+        e (reported side d log collected f r) ∙ ap (λ (u : TransportState). datagram_plan (facts_now u (reported side d log collected f r)) payload session) same ∙ datagram_by_log payload
 
     pub close_planned : (code : ℕ) (reason : List ℕ) → (t : TransportState) → t ≡ d.inbox.transport → (p : planning.Plan) → ((x : DriverAnswers) → defined_plan p ≡ close_plan (facts_now t x) code reason) → defined_plan p ≡ plan_of (facts_of side log) (session_state log) (calls.Close code reason)
     close_planned code reason t same p e =
-        e (reported side d log taken f r) ∙ ap (λ (u : TransportState). close_plan (facts_now u (reported side d log taken f r)) code reason) same ∙ close_by_log code reason
+        e (reported side d log collected f r) ∙ ap (λ (u : TransportState). close_plan (facts_now u (reported side d log collected f r)) code reason) same ∙ close_by_log code reason
 
     pub closed_planned : (t : TransportState) → t ≡ d.inbox.transport → (p : planning.Plan) → ((x : DriverAnswers) → defined_plan p ≡ closed_plan (facts_now t x)) → defined_plan p ≡ plan_of (facts_of side log) (session_state log) calls.Closed
     closed_planned t same p e =
-        e (reported side d log taken f r) ∙ ap (λ (u : TransportState). closed_plan (facts_now u (reported side d log taken f r))) same ∙ closed_by_log
+        e (reported side d log collected f r) ∙ ap (λ (u : TransportState). closed_plan (facts_now u (reported side d log collected f r))) same ∙ closed_by_log
 
     pub open_uni_comes : let reply = (call_effect side log calls.OpenUni).reply in poll_reply replies.Opening (opening_in reply) ≡ reply
     open_uni_comes = subst (λ (x : Effect). poll_reply replies.Opening (opening_in x.reply) ≡ x.reply) (leads side log calls.OpenUni (opening_plan now (local_uni d.inbox.transport.side) session) open_uni_by_log)
@@ -190,14 +190,14 @@ module _ (side : Side) (log : Log) (session : ℕ) (s : IsEstablished log sessio
     close_replies code reason = ap (λ (x : Effect). x.reply) (leads side log (calls.Close code reason) _ (close_by_log code reason))
 
 -- a stream that is being opened for the session
-module _ (side : Side) (d : DriverValue) (log : Log) (taken : ℕ) (f : Follows side d log taken) (r : IsReachable side log) (kind : Bool) (o : OpeningStream) (s : IsOpening kind log o) where
-  pub poll_by_log : header_left (facts_now d.inbox.transport (reported side d log taken f r)) o.id (left_of (facts_now d.inbox.transport (reported side d log taken f r)) o.id (stream_header o.id o.session))
+module _ (side : Side) (d : DriverValue) (log : Log) (collected : ℕ) (f : Follows side d log collected) (r : IsReachable side log) (kind : Bool) (o : OpeningStream) (s : IsOpening kind log o) where
+  pub poll_by_log : header_left (facts_now d.inbox.transport (reported side d log collected f r)) o.id (left_of (facts_now d.inbox.transport (reported side d log collected f r)) o.id (stream_header o.id o.session))
       ≡ plan_of (facts_of side log) (session_state log) (calls.PollOpening o.id)
   unfolding plan_of
   poll_by_log =
       let own = facts_of side log in
       let left : Plan = header_left own o.id (left_of own o.id (stream_header o.id o.session)) in
-      ap (λ (x : CallFacts). header_left x o.id (left_of x o.id (stream_header o.id o.session))) (facts_told side d log taken f r)
+      ap (λ (x : CallFacts). header_left x o.id (left_of x o.id (stream_header o.id o.session))) (facts_reported side d log collected f r)
       ∙ sym (ap (λ b. if b then left else only_reply replies.NoStream) (same-opening log o.id ∙ s.opens))
       ∙ had side log o.session s.session (poll_plan own (session_state log) o.id)
 
@@ -205,13 +205,13 @@ module _ (side : Side) (d : DriverValue) (log : Log) (taken : ℕ) (f : Follows 
       → ((x : DriverAnswers) → defined_plan p ≡ header_left (facts_now t x) o.id (left_of (facts_now t x) o.id (stream_header o.id o.session)))
       → defined_plan p ≡ plan_of (facts_of side log) (session_state log) (calls.PollOpening o.id)
   poll_planned t same p e =
-      let own = reported side d log taken f r in
+      let own = reported side d log collected f r in
       e own ∙ ap (λ (u : TransportState). header_left (facts_now u own) o.id (left_of (facts_now u own) o.id (stream_header o.id o.session))) same ∙ poll_by_log
 
   -- its reply gives a unidirectional stream
   pub uni_ready_comes : kind ≡ false → let reply = (call_effect side log (calls.PollOpening o.id)).reply in ready_reply replies.SendReady (ready_in reply) ≡ reply
   uni_ready_comes k =
-      let now = facts_now d.inbox.transport (reported side d log taken f r) in
+      let now = facts_now d.inbox.transport (reported side d log collected f r) in
       let left = left_of now o.id (stream_header o.id o.session) in
       subst (λ (x : Effect). ready_reply replies.SendReady (ready_in x.reply) ≡ x.reply) (leads side log (calls.PollOpening o.id) (header_left now o.id left) poll_by_log)
       (uni-ready side log (head_progress_of now o.id left) o.id (actions_of_head now o.id left) (s.kind ∙ k))
@@ -219,7 +219,7 @@ module _ (side : Side) (d : DriverValue) (log : Log) (taken : ℕ) (f : Follows 
   -- or a bidirectional one
   pub bi_ready_comes : kind ≡ true → let reply = (call_effect side log (calls.PollOpening o.id)).reply in ready_reply replies.BiReady (ready_in reply) ≡ reply
   bi_ready_comes k =
-      let now = facts_now d.inbox.transport (reported side d log taken f r) in
+      let now = facts_now d.inbox.transport (reported side d log collected f r) in
       let left = left_of now o.id (stream_header o.id o.session) in
       subst (λ (x : Effect). ready_reply replies.BiReady (ready_in x.reply) ≡ x.reply) (leads side log (calls.PollOpening o.id) (header_left now o.id left) poll_by_log)
       (bi-ready side log (head_progress_of now o.id left) o.id (actions_of_head now o.id left) (s.kind ∙ k))

@@ -38,12 +38,12 @@ pub any-entry : (test : CallRecord → Bool) (e : Entry) (log : Log) → list_an
 any-entry test (Called r) log p = or_right (test r) _ p
 any-entry test _ log p = p
 
-any-behind : (test : CallRecord → Bool) (more log : Log) → list_any test (calls_of log) ≡ true → list_any test (calls_of (more ++ log)) ≡ true
-any-behind test [] log p = p
-any-behind test (e ∷ more) log p = any-entry test e (more ++ log) (any-behind test more log p)
+any-after : (test : CallRecord → Bool) (more log : Log) → list_any test (calls_of log) ≡ true → list_any test (calls_of (more ++ log)) ≡ true
+any-after test [] log p = p
+any-after test (e ∷ more) log p = any-entry test e (more ++ log) (any-after test more log p)
 
 pub any-stays : (test : CallRecord → Bool) (log later : Log) → GoesOnFrom log later → list_any test (calls_of log) ≡ true → list_any test (calls_of later) ≡ true
-any-stays test log later g p = ap (λ (l : Log). list_any test (calls_of l)) g.1 ∙ any-behind test g.0 log p
+any-stays test log later g p = ap (λ (l : Log). list_any test (calls_of l)) g.1 ∙ any-after test g.0 log p
 
 turn-goes-on : (side : Side) (log : Log) (turn : Turn) → is_lawful side log turn ≡ true → GoesOnFrom log (log_after side log turn)
 turn-goes-on side log turn l = let d = decided-during side log turn l in both (caused side turn log l).decided d.from_start d.to_end
@@ -62,19 +62,19 @@ fails_opening k (OpeningFailed id) = id == k
 fails_opening k _ = false
 
 not-given-up : (k : ℕ) (call : Call) → gives_half_up k (turns.Call call) ≡ false → (r : CallRecord) → is_left_by r call ≡ true → gives_up k r ≡ false
-not-given-up k call n (StreamGivenUp j) e = at call n e
+not-given-up k call n (StreamGivenUp j) e = by call n e
   where
-    at : (c : Call) → gives_half_up k (turns.Call c) ≡ false → is_left_by (StreamGivenUp j) c ≡ true → (j == k) ≡ false
-    at (calls.StopRecv id code) n e = subst (λ (i : ℕ). (i == k) ≡ false) (eqb-true id j e) n
-    at _ n e = absurd (cc)
+    by : (c : Call) → gives_half_up k (turns.Call c) ≡ false → is_left_by (StreamGivenUp j) c ≡ true → (j == k) ≡ false
+    by (calls.StopRecv id code) n e = subst (λ (i : ℕ). (i == k) ≡ false) (eqb-true id j e) n
+    by _ n e = absurd (cc)
 not-given-up k call n _ e = refl
 
 not-failed : (k : ℕ) (call : Call) → polls_opening k (turns.Call call) ≡ false → (r : CallRecord) → is_left_by r call ≡ true → fails_opening k r ≡ false
-not-failed k call n (OpeningFailed j) e = at call n e
+not-failed k call n (OpeningFailed j) e = by call n e
   where
-    at : (c : Call) → polls_opening k (turns.Call c) ≡ false → is_left_by (OpeningFailed j) c ≡ true → (j == k) ≡ false
-    at (calls.PollOpening id) n e = subst (λ (i : ℕ). (i == k) ≡ false) (eqb-true id j e) n
-    at _ n e = absurd (cc)
+    by : (c : Call) → polls_opening k (turns.Call c) ≡ false → is_left_by (OpeningFailed j) c ≡ true → (j == k) ≡ false
+    by (calls.PollOpening id) n e = subst (λ (i : ℕ). (i == k) ≡ false) (eqb-true id j e) n
+    by _ n e = absurd (cc)
 not-failed k call n _ e = refl
 
 pub given-up-same : (side : Side) (log : Log) (turn : Turn) (k : ℕ) → gives_half_up k turn ≡ false → list_any (gives_up k) (calls_of (log_after side log turn)) ≡ list_any (gives_up k) (calls_of log)
@@ -141,12 +141,12 @@ module _ (side : Side) (turn : Turn) (k : ℕ) (n : polls_opening k turn ≡ fal
   not-opened log id x e = absurd (let p = subst (λ (j : ℕ). polls_opening j turn ≡ true) (eqb-true id k e) x.polls in cc)
 
   not-given : (log : Log) (r : CallRecord) → Ungiven side k log → RecordCause side turn log r → accepts_stream k r ≡ false
-  not-given log (StreamAccepted id) h c = at (id == k) refl c
+  not-given log (StreamAccepted id) h c = by (id == k) refl c
     where
-      at : (b : Bool) → (id == k) ≡ b → AcceptCause side turn log id → b ≡ false
-      at false e c = refl
-      at true e (ByAccept x) = absurd (not-found log id h x e)
-      at true e (ByOpening x) = absurd (not-opened log id x e)
+      by : (b : Bool) → (id == k) ≡ b → AcceptCause side turn log id → b ≡ false
+      by false e c = refl
+      by true e (ByAccept x) = absurd (not-found log id h x e)
+      by true e (ByOpening x) = absurd (not-opened log id x e)
   not-given log _ h c = refl
 
   entries-ungiven : KeepsEntries side turn (Ungiven side k)

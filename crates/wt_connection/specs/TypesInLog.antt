@@ -1,7 +1,7 @@
 -- What a session's types stand for in a log.
 use Rattle.std.specs.Prelude.{◌≡◌, Err, Ok, Result, Some, ℕ}
 use Rattle.wt_driver_state.specs.DriverValue.{DriverValue}
-use Rattle.wt_halves.specs.Answering.{StandsBehind}
+use Rattle.wt_halves.specs.Answering.{StandsAfter}
 use Rattle.wt_spec.specs.Driver.{established_session}
 use Rattle.wt_turn.specs.Log.{Log, calls_of}
 use Rattle.wt_turn.specs.declared.call.Call.{Call}
@@ -31,8 +31,8 @@ IfPending (Ready answer) P = Unit {0}
 
 -- what the answer of this call gives stands for the log after it
 abbrev pub Gives : {T E : Type 0} → DriverValue → (Side → Log → Type 0) → Call → (T → Side → Log → Type 0) → Poll (Result T E) → Type 0
-Gives d Holds call StandsThen answer = StandsBehind d Holds call (λ side log. IfGiven answer (λ item. StandsThen item side log))
+Gives d Holds call StandsThen answer = StandsAfter d Holds call (λ side log. IfGiven answer (λ item. StandsThen item side log))
 
 -- while this call waits, what is polled stands for the log after it
 abbrev pub WaitsOn : {T : Type 0} → DriverValue → (Side → Log → Type 0) → Call → Poll T → Type 0
-WaitsOn d Holds call answer = StandsBehind d Holds call (λ side log. IfPending answer (Holds side log))
+WaitsOn d Holds call answer = StandsAfter d Holds call (λ side log. IfPending answer (Holds side log))

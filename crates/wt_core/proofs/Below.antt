@@ -7,14 +7,14 @@ use Rattle.wt_spec.specs.Answers.{may_call}
 use Rattle.wt_driver_state.specs.DriverValue.{DriverValue}
 use Rattle.wt_call_answers.proofs.Admitted.{may_call_kept}
 use Rattle.wt_call_answers.specs.Keeping.{Keeps, SessionValue, may_call_of}
-use Rattle.wt_driver_state.specs.Tie.{Follows, untaken_since}
+use Rattle.wt_driver_state.specs.Tie.{Follows, uncollected_since}
 use Rattle.wt_turn.specs.Log.{Log}
 use Rattle.wt_turn.specs.declared.call.Call.{Call}
 use Rattle.wt_turn.specs.declared.turn.Turn.{Turn}
 use Rattle.wt_wire.specs.declared.side.Side.{Side}
 
-pub driver_fits : (side : Side) (d : DriverValue) (log : Log) (taken : ℕ) (turn : Turn) → Follows side d log taken → fits_now d.inbox.transport turn ≡ fits side log turn
-driver_fits side d log taken turn r = refined_fits side d.inbox.transport log r.refines.inbox.position (untaken_since taken log) r.refines.inbox.transport turn
+pub driver_fits : (side : Side) (d : DriverValue) (log : Log) (collected : ℕ) (turn : Turn) → Follows side d log collected → fits_now d.inbox.transport turn ≡ fits side log turn
+driver_fits side d log collected turn r = refined_fits side d.inbox.transport log r.refines.inbox.position (uncollected_since collected log) r.refines.inbox.transport turn
 
 pub session_calls : (side : Side) (s : SessionValue) (log : Log) (call : Call) → Keeps side s log → may_call_of side s call ≡ may_call side log call
 session_calls = may_call_kept

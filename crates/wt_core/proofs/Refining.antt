@@ -72,21 +72,21 @@ fits_lawful side log _ f = f
 
 -- ---- after a turn
 
--- the answer is the reply and the actions that weren't taken yet
+-- the answer is the reply and the actions that weren't collected yet
 pub answer_is : (side : Side) (log : Log) (turn : Turn) (reply : Reply) (actions : List Action) → reply ≡ (turn_effect side log turn).reply → actions ≡ actions_since log (turn_effect side log turn).log
     → record { reply = reply; actions = actions } ≡ answer_to side log turn
 answer_is side log turn reply actions e f = rw (e, f) refl
 
--- a core whose driver's actions were taken refines the log
+-- a core whose driver's actions were collected refines the log
 pub taken_refines : (m k : CoreState) (side : Side) (d : DriverValue) (log : Log) → m ≡ k → k.failed ≡ false → k.side ≡ side → Follows side d log (length (actions_of log)) → Keeps side k.session log
     → IsReachable side log → Refines (record m { driver = d }) log
 taken_refines m k side d log e works s follows keeps reached =
-    let at : m.side ≡ side = ap (λ (x : CoreState). x.side) e ∙ s in
+    let offset : m.side ≡ side = ap (λ (x : CoreState). x.side) e ∙ s in
     record {
       works = ap (λ (x : CoreState). x.failed) e ∙ works;
-      driver = subst (λ (x : Side). Follows x d log (length (actions_of log))) (sym at) follows;
-      session = subst (λ (x : Side). Keeps x m.session log) (sym at) (subst (λ (x : CoreState). Keeps side x.session log) (sym e) keeps);
-      reached = subst (λ (x : Side). IsReachable x log) (sym at) reached;
+      driver = subst (λ (x : Side). Follows x d log (length (actions_of log))) (sym offset) follows;
+      session = subst (λ (x : Side). Keeps x m.session log) (sym offset) (subst (λ (x : CoreState). Keeps side x.session log) (sym e) keeps);
+      reached = subst (λ (x : Side). IsReachable x log) (sym offset) reached;
     }
 
 -- a lawful turn leads from a reachable log to another one

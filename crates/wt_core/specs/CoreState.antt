@@ -26,7 +26,7 @@ may_come_next k turn = fits_now k.driver.inbox.transport turn
 abbrev pub may_turn : CoreState → Turn → Bool
 may_turn k turn = k.failed || may_come_next k turn
 
--- what is kept is that of this log, to which lawful turns lead and all of whose actions were taken
+-- what is kept is that of this log, to which lawful turns lead and all of whose actions were collected
 pub record Refines (k : CoreState) (log : Log) : Type 0 where
   pub works : k.failed ≡ false
   pub driver : Follows k.side k.driver log (length (actions_of log))

@@ -26,17 +26,17 @@ module _ {S O : Type 0} (decide : S → List ℕ → Step S O) (steady : IsStead
     -- a reader that took all of a piece, or as much as it needs, stands as if it had taken all
     pub fed-whole : (old new : Reading S O) (piece : List ℕ) (n : ℕ) → old.end ≡ Running → n ≤ length piece → new ≡ fed_reading decide old (take n piece)
         → (n < length piece → final (outcome_in unfinished new) ≡ true) → new ≡ fed_reading decide old piece
-    fed-whole old new piece n runs within taken stops_short =
+    fed-whole old new piece n runs within fed stops_short =
         elim (cases_lt n (length piece)) [
           | inl lt ↦
-              let front : new.progress ≡ progress_after decide old.progress (take n piece) = ap (λ (r : Reading S O). r.progress) taken in
-              let still : progress_after decide new.progress (drop n piece) ≡ new.progress = stays decide final unfinished still_going new (drop n piece) (ap (λ (r : Reading S O). r.end) taken ∙ runs) (stops_short lt) in
+              let front : new.progress ≡ progress_after decide old.progress (take n piece) = ap (λ (r : Reading S O). r.progress) fed in
+              let still : progress_after decide new.progress (drop n piece) ≡ new.progress = stays decide final unfinished still_going new (drop n piece) (ap (λ (r : Reading S O). r.end) fed ∙ runs) (stops_short lt) in
               let whole : progress_after decide new.progress (drop n piece) ≡ progress_after decide old.progress piece =
               ap (λ (p : WalkProgress S O). progress_after decide p (drop n piece)) front
               ∙ (fed-fed decide steady old.progress (take n piece) (drop n piece)
               ∙ ap (λ (xs : List ℕ). progress_after decide old.progress xs) (take-append-drop n piece)) in
-              taken ∙ ap (λ (p : WalkProgress S O). record { progress = p; end = old.end }) (sym front ∙ (sym still ∙ whole))
-          | inr le ↦ taken ∙ ap (λ (xs : List ℕ). fed_reading decide old xs) (take_all n piece le)
+              fed ∙ ap (λ (p : WalkProgress S O). record { progress = p; end = old.end }) (sym front ∙ (sym still ∙ whole))
+          | inr le ↦ fed ∙ ap (λ (xs : List ℕ). fed_reading decide old xs) (take_all n piece le)
         ]
 
   module _ (old new : Reading S O) (t u : TransportState) (id : ℕ) (piece : List ℕ) (is : piece ≡ first_piece (pieces_now t id)) (reading : new ≡ fed_reading decide old piece) (after : u ≡ after_consume t id (length piece)) where

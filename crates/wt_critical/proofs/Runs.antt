@@ -37,9 +37,9 @@ module _ (old : ControlWatched) (o : Option RemoteUni) (s : RemoteUni) (r : Cont
   was-inside : (bytes : List ℕ) → WasRead control_decides None old.reading bytes → WasRead control_decides None r bytes
   was-inside bytes was = ap (λ (w : ControlWatched). w.reading.progress) view ∙ was
 
-  pub control-told : (is_open : Bool) → is_open ≡ t.is_open → (shown : Option DriverError) → shown ≡ shown_by_fault (outcome_in control_unfinished (read_on control_decides r (unread_now t id) (end_now t id))).fault
+  pub control-reported : (is_open : Bool) → is_open ≡ t.is_open → (shown : Option DriverError) → shown ≡ shown_by_fault (outcome_in control_unfinished (read_on control_decides r (unread_now t id) (end_now t id))).fault
       → (result : Poll DriverError) → result ≡ shown_or_ended is_open shown → (bytes : List ℕ) → WasRead control_decides None old.reading bytes → result ≡ control_answer old.stream t bytes
-  control-told is_open open_is shown shown_is result result_is bytes was =
+  control-reported is_open open_is shown shown_is result result_is bytes was =
       result_is
       ∙ (ap (λ b. shown_or_ended b shown) open_is
       ∙ (ap (λ x. shown_or_ended t.is_open x) shown_is
@@ -81,10 +81,10 @@ settings-at None (Reset code) settings between = refl
 
 pub settings_read : (r : Reading (Option Settings) ControlWalk) (bytes : List ℕ) → WasRead control_decides None r bytes → (outcome_in control_unfinished r).settings ≡ (control_walk_of bytes Running).settings
 settings_read r bytes was =
-    let at : Reached (Option Settings) ControlWalk = whole_walk control_decides None bytes in
+    let offset : Reached (Option Settings) ControlWalk = whole_walk control_decides None bytes in
     ap (λ (p : WalkProgress (Option Settings) ControlWalk). (outcome_at control_unfinished r.end (reached_in p)).settings) was
     ∙ (ap (λ (x : Reached (Option Settings) ControlWalk). (outcome_at control_unfinished r.end x).settings) (sym (walk-progress control_decides bytes None None 0))
-    ∙ (settings-at at.stop r.end at.state at.between
+    ∙ (settings-at offset.stop r.end offset.state offset.between
     ∙ ap (λ (w : ControlWalk). w.settings) (sym (control_lawful.reaches bytes Running))))
 
 -- ---- a session's stream
@@ -102,9 +102,9 @@ module _ (old : SessionWatched) (o : Option SessionStream) (s : SessionStream) (
   session-inside : (bytes : List ℕ) → WasRead session_decides tt old.reading bytes → WasRead session_decides tt r bytes
   session-inside bytes was = ap (λ (w : SessionWatched). w.reading.progress) view ∙ was
 
-  pub session-told : (is_open : Bool) → is_open ≡ t.is_open → (shown : Option DriverError) → shown ≡ shown_by_walk (outcome_in session_unfinished (read_on session_decides r (unread_now t id) (end_now t id)))
+  pub session-reported : (is_open : Bool) → is_open ≡ t.is_open → (shown : Option DriverError) → shown ≡ shown_by_walk (outcome_in session_unfinished (read_on session_decides r (unread_now t id) (end_now t id)))
       → (result : Poll DriverError) → result ≡ shown_or_ended is_open shown → (bytes : List ℕ) → WasRead session_decides tt old.reading bytes → result ≡ session_answer old.stream t bytes
-  session-told is_open open_is shown shown_is result result_is bytes was =
+  session-reported is_open open_is shown shown_is result result_is bytes was =
       result_is
       ∙ (ap (λ b. shown_or_ended b shown) open_is
       ∙ (ap (λ x. shown_or_ended t.is_open x) shown_is

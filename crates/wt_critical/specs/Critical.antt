@@ -91,7 +91,7 @@ abbrev pub shown_or_ended : Bool → Option DriverError → Poll DriverError
 shown_or_ended open_ (Some error) = polls.Ready error
 shown_or_ended open_ None = if open_ then polls.Pending else polls.Ready errors.NotConnected
 
--- what a run answers on this end's control stream: nothing is told where none is set
+-- what a run answers on this end's control stream: nothing is reported where none is set
 abbrev pub local_answer : Option LocalUni → TransportState → Poll DriverError
 local_answer None t = polls.Pending
 local_answer (Some s) t = shown_or_ended t.is_open (shown_by_stop (stop_now t s.halves.id))

@@ -27,7 +27,7 @@ fn feed_counted<W: Walk, L: Ledger>(
     requires parts { blank.parts ≡ L.parts }
     requires some { 0 < L.parts }
     ensures within { IfOk result (λ n. n ≤ length piece.now) }
-    ensures taken { IfOk result (λ n. reader.new ≡ fed_reading W.decides reader.old (take n piece.now)) }
+    ensures fed { IfOk result (λ n. reader.new ≡ fed_reading W.decides reader.old (take n piece.now)) }
     ensures stops_short { IfOk result (λ n. n < length piece.now → W.is_final_outcome (outcome_in W.unfinished_at reader.new) ≡ true) }
 {
     let mut steps = Steps::<L>::new(blank);
@@ -41,8 +41,8 @@ fn feed<W: Walk>(reader: &mut StreamReader<W>, piece: &[u8]) -> Result<(), OutOf
     requires runs { reader.old.end ≡ Running }
     ensures { OnOk result (reader.new ≡ fed_reading W.decides reader.old piece.now) }
 {
-    let taken = feed_counted::<W, Brand>(reader, piece, Blank::new(1));
-    match taken {
+    let consumed = feed_counted::<W, Brand>(reader, piece, Blank::new(1));
+    match consumed {
         Ok(_) => Ok(()),
         Err(error) => Err(error),
     }

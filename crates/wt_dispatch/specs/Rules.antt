@@ -21,6 +21,6 @@ slots_of Bi = 1
 abbrev pub reads_no_more : Verdict → Bool
 reads_no_more verdicts.Dropped = true
 reads_no_more (verdicts.Refused code) = true
-reads_no_more (verdicts.Encoder at) = true
-reads_no_more (verdicts.Decoder at) = true
+reads_no_more (verdicts.Encoder offset) = true
+reads_no_more (verdicts.Decoder offset) = true
 reads_no_more _ = false

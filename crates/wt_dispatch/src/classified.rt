@@ -36,7 +36,7 @@ impl Classified {
         ensures { request_as result ≡ request_in self.now.id self.now.verdict }
     {
         match &self.verdict {
-            Verdict::Request(request, at) => Some((self.id, request, *at)),
+            Verdict::Request(request, offset) => Some((self.id, request, *offset)),
             _ => None,
         }
     }

@@ -6,7 +6,7 @@ ghost use Rattle.wt_dispatch.specs.Rules.{consequence_of};
 ghost use Rattle.wt_driver_spec.specs.Due.{due_stream};
 ghost use Rattle.wt_driver_spec.specs.Step.{dispatch, is_other};
 ghost use Rattle.wt_spec.specs.Connection.{first_of, is_due};
-ghost use Rattle.wt_spec.specs.StreamTable.{bi_consequence, kept_if, only, only_once, or_later, queued_behind, uni_consequence};
+ghost use Rattle.wt_spec.specs.StreamTable.{bi_consequence, kept_if, only, only_once, or_later, queued_after, uni_consequence};
 
 use crate::classified::{Classified, Consequence, is_for_session};
 use crate::slot::Half;
@@ -48,17 +48,17 @@ fn only_once(before: Option<(StreamId, usize)>) -> Consequence
     }
 }
 
-fn note_first(first: &mut Option<(StreamId, usize)>, id: StreamId, at: usize)
-    ensures { first.new ≡ or_later first.old (Some (id, at)) }
+fn note_first(first: &mut Option<(StreamId, usize)>, id: StreamId, offset: usize)
+    ensures { first.new ≡ or_later first.old (Some (id, offset)) }
 {
     if first.is_none() {
-        *first = Some((id, at));
+        *first = Some((id, offset));
     }
 }
 
 /// A request where these are queued.
-fn queued_behind(requests: &[Classified], id: StreamId) -> Consequence
-    ensures { result ≡ queued_behind requests.now id }
+fn queued_after(requests: &[Classified], id: StreamId) -> Consequence
+    ensures { result ≡ queued_after requests.now id }
 {
     match requests {
         [] => Consequence::none(),
@@ -76,13 +76,13 @@ fn is_due(classified: &Classified, is_open: bool, kind: u64, session: SessionId)
 fn remove(classified: &mut Vec<Classified>, id: StreamId)
     ensures { classified.new.items ≡ only (is_other id) classified.old.items }
 {
-    let mut at = 0;
-    while at < classified.len() {
-        let stream = &classified[at];
+    let mut index = 0;
+    while index < classified.len() {
+        let stream = &classified[index];
         if stream.id == id {
-            let _gone = classified.remove(at);
+            let _gone = classified.remove(index);
         } else {
-            at += 1;
+            index += 1;
         }
     }
 }
@@ -152,7 +152,7 @@ impl DispatchedStreams {
         match verdict {
             Verdict::Fault(code) => Consequence::faulty(*code),
             Verdict::Refused(code) => Consequence::stopped(false, id, *code),
-            Verdict::Request(_, _) => queued_behind(self.requests.as_slice(), id),
+            Verdict::Request(_, _) => queued_after(self.requests.as_slice(), id),
             _ => Consequence::none(),
         }
     }
@@ -184,22 +184,22 @@ impl DispatchedStreams {
         Ok(())
     }
 
-    fn note_control(&mut self, id: StreamId, at: usize)
-        ensures { self.new ≡ record self.old { control = or_later self.old.control (Some (id, at)) } }
+    fn note_control(&mut self, id: StreamId, offset: usize)
+        ensures { self.new ≡ record self.old { control = or_later self.old.control (Some (id, offset)) } }
     {
-        note_first(&mut self.control, id, at);
+        note_first(&mut self.control, id, offset);
     }
 
-    fn note_encoder(&mut self, id: StreamId, at: usize)
-        ensures { self.new ≡ record self.old { encoder = or_later self.old.encoder (Some (id, at)) } }
+    fn note_encoder(&mut self, id: StreamId, offset: usize)
+        ensures { self.new ≡ record self.old { encoder = or_later self.old.encoder (Some (id, offset)) } }
     {
-        note_first(&mut self.encoder, id, at);
+        note_first(&mut self.encoder, id, offset);
     }
 
-    fn note_decoder(&mut self, id: StreamId, at: usize)
-        ensures { self.new ≡ record self.old { decoder = or_later self.old.decoder (Some (id, at)) } }
+    fn note_decoder(&mut self, id: StreamId, offset: usize)
+        ensures { self.new ≡ record self.old { decoder = or_later self.old.decoder (Some (id, offset)) } }
     {
-        note_first(&mut self.decoder, id, at);
+        note_first(&mut self.decoder, id, offset);
     }
 
     /// One more classified stream.
@@ -207,9 +207,9 @@ impl DispatchedStreams {
         ensures { OnOk result (self.new ≡ dispatch self.old classified) }
     {
         match &classified.verdict {
-            Verdict::Control(at) => self.note_control(classified.id, *at),
-            Verdict::Encoder(at) => self.note_encoder(classified.id, *at),
-            Verdict::Decoder(at) => self.note_decoder(classified.id, *at),
+            Verdict::Control(offset) => self.note_control(classified.id, *offset),
+            Verdict::Encoder(offset) => self.note_encoder(classified.id, *offset),
+            Verdict::Decoder(offset) => self.note_decoder(classified.id, *offset),
             Verdict::Request(_, _) => self.queue(classified)?,
             Verdict::WebTransport(_, _) => self.wait(classified)?,
             _ => {}

@@ -36,7 +36,7 @@ pub struct Driver {
     control_opened: bool,
     control_sent: usize,
     /// So many datagrams were received or passed.
-    settled_datagrams: u64,
+    released_datagrams: u64,
     /// The datagrams that came after those.
     queue: VecDeque<Piece>,
     session: Option<(StreamId, usize)>,
@@ -57,7 +57,7 @@ impl Drop for Driver {
             progress: _,
             control_opened: _,
             control_sent: _,
-            settled_datagrams: _,
+            released_datagrams: _,
             queue: _,
             session: _,
             settings: _,
@@ -79,7 +79,7 @@ impl Model for Driver {
         dispatched = d.dispatched;
         progress = d.progress;
         control_sent = record { opened = d.control_opened; sent = d.control_sent };
-        datagrams = d.settled_datagrams;
+        datagrams = d.released_datagrams;
         session = d.session;
         is_open = d.inbox.transport.is_open;
       };
@@ -90,7 +90,7 @@ impl Model for Driver {
 }
 
 impl Driver {
-    /// The driver of a connection of which nothing was told yet.
+    /// The driver of a connection of which nothing was reported yet.
     pub fn init(alloc: Global, side: Side) -> Driver
         ensures inbox { result.inbox ≡ nothing_read side }
         ensures state { result.state ≡ first_state true }
@@ -108,7 +108,7 @@ impl Driver {
             progress: ConnectionProgress::new(alloc),
             control_opened: false,
             control_sent: 0,
-            settled_datagrams: 0,
+            released_datagrams: 0,
             queue: VecDeque::new(alloc),
             session: None,
             settings: None,

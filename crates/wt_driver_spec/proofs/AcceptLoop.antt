@@ -66,34 +66,34 @@ module _ (t : TransportView) (kind session : ℕ) where
       ≡ record { state = scan_if s.is_open t (release id s); actions = acts ++ actions_if s.is_open t (release id s) }
   stream-gives id s acts = refl
 
--- a datagram is settled
-abbrev pub settle_datagram : DriverState → DriverState
-settle_datagram s = record s { datagrams = s.datagrams + 1 }
+-- a datagram is released
+abbrev pub release_datagram : DriverState → DriverState
+release_datagram s = record s { datagrams = s.datagrams + 1 }
 
 module _ (t : TransportView) (session : ℕ) where
   pub datagram-passes : (payload : List ℕ) (s : DriverState) (acts : List Action)
       → (state_datagrams t session).pass payload (record { state = s; actions = acts })
-      ≡ record { state = scan_if s.is_open t (settle_datagram s); actions = acts ++ actions_if s.is_open t (settle_datagram s) }
+      ≡ record { state = scan_if s.is_open t (release_datagram s); actions = acts ++ actions_if s.is_open t (release_datagram s) }
   datagram-passes payload s acts = refl
 
   pub datagram-gives : (payload : List ℕ) (s : DriverState) (acts : List Action)
       → (state_datagrams t session).give payload (record { state = s; actions = acts })
-      ≡ record { state = scan_if s.is_open t (settle_datagram s); actions = acts ++ actions_if s.is_open t (settle_datagram s) }
+      ≡ record { state = scan_if s.is_open t (release_datagram s); actions = acts ++ actions_if s.is_open t (release_datagram s) }
   datagram-gives payload s acts = refl
 
 -- ---- the loop
 
 module _ {S T : Type 0} (rule : DueRule S T) (n i : ℕ) (x : S) (whole : DueOutcome S T) (so_far : whole ≡ take_due rule (n - i) x) where
-  next-look : i < n → whole ≡ take_next rule (λ u. take_due rule (n - suc i) u) x (rule.next x)
+  next-look : i < n → whole ≡ take_next rule (λ u. take_due rule (n - suc i) u) x (rule.due_now x)
   next-look lt = so_far ∙ ap (λ m. take_due rule m x) (let e : n - i ≡ suc (n - suc i) = omega arith in e)
 
-  pub none-due : i < n → rule.next x ≡ None → whole ≡ record { state = x; given = None }
+  pub none-due : i < n → rule.due_now x ≡ None → whole ≡ record { state = x; given = None }
   none-due lt e = next-look lt ∙ rw e refl
 
-  pub own-due : (item : T) → i < n → rule.next x ≡ Some (record { item = item; is_own = true }) → whole ≡ record { state = rule.give item x; given = Some item }
+  pub own-due : (item : T) → i < n → rule.due_now x ≡ Some (record { item = item; is_own = true }) → whole ≡ record { state = rule.give item x; given = Some item }
   own-due item lt e = next-look lt ∙ rw e refl
 
-  pub other-due : (item : T) → i < n → rule.next x ≡ Some (record { item = item; is_own = false }) → whole ≡ take_due rule (n - suc i) (rule.pass item x)
+  pub other-due : (item : T) → i < n → rule.due_now x ≡ Some (record { item = item; is_own = false }) → whole ≡ take_due rule (n - suc i) (rule.pass item x)
   other-due item lt e = next-look lt ∙ rw e refl
 
   pub no-more-looks : n ≤ i → whole ≡ record { state = x; given = None }
@@ -106,7 +106,7 @@ ahead before x = record { state = x.state; actions = before ++ x.actions }
 
 -- a rule that only adds to what went out
 pub record OnlyAdds {T : Type 0} (rule : DueRule DriverRun T) : Type 0 where
-  pub next : (before : List Action) (x : DriverRun) → rule.next (ahead before x) ≡ rule.next x
+  pub due_now : (before : List Action) (x : DriverRun) → rule.due_now (ahead before x) ≡ rule.due_now x
   pub pass : (before : List Action) (item : T) (x : DriverRun) → rule.pass item (ahead before x) ≡ ahead before (rule.pass item x)
   pub give : (before : List Action) (item : T) (x : DriverRun) → rule.give item (ahead before x) ≡ ahead before (rule.give item x)
 
@@ -117,7 +117,7 @@ module _ {T : Type 0} (rule : DueRule DriverRun T) (adds : OnlyAdds rule) (befor
   -- What went out before a call changes nothing of it.
   pub take-ahead : (n : ℕ) (x : DriverRun) → take_due rule n (ahead before x) ≡ outcome_ahead before (take_due rule n x)
   take-ahead zero x = refl
-  take-ahead (suc n) x = ap (take_next rule (λ u. take_due rule n u) (ahead before x)) (adds.next before x) ∙ by (rule.next x) (take-ahead n)
+  take-ahead (suc n) x = ap (take_next rule (λ u. take_due rule n u) (ahead before x)) (adds.due_now before x) ∙ by (rule.due_now x) (take-ahead n)
     where
       one : (b : Bool) (item : T) → ((y : DriverRun) → take_due rule n (ahead before y) ≡ outcome_ahead before (take_due rule n y))
           → give_or_pass_due b rule (λ u. take_due rule n u) item (ahead before x) ≡ outcome_ahead before (give_or_pass_due b rule (λ u. take_due rule n u) item x)
@@ -137,7 +137,7 @@ action-ahead t a before x = λ i. record { state = after_entry t (Sent a) x.stat
 
 pub streams-add : (t : TransportView) (kind session : ℕ) → OnlyAdds (state_streams t kind session)
 streams-add t kind session = record {
-  next = λ before x. refl;
+  due_now = λ before x. refl;
   pass = λ before id x.
       ap (run_moment t (Called (StreamPassed id))) (action-ahead t (passing_stop id) before x) ∙ moment-ahead t (Called (StreamPassed id)) before (run_action t (passing_stop id) x);
   give = λ before id x. moment-ahead t (Called (StreamAccepted id)) before x;
@@ -145,7 +145,7 @@ streams-add t kind session = record {
 
 pub datagrams-add : (t : TransportView) (session : ℕ) → OnlyAdds (state_datagrams t session)
 datagrams-add t session = record {
-  next = λ before x. refl;
+  due_now = λ before x. refl;
   pass = λ before payload x. moment-ahead t (Called DatagramPassed) before x;
   give = λ before payload x. moment-ahead t (Called DatagramReceived) before x;
 }

@@ -137,26 +137,26 @@ module _ {T : Type 0} (side : Side) (since : Log) where
 
   -- the rules of a call on a log and on what is kept are alike
   pub record Alike (w : DueRule Log T) (v : DueRule DriverRun T) : Type 0 where
-    pub next : (log : Log) (x : DriverRun) → Tracks side since log x → w.next log ≡ v.next x
-    pub pass : (log : Log) (x : DriverRun) (d : Due T) → Tracks side since log x → w.next log ≡ Some d → TracksAtRest side since (w.pass d.item log) (v.pass d.item x)
-    pub give : (log : Log) (x : DriverRun) (d : Due T) → Tracks side since log x → w.next log ≡ Some d → TracksAtRest side since (w.give d.item log) (v.give d.item x)
+    pub due_now : (log : Log) (x : DriverRun) → Tracks side since log x → w.due_now log ≡ v.due_now x
+    pub pass : (log : Log) (x : DriverRun) (d : Due T) → Tracks side since log x → w.due_now log ≡ Some d → TracksAtRest side since (w.pass d.item log) (v.pass d.item x)
+    pub give : (log : Log) (x : DriverRun) (d : Due T) → Tracks side since log x → w.due_now log ≡ Some d → TracksAtRest side since (w.give d.item log) (v.give d.item x)
 
   module _ (w : DueRule Log T) (v : DueRule DriverRun T) (alike : Alike w v) where
     due-follows : (f : Log → DueOutcome Log T) (g : DriverRun → DueOutcome DriverRun T) → ((log : Log) (x : DriverRun) → TracksAtRest side since log x → OutcomeFollowed (f log) (g x))
-        → (log : Log) (x : DriverRun) (d : Due T) → TracksAtRest side since log x → w.next log ≡ Some d → (b : Bool)
+        → (log : Log) (x : DriverRun) (d : Due T) → TracksAtRest side since log x → w.due_now log ≡ Some d → (b : Bool)
         → OutcomeFollowed (give_or_pass_due b w f d.item log) (give_or_pass_due b v g d.item x)
     due-follows f g again log x d t e true = record { tracks = alike.give log x d t.tracks e; given = refl }
     due-follows f g again log x d t e false = again (w.pass d.item log) (v.pass d.item x) (alike.pass log x d t.tracks e)
 
     next-follows : (f : Log → DueOutcome Log T) (g : DriverRun → DueOutcome DriverRun T) → ((log : Log) (x : DriverRun) → TracksAtRest side since log x → OutcomeFollowed (f log) (g x))
-        → (log : Log) (x : DriverRun) → TracksAtRest side since log x → (o : Option (Due T)) → w.next log ≡ o → OutcomeFollowed (take_next w f log o) (take_next v g x o)
+        → (log : Log) (x : DriverRun) → TracksAtRest side since log x → (o : Option (Due T)) → w.due_now log ≡ o → OutcomeFollowed (take_next w f log o) (take_next v g x o)
     next-follows f g again log x t None e = record { tracks = t; given = refl }
     next-follows f g again log x t (Some d) e = due-follows f g again log x d t e d.is_own
 
     pub take-follows : (n : ℕ) (log : Log) (x : DriverRun) → TracksAtRest side since log x → OutcomeFollowed (take_due w n log) (take_due v n x)
     take-follows zero log x t = record { tracks = t; given = refl }
-    take-follows (suc n) log x t = rw (← alike.next log x t.tracks)
-        (next-follows (λ u. take_due w n u) (λ u. take_due v n u) (take-follows n) log x t (w.next log) refl)
+    take-follows (suc n) log x t = rw (← alike.due_now log x t.tracks)
+        (next-follows (λ u. take_due w n u) (λ u. take_due v n u) (take-follows n) log x t (w.due_now log) refl)
 
 -- ---- streams
 
@@ -192,7 +192,7 @@ module _ (side : Side) (since : Log) where
 
   pub streams-alike : (kind session : ℕ) → Alike side since (log_streams side kind session) (state_streams (transport_view side since) kind session)
   streams-alike kind session = record {
-    next = λ log x t. next-same log x kind session t.state;
+    due_now = λ log x t. next-same log x kind session t.state;
     pass = λ log x d t e.
         let named = due-named log kind session d (sound side log t.fits) (next_due side log kind session) refl e in
         tracks-call side since (Sent (passing_stop d.item) ∷ log) (run_action (transport_view side since) (passing_stop d.item) x) (StreamPassed d.item)
@@ -211,7 +211,7 @@ module _ (side : Side) (since : Log) where
 
   pub datagrams-alike : (session : ℕ) → Alike side since (log_datagrams side session) (state_datagrams (transport_view side since) session)
   datagrams-alike session = record {
-    next = λ log x t. datagram-same log x session t.state t.view;
+    due_now = λ log x t. datagram-same log x session t.state t.view;
     pass = λ log x d t e. tracks-call side since log x DatagramPassed tt t;
     give = λ log x d t e. tracks-call side since log x DatagramReceived tt t;
   }

@@ -36,16 +36,16 @@ sooner slots n [] b = tt
 sooner slots n (l ∷ ls) b = (λ e. b.0 (later-too slots n e), sooner slots (suc n) ls b.1)
 
 module _ (ready : Bool) (rule : SlotRule) where
-  untaken-stays : (p : SlotPhase) (k n : ℕ) (c : Known) → p ≡ Arrived → nat_lt n rule.slots ≡ false → visit_slot ready rule p (record { id = k; phase = p }) n c ≡ keep_slot (record { id = k; phase = p }) n c
-  untaken-stays Arrived k n c e f = rw (and_right ready (nat_lt n rule.slots) f) refl
-  untaken-stays Dequeued k n c e f = absurd cc
-  untaken-stays Held k n c e f = absurd cc
+  uncollected-stays : (p : SlotPhase) (k n : ℕ) (c : Known) → p ≡ Arrived → nat_lt n rule.slots ≡ false → visit_slot ready rule p (record { id = k; phase = p }) n c ≡ keep_slot (record { id = k; phase = p }) n c
+  uncollected-stays Arrived k n c e f = rw (and_right ready (nat_lt n rule.slots) f) refl
+  uncollected-stays Dequeued k n c e f = absurd cc
+  uncollected-stays Held k n c e f = absurd cc
 
   -- a whole scan leaves those behind
-  pub behind-stay : (ls : List Slot) (n : ℕ) (c : Known) → nat_lt n rule.slots ≡ false → IsBounded rule.slots n ls → scan_slots ready rule n ls c ≡ record { slots = ls; known = c }
-  behind-stay [] n c e b = refl
-  behind-stay (l ∷ ls) n c e b =
-      by c.progress.ending (untaken-stays l.phase l.id n c (b.0 e) e) (behind-stay ls (suc n) c (later-too rule.slots n e) b.1)
+  pub after-stay : (ls : List Slot) (n : ℕ) (c : Known) → nat_lt n rule.slots ≡ false → IsBounded rule.slots n ls → scan_slots ready rule n ls c ≡ record { slots = ls; known = c }
+  after-stay [] n c e b = refl
+  after-stay (l ∷ ls) n c e b =
+      by c.progress.ending (uncollected-stays l.phase l.id n c (b.0 e) e) (after-stay ls (suc n) c (later-too rule.slots n e) b.1)
     where
       by : (o : Option Ending) → visit_slot ready rule l.phase l n c ≡ keep_slot l n c → scan_slots ready rule (suc n) ls c ≡ record { slots = ls; known = c }
           → unless_ended_slots o (λ e. scan_on (λ m d. scan_slots ready rule m ls d) (visit_slot ready rule l.phase l n e)) (l ∷ ls) c ≡ record { slots = l ∷ ls; known = c }
@@ -54,22 +54,22 @@ module _ (ready : Bool) (rule : SlotRule) where
 
   -- how many slots the verdict of a dequeued stream leaves
   classified-than : (l : Slot) (n : ℕ) (c : Known) → (P : ℕ → Type 0) → P n → P (suc n) → (b : Bool) → P (classify_slot b rule l.id n c).occupied
-  classified-than l n c P here next true = two (is_released false (rule.verdict l.id))
+  classified-than l n c P here following true = two (is_released false (rule.verdict l.id))
     where
       two : (s : Bool) → P (occupied s n)
       two true = here
-      two false = next
-  classified-than l n c P here next false = next
+      two false = following
+  classified-than l n c P here following false = following
 
   -- how many slots a step leaves, by what it counts
   earlier-than : (p : SlotPhase) (l : Slot) (n : ℕ) (c : Known) → (P : ℕ → Type 0) → P n → P (suc n) → P (visit_slot ready rule p l n c).occupied
-  earlier-than Held l n c P here next = next
-  earlier-than Dequeued l n c P here next = classified-than l n c P here next (is_final (rule.verdict l.id))
-  earlier-than Arrived l n c P here next = up (ready && nat_lt n rule.slots)
+  earlier-than Held l n c P here following = following
+  earlier-than Dequeued l n c P here following = classified-than l n c P here following (is_final (rule.verdict l.id))
+  earlier-than Arrived l n c P here following = up (ready && nat_lt n rule.slots)
     where
       up : (b : Bool) → P (dequeue_slot b rule l n c).occupied
-      up true = classified-than l n c P here next (is_final (rule.verdict l.id))
-      up false = next
+      up true = classified-than l n c P here following (is_final (rule.verdict l.id))
+      up false = following
 
   pub first-few : (ls : List Slot) (n : ℕ) (c : Known) → IsBounded rule.slots n ls → scan_first ready rule n ls c ≡ scan_slots ready rule n ls c
   first-few [] n c b = refl
@@ -89,16 +89,16 @@ module _ (ready : Bool) (rule : SlotRule) where
           → first_few x (λ e. unless_ended_slots e.progress.ending (λ e. scan_on (λ m d. scan_first ready rule m ls d) (visit_slot ready rule l.phase l n e)) (l ∷ ls) e) (l ∷ ls) c
           ≡ scan_slots ready rule n (l ∷ ls) c
       up true e again = by c.progress.ending again
-      up false e again = sym (behind-stay (l ∷ ls) n c e b)
+      up false e again = sym (after-stay (l ∷ ls) n c e b)
 
 -- ---- it is so after every log
 
 module _ (ready : Bool) (rule : SlotRule) where
   -- one slot, and what a scan leaves of those after it
   module _ (n : ℕ) (f : ℕ → Known → Scanned) (low : nat_lt n rule.slots ≡ true)
-      (here : (d : Known) → IsBounded rule.slots n (f n d).slots) (next : (d : Known) → IsBounded rule.slots (suc n) (f (suc n) d).slots) where
+      (here : (d : Known) → IsBounded rule.slots n (f n d).slots) (following : (d : Known) → IsBounded rule.slots (suc n) (f (suc n) d).slots) where
     one-bounded : (l : Slot) (d : Known) → IsBounded rule.slots n (l ∷ (f (suc n) d).slots)
-    one-bounded l d = (λ e. absurd (true≢false (sym low ∙ e)), next d)
+    one-bounded l d = (λ e. absurd (true≢false (sym low ∙ e)), following d)
 
     left-bounded : (s : Bool) (k : ℕ) (d : Known) → IsBounded rule.slots n (cond s [] (record { id = k; phase = Held } ∷ []) ++ (f (occupied s n) d).slots)
     left-bounded true k d = here d
@@ -132,8 +132,8 @@ module _ (ready : Bool) (rule : SlotRule) where
 
       up : (x : Bool) → nat_lt n rule.slots ≡ x → ((d : Known) → IsBounded rule.slots n (scan_slots ready rule n ls d).slots)
           → ((d : Known) → IsBounded rule.slots (suc n) (scan_slots ready rule (suc n) ls d).slots) → IsBounded rule.slots n (scan_slots ready rule n (l ∷ ls) c).slots
-      up true e here next = by c.progress.ending (visited-bounded n (λ m d. scan_slots ready rule m ls d) e here next l.phase l c)
-      up false e here next = rw (behind-stay ready rule (l ∷ ls) n c e b) b
+      up true e here following = by c.progress.ending (visited-bounded n (λ m d. scan_slots ready rule m ls d) e here following l.phase l c)
+      up false e here following = rw (after-stay ready rule (l ∷ ls) n c e b) b
 
 push-bounded : (slots n id : ℕ) (ls : List Slot) → IsBounded slots n ls → IsBounded slots n (ls ++ new_slot id ∷ [])
 push-bounded slots n id [] b = (λ e. refl, tt)
@@ -144,13 +144,13 @@ without-bounded slots n id [] b = tt
 without-bounded slots n id (l ∷ ls) b = by (id == l.id) (without-bounded slots n id ls (sooner slots n ls b.1)) (without-bounded slots (suc n) id ls b.1)
   where
     by : (x : Bool) → IsBounded slots n (without_slot id ls) → IsBounded slots (suc n) (without_slot id ls) → IsBounded slots n (cond x (without_slot id ls) (l ∷ without_slot id ls))
-    by true here next = here
-    by false here next = (b.0, next)
+    by true here following = here
+    by false here following = (b.0, following)
 
-told-bounded : (t : TransportView) (e : Event) (k : DriverState) → Bounded k → Bounded (after_entry t (Reported e) k)
-told-bounded t PeerUni k b = record { unis = push-bounded 4 0 _ k.unis b.unis; bis = b.bis }
-told-bounded t PeerBi k b = record { unis = b.unis; bis = push-bounded 1 0 _ k.bis b.bis }
-told-bounded t _ k b = record { unis = b.unis; bis = b.bis }
+reported-bounded : (t : TransportView) (e : Event) (k : DriverState) → Bounded k → Bounded (after_entry t (Reported e) k)
+reported-bounded t PeerUni k b = record { unis = push-bounded 4 0 _ k.unis b.unis; bis = b.bis }
+reported-bounded t PeerBi k b = record { unis = b.unis; bis = push-bounded 1 0 _ k.bis b.bis }
+reported-bounded t _ k b = record { unis = b.unis; bis = b.bis }
 
 called-bounded : (t : TransportView) (d : CallRecord) (k : DriverState) → Bounded k → Bounded (after_entry t (Called d) k)
 called-bounded t (StreamAccepted id) k b = record { unis = without-bounded 4 0 id k.unis b.unis; bis = without-bounded 1 0 id k.bis b.bis }
@@ -158,7 +158,7 @@ called-bounded t (StreamPassed id) k b = record { unis = without-bounded 4 0 id 
 called-bounded t _ k b = record { unis = b.unis; bis = b.bis }
 
 pub takes-bounded : (t : TransportView) (m : Entry) (k : DriverState) → Bounded k → Bounded (after_entry t m k)
-takes-bounded t (Reported e) k b = told-bounded t e k b
+takes-bounded t (Reported e) k b = reported-bounded t e k b
 takes-bounded t (Called d) k b = called-bounded t d k b
 takes-bounded t _ k b = record { unis = b.unis; bis = b.bis }
 

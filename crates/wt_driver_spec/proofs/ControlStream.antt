@@ -13,15 +13,15 @@ use Rattle.wt_wire.specs.declared.side.Side.TheVariants.{Client, Server}
 use Rattle.wt_turn.specs.declared.action.Action.TheVariants as actions
 
 -- the bytes of these that credit is left for, where so many were sent
-pub take-behind : (sent credit : ℕ) (xs : List ℕ) → take (credit - sent) (drop sent xs) ≡ drop sent (take credit xs)
-take-behind zero credit xs = ap (λ n. take n xs) (let e : credit - 0 ≡ credit = omega arith in e)
-take-behind (suc sent) zero xs = ap (λ n. take n (drop (suc sent) xs)) (let e : 0 - suc sent ≡ 0 = omega arith in e)
-take-behind (suc sent) (suc credit) [] = none (suc credit - suc sent)
+pub take-after : (sent credit : ℕ) (xs : List ℕ) → take (credit - sent) (drop sent xs) ≡ drop sent (take credit xs)
+take-after zero credit xs = ap (λ n. take n xs) (let e : credit - 0 ≡ credit = omega arith in e)
+take-after (suc sent) zero xs = ap (λ n. take n (drop (suc sent) xs)) (let e : 0 - suc sent ≡ 0 = omega arith in e)
+take-after (suc sent) (suc credit) [] = none (suc credit - suc sent)
   where
     none : (n : ℕ) → take {A = ℕ} n [] ≡ []
     none zero = refl
     none (suc n) = refl
-take-behind (suc sent) (suc credit) (x ∷ xs) = ap (λ n. take n (drop sent xs)) (let e : suc credit - suc sent ≡ credit - sent = omega arith in e) ∙ take-behind sent credit xs
+take-after (suc sent) (suc credit) (x ∷ xs) = ap (λ n. take n (drop sent xs)) (let e : suc credit - suc sent ≡ credit - sent = omega arith in e) ∙ take-after sent credit xs
 
 peers-open-none : (side : Side) (es : List Event) → peer_count side es (local_uni side) ≡ 0
 peers-open-none side [] = refl
@@ -37,7 +37,7 @@ module _ (side : Side) (log : Log) (events : all_events_of log ≡ events_of log
       ≡ send_of (local_uni side) (drop (control_sent side log).sent (take (transport_view side log).credit bytes))
   control-sends bytes =
       ap (λ (es : List Event). send_of (local_uni side) (take (credit es (local_uni side) - (control_sent side log).sent) (drop (control_sent side log).sent bytes))) events
-      ∙ ap (send_of (local_uni side)) (take-behind (control_sent side log).sent (credit (events_of log) (local_uni side)) bytes)
+      ∙ ap (send_of (local_uni side)) (take-after (control_sent side log).sent (credit (events_of log) (local_uni side)) bytes)
 
   -- its opening, where it wasn't opened and may be
   pub control-opens : is_open log ≡ true → (control_sent side log).opened ≡ false → (transport_view side log).may_open ≡ true

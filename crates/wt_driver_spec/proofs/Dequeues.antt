@@ -416,17 +416,17 @@ module _ (side : Side) (log : Log) (facts : FitsAndRests side log) where
       (open_ : (n : ℕ) → is_dequeued side log (stream_id kind n) ≡ true → n < peer_count side (events_of log) kind) where
     dequeued-in-turn : DequeuedInTurn side log kind most verdict
     dequeued-in-turn = record {
-      next = λ n may low few.
+      each_in_turn = λ n may low few.
           (let both = and_parts (is_open log) (settings_ready side log) may in
-          let at = ids-at kind 0 n count n (omega arith) low in
+          let offset = ids-at kind 0 n count n (omega arith) low in
           let same : unreleased_before side log kind n ≡ 0 + held d s (stream_ids kind 0 n) = held-before side log kind n ∙ sym (zero-add (held d s (stream_ids kind 0 n))) in
           let fewer : 0 + held d s (stream_ids kind 0 n) < rule.slots = subst (λ (m : ℕ). 0 + held d s (stream_ids kind 0 n) < m) (sym so_many) (subst (λ (m : ℕ). m < most) same few) in
-          next-dequeued (settings_ready side log) rule d s (all-dequeued side log) both.1 (stream_ids kind 0 n) (4 * n + kind) at.0 0
-          (subst (λ (ks : List ℕ). Rests (settings_ready side log) rule 0 (slots d s ks)) at.1 (rests both.0)) fewer);
+          next-dequeued (settings_ready side log) rule d s (all-dequeued side log) both.1 (stream_ids kind 0 n) (4 * n + kind) offset.0 0
+          (subst (λ (ks : List ℕ). Rests (settings_ready side log) rule 0 (slots d s ks)) offset.1 (rests both.0)) fewer);
       few = λ n e.
-          (let at = ids-at kind 0 n count n (omega arith) (open_ n e) in
+          (let offset = ids-at kind 0 n count n (omega arith) (open_ n e) in
           let same : unreleased_before side log kind n ≡ 0 + held d s (stream_ids kind 0 n) = held-before side log kind n ∙ sym (zero-add (held d s (stream_ids kind 0 n))) in
-          subst (λ (m : ℕ). m < most) (sym same) (few-at d s most (stream_ids kind 0 n) (4 * n + kind) at.0 0 (subst (FewBefore d s most 0) at.1 ahead) e));
+          subst (λ (m : ℕ). m < most) (sym same) (few-at d s most (stream_ids kind 0 n) (4 * n + kind) offset.0 0 (subst (FewBefore d s most 0) offset.1 ahead) e));
       opened = open_;
       ready = λ n e. was-ready side log (4 * n + kind) e;
       classified = λ n o e final. by n o e final (is_classified side log (stream_id kind n)) refl;
@@ -447,8 +447,8 @@ module _ (side : Side) (log : Log) (facts : FitsAndRests side log) where
             → (b : Bool) → is_classified side log (stream_id kind n) ≡ b → b ≡ true
         by n o e final true f = refl
         by n o e final false f =
-            let at = ids-at kind 0 n count n (omega arith) (open_ n e) in
-            let among : has (4 * n + kind) (stream_ids kind 0 count) ≡ true = ap (has (4 * n + kind)) at.1 ∙ here-at (4 * n + kind) (stream_ids kind 0 n) at.0 in
+            let offset = ids-at kind 0 n count n (omega arith) (open_ n e) in
+            let among : has (4 * n + kind) (stream_ids kind 0 count) ≡ true = ap (has (4 * n + kind)) offset.1 ∙ here-at (4 * n + kind) (stream_ids kind 0 n) offset.0 in
             let asking = rests-dequeued (settings_ready side log) rule d s (4 * n + kind) 0 (stream_ids kind 0 count) (rests o) among e (none-where (verdict_of (4 * n + kind) s.classified) f) in
             absurd (true≢false (sym final ∙ ap is_final (sym (reads (4 * n + kind))) ∙ asking))
 

@@ -15,7 +15,7 @@ use Rattle.wt_proto.specs.declared.verdict.Verdict.{Verdict}
 use Rattle.wt_seam_spec.specs.Reports.{datagrams_of}
 use Rattle.wt_seam_spec.specs.Streams.{peer_bi, peer_count, peer_uni}
 use Rattle.wt_spec.specs.Connection.{first_of, is_due, is_for_session, next_datagram, next_due, pass_stream, read_datagram}
-use Rattle.wt_spec.specs.Driver.{apply_if, call_view, flush, is_moment, log_and_flush, pending_actions, settled_datagrams, stream_table, transport_view}
+use Rattle.wt_spec.specs.Driver.{apply_if, call_view, flush, is_moment, log_and_flush, pending_actions, released_datagrams, stream_table, transport_view}
 use Rattle.wt_spec.specs.Effect.{log_call}
 use Rattle.wt_spec.specs.Scan.{SlotRule, bi_ids, bi_rule, has, is_released, stream_ids, uni_ids, uni_rule}
 use Rattle.wt_spec.specs.StreamTable.{CallView, Classified, Ending, StreamTable, TransportView, awaits_accept, dispatched_streams, is_webtransport, verdict_of}
@@ -27,26 +27,26 @@ use Rattle.wt_proto.specs.declared.verdict.Verdict.TheVariants as verdicts
 -- ---- looking again, in general
 
 module _ {S T : Type 0} (w : DueRule S T) (size : S → ℕ) (P : S → Type 0)
-    (passes : (s : S) (f : Due T) → P s → w.next s ≡ Some f → P (w.pass f.item s) × (size (w.pass f.item s) < size s)) where
+    (passes : (s : S) (f : Due T) → P s → w.due_now s ≡ Some f → P (w.pass f.item s) × (size (w.pass f.item s) < size s)) where
   -- where there were looks enough
   Ends : ℕ → S → Type 0
-  Ends n s = P s → size s < n → (take_due w n s).given ≡ None → w.next (take_due w n s).state ≡ None
+  Ends n s = P s → size s < n → (take_due w n s).given ≡ None → w.due_now (take_due w n s).state ≡ None
 
-  due-ends : (n : ℕ) (s : S) (f : Due T) (b : Bool) → ((u : S) → P u → size u < n → (take_due w n u).given ≡ None → w.next (take_due w n u).state ≡ None)
-      → P s → w.next s ≡ Some f → size s < suc n
-      → (give_or_pass_due b w (λ u. take_due w n u) f.item s).given ≡ None → w.next (give_or_pass_due b w (λ u. take_due w n u) f.item s).state ≡ None
+  due-ends : (n : ℕ) (s : S) (f : Due T) (b : Bool) → ((u : S) → P u → size u < n → (take_due w n u).given ≡ None → w.due_now (take_due w n u).state ≡ None)
+      → P s → w.due_now s ≡ Some f → size s < suc n
+      → (give_or_pass_due b w (λ u. take_due w n u) f.item s).given ≡ None → w.due_now (give_or_pass_due b w (λ u. take_due w n u) f.item s).state ≡ None
   due-ends n s f true again p e lt a = absurd cc
   due-ends n s f false again p e lt a = let more = passes s f p e in again (w.pass f.item s) more.0 (let less = more.1 in omega arith) a
 
-  next-ends : (n : ℕ) (s : S) (o : Option (Due T)) → ((u : S) → P u → size u < n → (take_due w n u).given ≡ None → w.next (take_due w n u).state ≡ None)
-      → P s → w.next s ≡ o → size s < suc n
-      → (take_next w (λ u. take_due w n u) s o).given ≡ None → w.next (take_next w (λ u. take_due w n u) s o).state ≡ None
+  next-ends : (n : ℕ) (s : S) (o : Option (Due T)) → ((u : S) → P u → size u < n → (take_due w n u).given ≡ None → w.due_now (take_due w n u).state ≡ None)
+      → P s → w.due_now s ≡ o → size s < suc n
+      → (take_next w (λ u. take_due w n u) s o).given ≡ None → w.due_now (take_next w (λ u. take_due w n u) s o).state ≡ None
   next-ends n s None again p e lt a = e
   next-ends n s (Some f) again p e lt a = due-ends n s f f.is_own again p e lt a
 
-  pub take-ends : (n : ℕ) (s : S) → P s → size s < n → (take_due w n s).given ≡ None → w.next (take_due w n s).state ≡ None
+  pub take-ends : (n : ℕ) (s : S) → P s → size s < n → (take_due w n s).given ≡ None → w.due_now (take_due w n s).state ≡ None
   take-ends zero s p lt a = absurd (omega arith)
-  take-ends (suc n) s p lt a = next-ends n s (w.next s) (take-ends n) p refl lt a
+  take-ends (suc n) s p lt a = next-ends n s (w.due_now s) (take-ends n) p refl lt a
 
 -- ---- slots grow fewer
 
@@ -145,8 +145,8 @@ found-kind : (b : Bool) (kind session : ℕ) (rs : List Classified) (r : Classif
 found-kind b kind session rs r e = (and_parts (r.id % 4 == kind) (b || is_for_session session r.verdict) (first-holds (is_due b kind session) rs r e)).0
 
 of-session-waits : (v : Verdict) (gone : Bool) → is_webtransport v ≡ true → not gone ≡ true → is_released gone v ≡ false
-of-session-waits (verdicts.WebTransport session at) true e f = absurd cc
-of-session-waits (verdicts.WebTransport session at) false e f = refl
+of-session-waits (verdicts.WebTransport session offset) true e f = absurd cc
+of-session-waits (verdicts.WebTransport session offset) false e f = refl
 of-session-waits _ gone e f = absurd cc
 
 -- what is found waits: it is of its kind, classified, and not released
@@ -302,8 +302,8 @@ flush-events side log m = by (is_moment m && is_open (m ∷ log))
     by false = refl
 
 -- so many datagrams came, and weren't received or passed
-abbrev unsettled : Log → ℕ
-unsettled log = length (datagrams_of (events_of log)) - settled_datagrams (calls_of log)
+abbrev unreleased_count : Log → ℕ
+unreleased_count log = length (datagrams_of (events_of log)) - released_datagrams (calls_of log)
 
 within : (xs : List (List ℕ)) (n : ℕ) (piece : List ℕ) → slice_get xs n ≡ Some piece → n < length xs
 within [] n piece e = absurd cc
@@ -319,9 +319,9 @@ due-within session xs n true d e = by (slice_get xs n) refl e
     by (Some piece) f g = within xs n piece f
 
 passed-less : (side : Side) (session : ℕ) (log : Log) (d : Due (List ℕ)) → due_datagram session (next_datagram side log) ≡ Some d
-    → unsettled (log_call side log [] DatagramPassed) < unsettled log
+    → unreleased_count (log_call side log [] DatagramPassed) < unreleased_count log
 passed-less side session log d e =
-    let lt = due-within session (datagrams_of (events_of log)) (settled_datagrams (calls_of log)) (nat_lt (settled_datagrams (calls_of log)) (stream_table side log).progress.datagrams) d e in
+    let lt = due-within session (datagrams_of (events_of log)) (released_datagrams (calls_of log)) (nat_lt (released_datagrams (calls_of log)) (stream_table side log).progress.datagrams) d e in
     rw (flush-calls side log (Called DatagramPassed), flush-events side log (Called DatagramPassed)) (omega arith)
 
 no-datagram : (session : ℕ) (o : Option (ℕ × List ℕ)) → due_datagram session o ≡ None → o ≡ None
@@ -332,6 +332,6 @@ no-datagram session (Some d) e = absurd cc
 pub receive-ends : (side : Side) (log : Log) (session : ℕ) → (receive_outcome side log session).given ≡ None → next_datagram side (receive_outcome side log session).state ≡ None
 receive-ends side log session none =
     no-datagram session (next_datagram side (receive_outcome side log session).state)
-    (take-ends (log_datagrams side session) unsettled (λ g. Unit {0})
+    (take-ends (log_datagrams side session) unreleased_count (λ g. Unit {0})
     (λ g d fit e. (tt, passed-less side session g d e))
     (suc (length (datagrams_of (events_of log)))) log tt (omega arith) none)

@@ -145,7 +145,7 @@ fair-applied false side log calls table f = f
 
 -- a session that is established stays so, or another one is
 fair-record : (r : CallRecord) (cs : List CallRecord) (e : Option Ending) → EndsFairly (established_session cs) e → EndsFairly (established_session (r ∷ cs)) e
-fair-record (SessionEstablished id at) cs e f = fair-some (id, at) e
+fair-record (SessionEstablished id offset) cs e f = fair-some (id, offset) e
 fair-record _ cs e f = f
 
 fair-entry : (side : Side) (e : Entry) (log : Log) → EndsFairly (established_session (calls_of log)) (stream_table side log).progress.ending → EndsFairly (established_session (calls_of (e ∷ log))) (stream_table side log).progress.ending

@@ -174,14 +174,14 @@ without-append id (x ∷ xs) ys = by (id == x.id) (without-append id xs ys)
     by true e = e
     by false e = ap (λ (ls : List Slot). x ∷ ls) e
 
-named-settles : (v : Verdict) → is_webtransport v ≡ true → is_released true v ≡ true
-named-settles (verdicts.WebTransport session at) e = refl
-named-settles _ e = absurd cc
+named-releases : (v : Verdict) → is_webtransport v ≡ true → is_released true v ≡ true
+named-releases (verdicts.WebTransport session offset) e = refl
+named-releases _ e = absurd cc
 
 slot-released : (id k : ℕ) (gone dequeued : Bool) (o : Option Verdict) → (id == k) ≡ true → names_session o ≡ true
     → slot_by k true dequeued o ≡ without_slot id (slot_by k gone dequeued o)
 slot-released id k gone dequeued None e n = absurd cc
-slot-released id k gone dequeued (Some v) e n = rw (named-settles v n) (by (is_released gone v))
+slot-released id k gone dequeued (Some v) e n = rw (named-releases v n) (by (is_released gone v))
   where
     by : (b : Bool) → [] ≡ without_slot id (cond b [] (record { id = k; phase = Held } ∷ []))
     by true = refl
@@ -362,7 +362,7 @@ pub actions-followed : (side : Side) (acts : List Action) (log : Log) → state_
 actions-followed side [] log = refl
 actions-followed side (a ∷ later) log = actions-followed side later (Sent a ∷ log) ∙ ap (state_with_actions (transport_view side log) later) (out-followed side log a)
 
--- actions leave what the transport told as it is
+-- actions leave what the transport reported as it is
 pub view-with : (side : Side) (acts : List Action) (log : Log) → transport_view side (with_actions acts log) ≡ transport_view side log
 view-with side [] log = refl
 view-with side (a ∷ later) log = view-with side later (Sent a ∷ log)

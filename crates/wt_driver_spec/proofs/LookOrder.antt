@@ -161,9 +161,9 @@ held-same d s u (k ∷ ks) same =
     here : (k : ℕ) → has k (k ∷ ks) ≡ true
     here k = rw (eq-eqb k k refl) refl
 
-has-behind : (k j : ℕ) (xs ys : List ℕ) → has k ys ≡ true → has k (xs ++ j ∷ ys) ≡ true
-has-behind k j [] ys e = or_right (j == k) (has k ys) e
-has-behind k j (x ∷ xs) ys e = or_right (x == k) (has k (xs ++ j ∷ ys)) (has-behind k j xs ys e)
+has-after : (k j : ℕ) (xs ys : List ℕ) → has k ys ≡ true → has k (xs ++ j ∷ ys) ≡ true
+has-after k j [] ys e = or_right (j == k) (has k ys) e
+has-after k j (x ∷ xs) ys e = or_right (x == k) (has k (xs ++ j ∷ ys)) (has-after k j xs ys e)
 
 -- what isn't up to a place is after it
 has-rest : (k j : ℕ) (xs ys : List ℕ) → has k (xs ++ j ∷ ys) ≡ true → has k xs ≡ false → (j == k) ≡ false → has k ys ≡ true
@@ -194,16 +194,16 @@ module _ (ready : Bool) (d : CallView) (rule : SlotRule) where
   visit-looks : (j : ℕ) (p : Scan) → AllDequeued p.table → LookedAt ready rule j p.occupied (visit ready d rule j (verdict_of j p.table.classified) p).table
   visit-looks j p all = by (verdict_of j p.table.classified) refl
     where
-      taken : (b : Bool) → is_final (rule.verdict j) ≡ b → verdict_of j p.table.classified ≡ None → LookedAt ready rule j p.occupied (classify b d rule j (record p { table = with_dequeued j p.table })).table
-      taken true f none = record {
+      by_finality : (b : Bool) → is_final (rule.verdict j) ≡ b → verdict_of j p.table.classified ≡ None → LookedAt ready rule j p.occupied (classify b d rule j (record p { table = with_dequeued j p.table })).table
+      by_finality true f none = record {
         dequeues = λ r low. dequeued-here j p.table.dequeued;
         classifies = λ h g. ap is_some (classified-here (record { id = j; verdict = rule.verdict j; surplus = (rule.consequence (dispatched_streams d p.table.classified) j (rule.verdict j)).surplus }) p.table.classified none);
       }
-      taken false f none = record { dequeues = λ r low. dequeued-here j p.table.dequeued; classifies = λ h g. absurd (true≢false (sym g ∙ f)) }
+      by_finality false f none = record { dequeues = λ r low. dequeued-here j p.table.dequeued; classifies = λ h g. absurd (true≢false (sym g ∙ f)) }
 
       two : (h x : Bool) → has j p.table.dequeued ≡ h → (ready && nat_lt p.occupied rule.slots) ≡ x → verdict_of j p.table.classified ≡ None → LookedAt ready rule j p.occupied (dequeue (h || x) d rule j p).table
-      two true x g f none = taken (is_final (rule.verdict j)) refl none
-      two false true g f none = taken (is_final (rule.verdict j)) refl none
+      two true x g f none = by_finality (is_final (rule.verdict j)) refl none
+      two false true g f none = by_finality (is_final (rule.verdict j)) refl none
       two false false g f none = record {
         dequeues = λ r low. absurd (true≢false (sym (let free = lt-ltb p.occupied rule.slots low in (λ i. r i && free i)) ∙ f));
         classifies = λ h g2. absurd (true≢false (sym h ∙ g));
@@ -239,7 +239,7 @@ module _ (ready : Bool) (d : CallView) (rule : SlotRule) where
 
       on : WentOn ys p.table t → WentOn ys q.table t
       on (inl none) = inl none
-      on (inr w) = inr (w.0, w.1, (visit-same ready d rule (verdict_of i p.table.classified) i w.0 p (apart i w.0 (xs ++ j ∷ ys) dist.0 (has-behind w.0 j xs ys w.1))).classified ∙ w.2, w.3)
+      on (inr w) = inr (w.0, w.1, (visit-same ready d rule (verdict_of i p.table.classified) i w.0 p (apart i w.0 (xs ++ j ∷ ys) dist.0 (has-after w.0 j xs ys w.1))).classified ∙ w.2, w.3)
 
       count_is : q.occupied + held d t xs ≤ p.occupied + one_more_if (unreleased d t i) (held d t xs)
       count_is =
@@ -292,8 +292,8 @@ bi-before side n k e = by ((4 * n + peer_bi side) % 4 == k % 4) refl e
     by false f g = let same = eqb-true ((4 * n + peer_bi side) % 4) (peer_uni side) g in let bits : (4 * n + peer_bi side) % 4 ≡ peer_bi side = omega (arith, low) in absurd (kinds-differ side (sym same ∙ bits))
 
 -- the streams of a kind after the nth have those with greater ids
-behind-nth : (kind n count k : ℕ) (more : List ℕ) → stream_ids kind 0 count ≡ stream_ids kind 0 n ++ (4 * n + kind) ∷ more → has k (stream_ids kind 0 count) ≡ true → 4 * n + kind < k → has k more ≡ true
-behind-nth kind n count k more split e less =
+after-nth : (kind n count k : ℕ) (more : List ℕ) → stream_ids kind 0 count ≡ stream_ids kind 0 n ++ (4 * n + kind) ∷ more → has k (stream_ids kind 0 count) ≡ true → 4 * n + kind < k → has k more ≡ true
+after-nth kind n count k more split e less =
     let a = among kind 0 count k e in
     has-rest k (4 * n + kind) (stream_ids kind 0 n) more (sym (ap (has k) split) ∙ e)
     (ap (λ i. has i (stream_ids kind 0 n)) a.is ∙ next-misses kind 0 n a.index (let is = a.is in omega (arith, is, less)))
@@ -358,7 +358,7 @@ module _ (t : TransportView) (d : CallView) (s : StreamTable) (all : AllDequeued
       went : (more : List ℕ) → uni_ids t ≡ xs ++ j ∷ more → (b : Bool) → is_some (verdict_of k first.classified) ≡ b → WentOn more (without_stops s) first
       went more split true f =
           let hit = scanned-alone t.ready d (uni_rule t) (uni_ids t) start k none f in
-          inr (k, behind-nth (peer_uni t.side) n t.unis k more split hit (later-of-kind t.side (peer_uni t.side) n k (uni-low t.side) (kind-is (peer_uni t.side) 0 t.unis k (uni-low t.side) hit) before), none, f)
+          inr (k, after-nth (peer_uni t.side) n t.unis k more split hit (later-of-kind t.side (peer_uni t.side) n k (uni-low t.side) (kind-is (peer_uni t.side) 0 t.unis k (uni-low t.side) hit) before), none, f)
       went more split false f = ended more f first.progress.ending refl
 
       same : (more : List ℕ) → uni_ids t ≡ xs ++ j ∷ more → (i : ℕ) → has i xs ≡ true → Same i first both
@@ -402,7 +402,7 @@ module _ (t : TransportView) (d : CallView) (s : StreamTable) (all : AllDequeued
       went : (more : List ℕ) → bi_ids t ≡ xs ++ j ∷ more → WentOn more first both
       went more split =
           let hit = scanned-alone t.ready d (bi_rule t) (bi_ids t) middle k none-first some in
-          inr (k, behind-nth (peer_bi t.side) n t.bis k more split hit (later-of-kind t.side (peer_bi t.side) n k (bi-low t.side) kind before), none-first, some)
+          inr (k, after-nth (peer_bi t.side) n t.bis k more split hit (later-of-kind t.side (peer_bi t.side) n k (bi-low t.side) kind before), none-first, some)
 
       Looks : List ℕ → List ℕ → Type 0
       Looks more ks =

@@ -22,7 +22,7 @@ use Rattle.wt_wire.specs.declared.side.StreamEnd.{StreamEnd}
 
 module _ (t : TransportView) (bytes : ℕ → List ℕ) (id : ℕ) (others : (j : ℕ) → (id == j) ≡ false → bytes j ≡ t.contents j)
     (most : ℕ) (verdict : List ℕ → StreamEnd → Verdict) (consequence : Dispatched → ℕ → Verdict → Consequence) where
-  -- the rule of a kind, by what the transport told
+  -- the rule of a kind, by what the transport reported
   abbrev rule_by : TransportView → SlotRule
   rule_by u = record { slots = most; verdict = λ k. verdict (u.contents k) (u.end k); consequence = consequence }
 

@@ -141,10 +141,10 @@ with-settings e b f = ap (λ (s : Bool). record e { settings = s }) f
 -- once SETTINGS are noted, the control stream says nothing more
 control-again : (t : TransportView) (x : Option (ℕ × ℕ)) (c e : DriverProgress) → (check_control t x c).ending ≡ None → e.settings ≡ (check_control t x c).settings → check_control t x e ≡ e
 control-again t None c e runs same = refl
-control-again t (Some x) c e runs same = settles (control_walk_of (drop x.1 (t.contents x.0)) (t.end x.0)) c runs e same
+control-again t (Some x) c e runs same = reads-settings (control_walk_of (drop x.1 (t.contents x.0)) (t.end x.0)) c runs e same
   where
-    settles : (w : ControlWalk) (c : DriverProgress) → (control_read w c).ending ≡ None → (e : DriverProgress) → e.settings ≡ (control_read w c).settings → control_read w e ≡ e
-    settles w c none e same =
+    reads-settings : (w : ControlWalk) (c : DriverProgress) → (control_read w c).ending ≡ None → (e : DriverProgress) → e.settings ≡ (control_read w c).settings → control_read w e ≡ e
+    reads-settings w c none e same =
         let now : e.settings ≡ (c.settings || is_some w.settings) = same ∙ fault-settings w.fault (record c { settings = c.settings || is_some w.settings }) in
         let kept : (e.settings || is_some w.settings) ≡ e.settings = ap (λ b. b || is_some w.settings) now ∙ or-again c.settings (is_some w.settings) ∙ sym now in
         ap (λ (o : Option ErrorCode). with_fault o (record e { settings = e.settings || is_some w.settings })) (fault-none w.fault (record c { settings = c.settings || is_some w.settings }) none)
@@ -159,31 +159,31 @@ read-datagrams (Ok d) c = refl
 read-datagrams (Err code) c = refl
 
 -- after a datagram was dequeued no more is dequeued
-module _ (t : TransportView) (settled_count : ℕ) where
+module _ (t : TransportView) (released_count : ℕ) where
   abbrev next_datagram : DriverProgress → DriverProgress
-  next_datagram c = check_datagram (t.ready && settled_count == c.datagrams) t c
+  next_datagram c = check_datagram (t.ready && released_count == c.datagrams) t c
 
-  stuck : (ready : Bool) (e : DriverProgress) → (settled_count == e.datagrams) ≡ false → check_datagram (ready && settled_count == e.datagrams) t e ≡ e
+  stuck : (ready : Bool) (e : DriverProgress) → (released_count == e.datagrams) ≡ false → check_datagram (ready && released_count == e.datagrams) t e ≡ e
   stuck true e f = rw f refl
   stuck false e f = refl
 
-  past : (n : ℕ) → (settled_count == n) ≡ true → (settled_count == suc n) ≡ false
-  past n e = false_from_ne_true (settled_count == suc n) (λ f. (let a = eqb-true settled_count n e in let b = eqb-true settled_count (suc n) f in omega arith))
+  past : (n : ℕ) → (released_count == n) ≡ true → (released_count == suc n) ≡ false
+  past n e = false_from_ne_true (released_count == suc n) (λ f. (let a = eqb-true released_count n e in let b = eqb-true released_count (suc n) f in omega arith))
 
-  dequeued-again : (o : Option (List ℕ)) (c e : DriverProgress) → t.datagram c.datagrams ≡ o → (settled_count == c.datagrams) ≡ true → e.datagrams ≡ (dequeued_datagram o c).datagrams → t.ready ≡ true → next_datagram e ≡ e
+  dequeued-again : (o : Option (List ℕ)) (c e : DriverProgress) → t.datagram c.datagrams ≡ o → (released_count == c.datagrams) ≡ true → e.datagrams ≡ (dequeued_datagram o c).datagrams → t.ready ≡ true → next_datagram e ≡ e
   dequeued-again None c e f g same ready =
       rw (ready, same, g, f) refl
   dequeued-again (Some piece) c e f g same ready =
       let more : e.datagrams ≡ suc c.datagrams = same ∙ read-datagrams (datagram_of piece) (record c { datagrams = suc c.datagrams }) in
-      stuck t.ready e (ap (λ n. settled_count == n) more ∙ past c.datagrams g)
+      stuck t.ready e (ap (λ n. released_count == n) more ∙ past c.datagrams g)
 
-  datagrams-again : (ready is : Bool) (c e : DriverProgress) → t.ready ≡ ready → (settled_count == c.datagrams) ≡ is → e.datagrams ≡ (check_datagram (ready && is) t c).datagrams → next_datagram e ≡ e
+  datagrams-again : (ready is : Bool) (c e : DriverProgress) → t.ready ≡ ready → (released_count == c.datagrams) ≡ is → e.datagrams ≡ (check_datagram (ready && is) t c).datagrams → next_datagram e ≡ e
   datagrams-again false is c e f g same = rw f refl
-  datagrams-again true false c e f g same = stuck t.ready e (ap (λ n. settled_count == n) same ∙ g)
+  datagrams-again true false c e f g same = stuck t.ready e (ap (λ n. released_count == n) same ∙ g)
   datagrams-again true true c e f g same = dequeued-again (t.datagram c.datagrams) c e refl g same f
 
   datagrams-rest : (c e : DriverProgress) → e.datagrams ≡ (next_datagram c).datagrams → next_datagram e ≡ e
-  datagrams-rest c e same = datagrams-again t.ready (settled_count == c.datagrams) c e refl refl same
+  datagrams-rest c e same = datagrams-again t.ready (released_count == c.datagrams) c e refl refl same
 
 -- ---- all checks, once more
 
@@ -225,9 +225,9 @@ in-order-stays (f ∷ fs) c s = ap (in_order fs) (by c.ending) ∙ in-order-stay
     by None = s.0
     by (Some x) = refl
 
-module _ (t : TransportView) (settled_count : ℕ) (session : Option (ℕ × ℕ)) (o : Dispatched) where
+module _ (t : TransportView) (released_count : ℕ) (session : Option (ℕ × ℕ)) (o : Dispatched) where
   abbrev one : DriverProgress → DriverProgress
-  one c = next_datagram t settled_count c
+  one c = next_datagram t released_count c
 
   abbrev two : DriverProgress → DriverProgress
   two c = check_session t session (one c)
@@ -244,7 +244,7 @@ module _ (t : TransportView) (settled_count : ℕ) (session : Option (ℕ × ℕ
   abbrev six : DriverProgress → DriverProgress
   six c = check_qpack t o.decoder (five c)
 
-  all-stay : (c : DriverProgress) → RunsOn (checks t (kept_calls settled_count session) o) c → (six c).ending ≡ None → AllStay (checks t (kept_calls settled_count session) o) (with_no_stops (six c))
+  all-stay : (c : DriverProgress) → RunsOn (checks t (kept_calls released_count session) o) c → (six c).ending ≡ None → AllStay (checks t (kept_calls released_count session) o) (with_no_stops (six c))
   all-stay c r last =
       let s = plain-session t session in
       let w = plain-where t.control_stopped in
@@ -252,7 +252,7 @@ module _ (t : TransportView) (settled_count : ℕ) (session : Option (ℕ × ℕ
       let d = plain-critical t o.decoder in
       let kept : (six c).datagrams ≡ (one c).datagrams =
       d.datagrams (five c) ∙ e.datagrams (four c) ∙ control-datagrams t o.control (three c) ∙ w.datagrams (two c) ∙ s.datagrams (one c) in (
-        datagrams-rest t settled_count c (with_no_stops (six c)) kept,
+        datagrams-rest t released_count c (with_no_stops (six c)) kept,
         (
           s.stays (one c) r.1.1.0 (with_no_stops (six c)),
           (
@@ -269,11 +269,11 @@ module _ (t : TransportView) (settled_count : ℕ) (session : Option (ℕ × ℕ
       )
 
   -- after all checks, where none found an ending, none finds anything more
-  pub checks-rest : (c : DriverProgress) → (in_order (checks t (kept_calls settled_count session) o) c).ending ≡ None
-      → AllStay (checks t (kept_calls settled_count session) o) (with_no_stops (in_order (checks t (kept_calls settled_count session) o) c))
+  pub checks-rest : (c : DriverProgress) → (in_order (checks t (kept_calls released_count session) o) c).ending ≡ None
+      → AllStay (checks t (kept_calls released_count session) o) (with_no_stops (in_order (checks t (kept_calls released_count session) o) c))
   checks-rest c e =
-      let r = runs-on (checks t (kept_calls settled_count session) o) c e in
-      let is : in_order (checks t (kept_calls settled_count session) o) c ≡ six c = in-order-runs (checks t (kept_calls settled_count session) o) c r in
+      let r = runs-on (checks t (kept_calls released_count session) o) c e in
+      let is : in_order (checks t (kept_calls released_count session) o) c ≡ six c = in-order-runs (checks t (kept_calls released_count session) o) c r in
       let last : (six c).ending ≡ None = ap (λ (d : DriverProgress). d.ending) (sym is) ∙ e in
       rw is (all-stay c r last)
 
@@ -284,11 +284,11 @@ pub scanned-rest : (t : TransportView) (k : DriverState) → (scan_state t k).pr
 scanned-rest t k e =
     let a : DriverState = scan_uni_slots t (begin_scan k) in
     let b : DriverState = scan_bi_slots t a in
-    let behind_none : b.progress.ending ≡ None = ended-before (checks t (kept_calls b.datagrams b.session) b.dispatched) b.progress e in
-    let uni_none : a.progress.ending ≡ None = ended-going t.ready (bi_rule t) a.bis 0 (known_of a) behind_none in
+    let after_none : b.progress.ending ≡ None = ended-before (checks t (kept_calls b.datagrams b.session) b.dispatched) b.progress e in
+    let uni_none : a.progress.ending ≡ None = ended-going t.ready (bi_rule t) a.bis 0 (known_of a) after_none in
     record {
       unis = scan-rests t.ready (uni_rule t) k.unis 0 (known_of (begin_scan k)) uni_none;
-      bis = scan-rests t.ready (bi_rule t) a.bis 0 (known_of a) behind_none;
+      bis = scan-rests t.ready (bi_rule t) a.bis 0 (known_of a) after_none;
       stay = checks-rest t b.datagrams b.session b.dispatched b.progress e;
     }
 

@@ -167,13 +167,13 @@ module _ (o : Dispatched) where
   }
 
   added-by : (k : ℕ) (v : Verdict) (surplus : Bool) → added o (record { id = k; verdict = v; surplus = surplus }) ≡ dispatch_by v (record { id = k; verdict = v; surplus = surplus }) o
-  added-by k (verdicts.Control at) b = ap (λ (p : Dispatched). record p { control = or_later o.control (Some (k, at)) }) none-added
-  added-by k (verdicts.Encoder at) b = ap (λ (p : Dispatched). record p { encoder = or_later o.encoder (Some (k, at)) }) none-added
-  added-by k (verdicts.Decoder at) b = ap (λ (p : Dispatched). record p { decoder = or_later o.decoder (Some (k, at)) }) none-added
-  added-by k (verdicts.Request headers at) b =
-      ap (λ (p : Dispatched). record p { requests = o.requests ++ kept_if (not b) (record { id = k; verdict = verdicts.Request headers at; surplus = b }) }) none-added
-  added-by k (verdicts.WebTransport session at) b =
-      ap (λ (p : Dispatched). record p { waiting = o.waiting ++ record { id = k; verdict = verdicts.WebTransport session at; surplus = b } ∷ [] }) none-added
+  added-by k (verdicts.Control offset) b = ap (λ (p : Dispatched). record p { control = or_later o.control (Some (k, offset)) }) none-added
+  added-by k (verdicts.Encoder offset) b = ap (λ (p : Dispatched). record p { encoder = or_later o.encoder (Some (k, offset)) }) none-added
+  added-by k (verdicts.Decoder offset) b = ap (λ (p : Dispatched). record p { decoder = or_later o.decoder (Some (k, offset)) }) none-added
+  added-by k (verdicts.Request headers offset) b =
+      ap (λ (p : Dispatched). record p { requests = o.requests ++ kept_if (not b) (record { id = k; verdict = verdicts.Request headers offset; surplus = b }) }) none-added
+  added-by k (verdicts.WebTransport session offset) b =
+      ap (λ (p : Dispatched). record p { waiting = o.waiting ++ record { id = k; verdict = verdicts.WebTransport session offset; surplus = b } ∷ [] }) none-added
   added-by k _ b = none-added
 
 dispatched-append : (d : CallView) (rs : List Classified) (r : Classified) → d.released r.id ≡ false → d.delivered r.id ≡ false → dispatched_streams d (rs ++ r ∷ []) ≡ dispatch (dispatched_streams d rs) r

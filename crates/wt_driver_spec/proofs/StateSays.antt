@@ -4,7 +4,7 @@ use Rattle.std.specs.Prelude.{None, Option, Some, if◌then◌else◌}
 use Rattle.wt_driver_spec.specs.DriverState.{state_of}
 use Rattle.wt_driver_spec.specs.Due.{ending_error, state_next_datagram, state_next_due, state_pending_or_failed}
 use Rattle.wt_spec.specs.Connection.{next_datagram, next_due}
-use Rattle.wt_spec.specs.Driver.{control_sent, established_session, settings_came, settled_datagrams, stream_table, transport_view}
+use Rattle.wt_spec.specs.Driver.{control_sent, established_session, settings_came, released_datagrams, stream_table, transport_view}
 use Rattle.wt_spec.specs.Effect.{driver_error, error_of_ending, pending_or_failed, transport_error}
 use Rattle.wt_spec.specs.Handshake.{queued_requests}
 use Rattle.wt_spec.specs.StreamTable.{ByFault, BySession, Ending}
@@ -35,9 +35,9 @@ module _ (side : Side) (log : Log) where
   control_says = refl
 
   -- how many datagrams were received or passed
-  pub settled_says : settled_datagrams (calls_of log) ≡ (state_of side log).datagrams
+  pub released_says : released_datagrams (calls_of log) ≡ (state_of side log).datagrams
   unfolding state_of
-  settled_says = refl
+  released_says = refl
 
   -- the requests that wait
   pub requests_say : queued_requests side log ≡ (if (state_of side log).progress.settings then (state_of side log).dispatched.requests else [])

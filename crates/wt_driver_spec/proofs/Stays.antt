@@ -46,7 +46,7 @@ pub record IsReleased (d : CallView) (s : StreamTable) (k : ℕ) : Type 0 where
 
 pub by-accept-stays : (v : Verdict) (before after : Bool) → (before ≡ true → after ≡ true) → is_released before v ≡ true → is_released after v ≡ true
 by-accept-stays verdicts.Incomplete before after f e = absurd cc
-by-accept-stays (verdicts.WebTransport session at) before after f e = f e
+by-accept-stays (verdicts.WebTransport session offset) before after f e = f e
 by-accept-stays (verdicts.Fault code) before after f e = absurd cc
 by-accept-stays _ before after f e = refl
 

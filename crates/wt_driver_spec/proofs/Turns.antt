@@ -201,10 +201,10 @@ module _ (side : Side) (log : Log) (held : FitsAndRests side log) where
   failed-leads : (own : List Action) (reply : Reply) → Leads side (fail_handshake side log own reply)
   failed-leads own reply = called-leads side log own HandshakeOver tt fitting
 
-  establish-leads : (own : List Action) (id at : ℕ) → Leads side (establish side log own id at)
-  establish-leads own id at =
-      let later = called-facts side log own (SessionEstablished id at) tt fitting in
-      called-leads side (log_call side log own (SessionEstablished id at)) [] Polled tt later.fits
+  establish-leads : (own : List Action) (id offset : ℕ) → Leads side (establish side log own id offset)
+  establish-leads own id offset =
+      let later = called-facts side log own (SessionEstablished id offset) tt fitting in
+      called-leads side (log_call side log own (SessionEstablished id offset)) [] Polled tt later.fits
 
   queued-there : (c : Classified) → In c (dispatched_streams (call_view log) (stream_table side log).classified).requests → is_some (verdict_of c.id (stream_table side log).classified) ≡ true
   queued-there c i =
@@ -247,8 +247,8 @@ module _ (side : Side) (log : Log) (held : FitsAndRests side log) where
   response-leads id own (responses.Fault code) = failed-leads (own ++ close_when_open log (code_of code)) _
   response-leads id own responses.Ended = failed-leads (own ++ close_when_open log 0) _
   response-leads id own responses.Incomplete = either side (is_open log) _ _ (polls own _) (failed-leads own _)
-  response-leads id own (responses.Response fields at) =
-      either side (not (has_success fields)) _ _ (failed-leads (own ++ close_when_open log 0) _) (either side (is_open log) _ _ (establish-leads own id at) (failed-leads own _))
+  response-leads id own (responses.Response fields offset) =
+      either side (not (has_success fields)) _ _ (failed-leads (own ++ close_when_open log 0) _) (either side (is_open log) _ _ (establish-leads own id offset) (failed-leads own _))
 
   request-leads : (id : ℕ) (own : List Action) (left : List ℕ) → Leads side (send_request side log id own left)
   request-leads id own left =

@@ -46,9 +46,9 @@ pub record AwaitsResponse (side : Side) (log : Log) (id : ℕ) : Type 0 where
 
 -- a client establishes its session with the response that it awaits, after it; a server asks nothing more
 abbrev pub Establishes : Side → Log → ℕ → ℕ → Type 0
-Establishes Client log id at = AwaitsResponse Client log id
-    × (response_offset (response_walk_of (contents log id) (end_of (events_of log) id)) ≡ Some at)
-Establishes Server log id at = Unit {0}
+Establishes Client log id offset = AwaitsResponse Client log id
+    × (response_offset (response_walk_of (contents log id) (end_of (events_of log) id)) ≡ Some offset)
+Establishes Server log id offset = Unit {0}
 
 -- by what the call did: the stream has the half that it is about, a reset that isn't sent comes after
 -- the end, and a client's session is established by the response
@@ -56,7 +56,7 @@ abbrev pub HalfAsks : Side → Log → CallRecord → Type 0
 HalfAsks side log (BytesRead id count) = has_receiving_half side log id ≡ true
 HalfAsks side log (PrioritySet id priority) = can_send side log id ≡ true
 HalfAsks side log (ResetUnsent id code) = (is_open log ≡ false) × (can_send side log id ≡ true)
-HalfAsks side log (SessionEstablished id at) = Establishes side log id at
+HalfAsks side log (SessionEstablished id offset) = Establishes side log id offset
 HalfAsks side log _ = Unit {0}
 
 -- A call's record may come now: it may follow the log, and the driver may send on after it.

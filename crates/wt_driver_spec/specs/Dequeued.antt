@@ -54,7 +54,7 @@ has_final_verdict log verdict k = is_final (verdict (contents log k) (end_of (ev
 -- Of one kind of the peer's streams, with so many slots and this verdict over what came for a stream: which are dequeued, each
 -- after fewer than so many that aren't released, and which are classified.
 pub record DequeuedInTurn (side : Side) (log : Log) (kind slots : ℕ) (verdict : List ℕ → StreamEnd → Verdict) : Type 0 where
-  pub next : (n : ℕ) → may_dequeue side log ≡ true → n < peer_count side (events_of log) kind → unreleased_before side log kind n < slots → is_dequeued side log (stream_id kind n) ≡ true  -- while streams are dequeued, each after fewer that aren't released is
+  pub each_in_turn : (n : ℕ) → may_dequeue side log ≡ true → n < peer_count side (events_of log) kind → unreleased_before side log kind n < slots → is_dequeued side log (stream_id kind n) ≡ true  -- while streams are dequeued, each after fewer that aren't released is
   pub few : (n : ℕ) → is_dequeued side log (stream_id kind n) ≡ true → unreleased_before side log kind n < slots  -- a dequeued stream is after fewer that aren't released
   pub opened : (n : ℕ) → is_dequeued side log (stream_id kind n) ≡ true → n < peer_count side (events_of log) kind  -- it was opened by the peer
   pub ready : (n : ℕ) → is_dequeued side log (stream_id kind n) ≡ true → WasReady side log  -- and there was a moment at which this end was ready

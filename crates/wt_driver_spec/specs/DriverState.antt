@@ -44,7 +44,7 @@ abbrev pub slots : CallView → StreamTable → List ℕ → List Slot
 slots calls table [] = []
 slots calls table (k ∷ ks) = slot_of calls table k ++ slots calls table ks
 
--- what is kept, by what the transport told, what the calls did, and the table
+-- what is kept, by what the transport reported, what the calls did, and the table
 abbrev pub state_by : TransportView → CallView → ControlSent → Bool → StreamTable → DriverState
 state_by t calls sent open_ table = record {
   unis = slots calls table (uni_ids t);

@@ -32,7 +32,7 @@ pub record Due (T : Type 0) : Type 0 where
 
 -- how a call goes on: what is next, what passing it does, and what giving it does
 pub record DueRule (S T : Type 0) : Type 0 where
-  pub next : S → Option (Due T)
+  pub due_now : S → Option (Due T)
   pub pass : T → S → S
   pub give : T → S → S
 
@@ -54,7 +54,7 @@ take_next rule again s (Some due) = give_or_pass_due due.is_own rule again due.i
 -- it looks again after each item that it passes, at most so many times
 abbrev pub take_due : {S T : Type 0} → DueRule S T → ℕ → S → DueOutcome S T
 take_due rule zero s = record { state = s; given = None }
-take_due rule (suc n) s = take_next rule (λ u. take_due rule n u) s (rule.next s)
+take_due rule (suc n) s = take_next rule (λ u. take_due rule n u) s (rule.due_now s)
 
 -- ---- what is next
 
@@ -73,7 +73,7 @@ due_datagram session (Some d) = Some (record { item = d.1; is_own = 4 * d.0 == s
 -- an accept of a stream of this kind
 abbrev pub log_streams : Side → ℕ → ℕ → DueRule Log ℕ
 log_streams side kind session = record {
-  next = λ log. due_stream session (next_due side log kind session);
+  due_now = λ log. due_stream session (next_due side log kind session);
   pass = λ k log. pass_stream side log k;
   give = λ k log. log_call side log [] (StreamAccepted k);
 }
@@ -81,7 +81,7 @@ log_streams side kind session = record {
 -- a receive of a datagram
 abbrev pub log_datagrams : Side → ℕ → DueRule Log (List ℕ)
 log_datagrams side session = record {
-  next = λ log. due_datagram session (next_datagram side log);
+  due_now = λ log. due_datagram session (next_datagram side log);
   pass = λ payload log. log_call side log [] DatagramPassed;
   give = λ payload log. log_call side log [] DatagramReceived;
 }
@@ -107,9 +107,9 @@ given_reply side reply x = reply_or reply (pending_or_failed side x.state) x.giv
 abbrev pub outcome_effect : {T : Type 0} → Side → (T → Reply) → DueOutcome Log T → Effect
 outcome_effect side reply x = poll_only side x.state (given_reply side reply x)
 
--- ---- what is told where nothing is given
+-- ---- what is reported where nothing is given
 
--- how the driver's ending is told, and without one this error of the transport
+-- how the driver's ending is reported, and without one this error of the transport
 abbrev pub ending_error : ConnectionError → Option Ending → ConnectionError
 ending_error error None = error
 ending_error error (Some (ByFault code)) = errors.LocalH3Error code
@@ -149,7 +149,7 @@ state_next_datagram t s = if nat_lt s.datagrams s.progress.datagrams then read_d
 -- an accept of a stream of this kind
 abbrev pub state_streams : TransportView → ℕ → ℕ → DueRule DriverRun ℕ
 state_streams t kind session = record {
-  next = λ x. due_stream session (state_next_due x.state kind session);
+  due_now = λ x. due_stream session (state_next_due x.state kind session);
   pass = λ k x. run_moment t (Called (StreamPassed k)) (run_action t (passing_stop k) x);
   give = λ k x. run_moment t (Called (StreamAccepted k)) x;
 }
@@ -157,7 +157,7 @@ state_streams t kind session = record {
 -- a receive of a datagram
 abbrev pub state_datagrams : TransportView → ℕ → DueRule DriverRun (List ℕ)
 state_datagrams t session = record {
-  next = λ x. due_datagram session (state_next_datagram t x.state);
+  due_now = λ x. due_datagram session (state_next_datagram t x.state);
   pass = λ payload x. run_moment t (Called DatagramPassed) x;
   give = λ payload x. run_moment t (Called DatagramReceived) x;
 }

@@ -67,7 +67,7 @@ abbrev pub actions_if : Bool → TransportView → DriverState → List Action
 actions_if true t s = step_actions t (scan_state t s)
 actions_if false t s = []
 
--- the state after one more entry and its scan, by what the transport told before it and up to it
+-- the state after one more entry and its scan, by what the transport reported before it and up to it
 abbrev pub moment_state : TransportView → TransportView → Entry → DriverState → DriverState
 moment_state t u e s = scan_if (scans e (after_entry t e s)) u (after_entry t e s)
 

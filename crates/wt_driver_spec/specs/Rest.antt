@@ -57,7 +57,7 @@ state_at_rest s = begin_if s.is_open s
 
 -- ---- more bytes of one stream
 
--- the transport told of other bytes
+-- the transport reported other bytes
 abbrev pub with_contents : TransportView → (ℕ → List ℕ) → TransportView
 with_contents t bytes = record t { contents = bytes }
 

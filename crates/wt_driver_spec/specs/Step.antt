@@ -17,11 +17,11 @@ use Rattle.wt_proto.specs.declared.verdict.Verdict.TheVariants as verdicts
 
 -- the dispatched streams with one more, whose verdict is this
 abbrev pub dispatch_by : Verdict → Classified → Dispatched → Dispatched
-dispatch_by (verdicts.Control at) c d = record d { control = or_later d.control (Some (c.id, at)) }
-dispatch_by (verdicts.Encoder at) c d = record d { encoder = or_later d.encoder (Some (c.id, at)) }
-dispatch_by (verdicts.Decoder at) c d = record d { decoder = or_later d.decoder (Some (c.id, at)) }
-dispatch_by (verdicts.Request headers at) c d = record d { requests = d.requests ++ kept_if (not c.surplus) c }
-dispatch_by (verdicts.WebTransport session at) c d = record d { waiting = d.waiting ++ c ∷ [] }
+dispatch_by (verdicts.Control offset) c d = record d { control = or_later d.control (Some (c.id, offset)) }
+dispatch_by (verdicts.Encoder offset) c d = record d { encoder = or_later d.encoder (Some (c.id, offset)) }
+dispatch_by (verdicts.Decoder offset) c d = record d { decoder = or_later d.decoder (Some (c.id, offset)) }
+dispatch_by (verdicts.Request headers offset) c d = record d { requests = d.requests ++ kept_if (not c.surplus) c }
+dispatch_by (verdicts.WebTransport session offset) c d = record d { waiting = d.waiting ++ c ∷ [] }
 dispatch_by _ c d = d
 
 -- the dispatched streams with one more
@@ -186,7 +186,7 @@ remove_request id s = record s { dispatched = record s.dispatched { requests = o
 abbrev pub new_slot : ℕ → Slot
 new_slot id = record { id = id; phase = Arrived }
 
--- an event, by what the transport told before it
+-- an event, by what the transport reported before it
 abbrev pub with_arrival : TransportView → Event → DriverState → DriverState
 with_arrival t PeerUni s = record s { unis = s.unis ++ new_slot (4 * t.unis + peer_uni t.side) ∷ [] }
 with_arrival t PeerBi s = record s { bis = s.bis ++ new_slot (4 * t.bis + peer_bi t.side) ∷ [] }
@@ -199,7 +199,7 @@ after_call (StreamPassed id) s = release id s
 after_call DatagramReceived s = record s { datagrams = s.datagrams + 1 }
 after_call DatagramPassed s = record s { datagrams = s.datagrams + 1 }
 after_call (RequestDelivered id) s = remove_request id s
-after_call (SessionEstablished id at) s = record s { session = Some (id, at) }
+after_call (SessionEstablished id offset) s = record s { session = Some (id, offset) }
 after_call _ s = s
 
 -- an entry, by its kind
@@ -209,6 +209,6 @@ after_kind t (Called r) s = after_call r s
 after_kind t (Sent a) s = record s { control_sent = control_after (local_uni t.side) a s.control_sent }
 after_kind t _ s = s
 
--- the state after an entry, before the scan of its moment, by what the transport told before it
+-- the state after an entry, before the scan of its moment, by what the transport reported before it
 abbrev pub after_entry : TransportView → Entry → DriverState → DriverState
 after_entry t e s = record (after_kind t e s) { is_open = not (ends_by e) && s.is_open }

@@ -4,7 +4,7 @@ use Rattle.std.specs.Prelude.{Bool, List, None, Option, Some, [], false, if◌th
 use Rattle.wt_proto.specs.declared.verdict.Verdict.{Verdict}
 use Rattle.wt_seam_spec.specs.Reports.{datagrams_of}
 use Rattle.wt_seam_spec.specs.Streams.{local_bi, local_count, peer_bi, peer_uni}
-use Rattle.wt_spec.specs.Driver.{established_session, settled_datagrams, stream_table}
+use Rattle.wt_spec.specs.Driver.{established_session, released_datagrams, stream_table}
 use Rattle.wt_spec.specs.Halves.{is_accepted, unread_body}
 use Rattle.wt_spec.specs.Handshake.{awaits_answer, handshake_state}
 use Rattle.wt_spec.specs.StreamTable.{Classified, is_webtransport}
@@ -79,7 +79,7 @@ abbrev pub use_after : ℕ → CallRecord → CallUse → CallUse
 use_after k (BytesRead id count) before = record before { read = if id == k then count + before.read else before.read }
 use_after k (StreamGivenUp id) before = record before { is_dropped = id == k || before.is_dropped }
 use_after k (StreamPassed id) before = record before { is_dropped = id == k || before.is_dropped }
-use_after k (SessionEstablished id at) before = record before { session = Some (id, at) }
+use_after k (SessionEstablished id offset) before = record before { session = Some (id, offset) }
 use_after k HandshakeOver before = record before { is_over = true }
 use_after k _ before = before
 
@@ -92,13 +92,13 @@ use_of k (r ∷ earlier) = use_after k r (use_of k earlier)
 
 -- where a request that is queued ends
 abbrev pub request_at : Bool → Verdict → Option ℕ
-request_at false (verdicts.Request request at) = Some at
+request_at false (verdicts.Request request offset) = Some offset
 request_at surplus _ = None
 
 -- where the session's part begins of a stream that carries it: a client has that from the response
 abbrev pub response_at : StreamRole → ℕ → Option ℕ
-response_at ForRequest at = Some at
-response_at _ at = None
+response_at ForRequest offset = Some offset
+response_at _ offset = None
 
 -- a server has it from the request that was queued
 abbrev pub queued_at : Option Classified → Option ℕ
@@ -107,8 +107,8 @@ queued_at (Some c) = request_at c.surplus c.verdict
 
 -- where the session's part of a stream begins, by the side
 abbrev pub session_at : Side → StreamRole → Option Classified → ℕ → Option ℕ
-session_at Client role o at = response_at role at
-session_at Server role o at = queued_at o
+session_at Client role o offset = response_at role offset
+session_at Server role o offset = queued_at o
 
 -- it is classified as a session's
 abbrev pub is_sessions : Option Classified → Bool
@@ -122,13 +122,13 @@ RequestOpened Server log = Unit {0}
 
 -- a client connects first, and a server answers a request that was queued and delivered; the session is on the stream of
 -- the request; streams of sessions are given or passed; what the application reads of its streams came, and so did each
--- datagram that a call settles
+-- datagram that a call releases
 abbrev pub MayUse : Side → Log → CallRecord → Type 0
 MayUse side log (ConnectStarted reserved head) = (side ≡ Client) × (established_session (calls_of log) ≡ None)
     × ((use_of 0 (calls_of log)).is_over ≡ false)
 MayUse side log (RequestDelivered id) = is_some (queued_at (classified_of id (stream_table side log).classified)) ≡ true
 MayUse side log (ResponseStarted accepts head) = (side ≡ Server) × (awaits_answer (handshake_state (calls_of log)) ≡ true)
-MayUse side log (SessionEstablished id at) = (session_at side (role_of side id) (classified_of id (stream_table side log).classified) at ≡ Some at)
+MayUse side log (SessionEstablished id offset) = (session_at side (role_of side id) (classified_of id (stream_table side log).classified) offset ≡ Some offset)
     × RequestOpened side log
 MayUse side log (StreamAccepted id) = (may_give (role_of side id) (classified_of id (stream_table side log).classified) ≡ true)
     × (list_any (passes id) (calls_of log) ≡ false)
@@ -137,8 +137,8 @@ MayUse side log (OpeningStarted id session) = may_give (role_of side id) None �
 MayUse side log (BytesRead id count) = (is_for_application (role_of side id) (classified_of id (stream_table side log).classified) ≡ true)
     × (count ≤ length (unread_body side log id))
 MayUse side log (StreamGivenUp id) = is_for_application (role_of side id) (classified_of id (stream_table side log).classified) ≡ true
-MayUse side log DatagramReceived = settled_datagrams (calls_of log) < length (datagrams_of (events_of log))
-MayUse side log DatagramPassed = settled_datagrams (calls_of log) < length (datagrams_of (events_of log))
+MayUse side log DatagramReceived = released_datagrams (calls_of log) < length (datagrams_of (events_of log))
+MayUse side log DatagramPassed = released_datagrams (calls_of log) < length (datagrams_of (events_of log))
 MayUse side log _ = Unit {0}
 
 -- an entry may follow

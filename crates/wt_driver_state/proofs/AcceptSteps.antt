@@ -3,18 +3,18 @@ use Rattle.std.proofs.Common.{arith, ◌≡◌, ◌<◌, ◌-◌, ℕ, suc, Bool
 use Rattle.std.specs.Prelude.{◌*◌, ◌==◌, Err, IfOk, None, Ok, OnOk, Option, Result, Some, if◌then◌else◌, nat_lt}
 use Rattle.std.proofs.lemmas.Bool.{true≢false}
 use Rattle.wt_driver_state.proofs.AcceptLooks.{LooksOn, enough-looks, none-due, one-look, other-due, own-due}
-use Rattle.wt_driver_state.proofs.AcceptUses.{MayPass, datagram-kept, due-kept, due-parts, may-give, may-pass-due, may-settle, other-open, passed-less}
+use Rattle.wt_driver_state.proofs.AcceptUses.{MayPass, datagram-kept, due-kept, due-parts, may-give, may-pass-due, may-release-datagram, other-open, passed-less}
 use Rattle.wt_driver_state.specs.DriverValue.{DriverValue}
 use Rattle.wt_dispatch.specs.Found.{due_as}
 use Rattle.wt_driver_state.specs.PollResults.{ended_or_pending, given_by, is_own, next_datagram_now, payload_by, payload_in}
 use Rattle.wt_driver_state.specs.Moving.{front_of}
-use Rattle.wt_driver_state.specs.Tie.{Follows, unsettled_datagrams}
+use Rattle.wt_driver_state.specs.Tie.{Follows, unreleased_datagrams}
 use Rattle.wt_driver_spec.specs.Asking.{MayBeCalled}
 use Rattle.wt_driver_spec.specs.Due.{Due, DueRule, DueOutcome, accept_outcome, due_datagram, due_stream, log_datagrams, log_streams, receive_outcome, state_next_due, take_due}
 use Rattle.wt_seam_spec.specs.Reports.{datagrams_of}
 use Rattle.wt_seam_spec.specs.Streams.{peer_count}
 use Rattle.wt_spec.specs.Connection.{is_for_session, next_datagram, next_due, pass_stream, read_datagram}
-use Rattle.wt_spec.specs.Driver.{log_and_flush, settled_datagrams, settles_datagram}
+use Rattle.wt_spec.specs.Driver.{log_and_flush, released_datagrams, releases_datagram}
 use Rattle.wt_spec.specs.StreamTable.{Classified}
 use Rattle.wt_turn.specs.Log.{CallRecord, Called, DatagramPassed, DatagramReceived, Log, StreamAccepted, calls_of, events_of, is_open}
 use Rattle.wt_error.specs.declared.driver_error.DriverError.{DriverError}
@@ -24,10 +24,10 @@ use Rattle.wt_wire.specs.declared.side.Side.{Side}
 
 -- ---- any call
 
-module _ {T : Type 0} (side : Side) (taken : ℕ) (rule : DueRule Log T) (whole : DueOutcome Log T) where
+module _ {T : Type 0} (side : Side) (collected : ℕ) (rule : DueRule Log T) (whole : DueOutcome Log T) where
   module _ (log : Log) (left : ℕ) (whole_is : whole ≡ take_due rule left log) where
     -- a look is left after a pass
-    pub looks-again : (d : DriverValue) → Follows side d log taken → 0 < left → LooksOn side taken rule whole (left - 1) d
+    pub looks-again : (d : DriverValue) → Follows side d log collected → 0 < left → LooksOn side collected rule whole (left - 1) d
     looks-again d f more = record {
       log_now = log;
       follows = f;
@@ -38,8 +38,8 @@ module _ {T : Type 0} (side : Side) (taken : ℕ) (rule : DueRule Log T) (whole 
     looks-end : left ≡ 0 → whole ≡ record { state = log; given = None }
     looks-end none = whole_is ∙ ap (λ n. take_due rule n log) none
 
-    pub end-follows : (d : DriverValue) → left ≡ 0 → Follows side d log taken → Follows side d whole.state taken
-    end-follows d none f = subst (λ (x : DueOutcome Log T). Follows side d x.state taken) (sym (looks-end none)) f
+    pub end-follows : (d : DriverValue) → left ≡ 0 → Follows side d log collected → Follows side d whole.state collected
+    end-follows d none f = subst (λ (x : DueOutcome Log T). Follows side d x.state collected) (sym (looks-end none)) f
 
     pub end-given : left ≡ 0 → None ≡ whole.given
     end-given none = sym (ap (λ (x : DueOutcome Log T). x.given) (looks-end none))
@@ -64,17 +64,17 @@ accepted-is side log kind of_kind session looks same count =
     by true o = ap (λ n. take_due (log_streams side of_kind session) (suc n) log) (count o)
     by false o = one-look (log_streams side of_kind session) log looks (peer_count side (events_of log) of_kind) (own-only o (next_due side log of_kind session) refl)
 
-module _ (side : Side) (taken kind session left : ℕ) (whole : DueOutcome Log ℕ) (d : DriverValue) (s : LooksOn side taken (log_streams side kind session) whole left d)
+module _ (side : Side) (collected kind session left : ℕ) (whole : DueOutcome Log ℕ) (d : DriverValue) (s : LooksOn side collected (log_streams side kind session) whole left d)
     (o : Option (ℕ × Bool)) (found : due_as o ≡ due_stream session (state_next_due d.state kind session)) where
   next-is : due_stream session (next_due side s.log_now kind session) ≡ due_as o
-  next-is = due-kept side s.log_now taken d s.follows kind session ∙ sym found
+  next-is = due-kept side s.log_now collected d s.follows kind session ∙ sym found
 
   no-stream : o ≡ None → whole ≡ record { state = s.log_now; given = None }
   no-stream e = none-due (log_streams side kind session) whole left s.log_now s.same (next-is ∙ ap due_as e)
 
   -- no stream is due
-  pub none-follows : o ≡ None → Follows side d whole.state taken
-  none-follows e = subst (λ (x : DueOutcome Log ℕ). Follows side d x.state taken) (sym (no-stream e)) s.follows
+  pub none-follows : o ≡ None → Follows side d whole.state collected
+  none-follows e = subst (λ (x : DueOutcome Log ℕ). Follows side d x.state collected) (sym (no-stream e)) s.follows
 
   pub none-given : o ≡ None → None ≡ whole.given
   none-given e = sym (ap (λ (x : DueOutcome Log ℕ). x.given) (no-stream e))
@@ -85,20 +85,20 @@ module _ (side : Side) (taken kind session left : ℕ) (whole : DueOutcome Log �
 
     -- one of the session is given
     pub stream-may : own ≡ true → MayBeCalled side s.log_now (StreamAccepted id)
-    stream-may e = may-give side s.log_now taken d s.follows kind session id (due-is true e)
+    stream-may e = may-give side s.log_now collected d s.follows kind session id (due-is true e)
 
     stream-gives : own ≡ true → whole ≡ record { state = log_and_flush side s.log_now (Called (StreamAccepted id)); given = Some id }
     stream-gives e = own-due (log_streams side kind session) whole left s.log_now s.same id (due-is true e)
 
-    pub stream-follows : (new : DriverValue) → own ≡ true → Follows side new (log_and_flush side s.log_now (Called (StreamAccepted id))) taken → Follows side new whole.state taken
-    stream-follows new e f = subst (λ (x : DueOutcome Log ℕ). Follows side new x.state taken) (sym (stream-gives e)) f
+    pub stream-follows : (new : DriverValue) → own ≡ true → Follows side new (log_and_flush side s.log_now (Called (StreamAccepted id))) collected → Follows side new whole.state collected
+    stream-follows new e f = subst (λ (x : DueOutcome Log ℕ). Follows side new x.state collected) (sym (stream-gives e)) f
 
     pub stream-given : own ≡ true → Some id ≡ whole.given
     stream-given e = sym (ap (λ (x : DueOutcome Log ℕ). x.given) (stream-gives e))
 
     -- one of another session is passed
     pub stream-passes : own ≡ false → MayPass side s.log_now id
-    stream-passes e = may-pass-due side s.log_now taken d s.follows kind session id (due-is false e)
+    stream-passes e = may-pass-due side s.log_now collected d s.follows kind session id (due-is false e)
 
     pub stream-passed : own ≡ false → whole ≡ take_due (log_streams side kind session) left (pass_stream side s.log_now id)
     stream-passed e = other-due (log_streams side kind session) whole left s.log_now s.same id (due-is false e)
@@ -114,12 +114,12 @@ unfolding truth
 same-own a b e = ap truth e
 
 -- how many looks there are
-pub received-is : (side : Side) (log : Log) (taken session looks : ℕ) (d : DriverValue) → Follows side d log taken → looks ≡ length d.queue → receive_outcome side log session ≡ take_due (log_datagrams side session) (suc looks) log
-received-is side log taken session looks d f all =
-    enough-looks (log_datagrams side session) (λ g. length (unsettled_datagrams g)) (λ g x e. passed-less side session g x e)
+pub received-is : (side : Side) (log : Log) (collected session looks : ℕ) (d : DriverValue) → Follows side d log collected → looks ≡ length d.queue → receive_outcome side log session ≡ take_due (log_datagrams side session) (suc looks) log
+received-is side log collected session looks d f all =
+    enough-looks (log_datagrams side session) (λ g. length (unreleased_datagrams g)) (λ g x e. passed-less side session g x e)
     (suc (length (datagrams_of (events_of log)))) (suc looks) log
-    (omega (arith, length-drop (settled_datagrams (calls_of log)) (datagrams_of (events_of log))))
-    (let same : length d.queue ≡ length (unsettled_datagrams log) = ap (λ (q : List (List ℕ)). length q) f.refines.queue_is in omega arith)
+    (omega (arith, length-drop (released_datagrams (calls_of log)) (datagrams_of (events_of log))))
+    (let same : length d.queue ≡ length (unreleased_datagrams log) = ap (λ (q : List (List ℕ)). length q) f.refines.queue_is in omega arith)
 
 -- one that is due has a payload
 pub front-paid : (session : ℕ) (d : DriverValue) (o : Option Bool) (own : Bool) (piece : Option (List ℕ)) → o ≡ is_own session (next_datagram_now d) → o ≡ Some own → piece ≡ front_of d.queue
@@ -144,10 +144,10 @@ front-own session d o own given found is so front =
     by false x e = absurd cc
     by true x e = e
 
-module _ (side : Side) (taken session left : ℕ) (whole : DueOutcome Log (List ℕ)) (d : DriverValue) (s : LooksOn side taken (log_datagrams side session) whole left d)
+module _ (side : Side) (collected session left : ℕ) (whole : DueOutcome Log (List ℕ)) (d : DriverValue) (s : LooksOn side collected (log_datagrams side session) whole left d)
     (o : Option Bool) (found : o ≡ is_own session (next_datagram_now d)) where
   kept : next_datagram side s.log_now ≡ next_datagram_now d
-  kept = datagram-kept side s.log_now taken d s.follows
+  kept = datagram-kept side s.log_now collected d s.follows
 
   no-datagram : o ≡ None → whole ≡ record { state = s.log_now; given = None }
   no-datagram e = none-due (log_datagrams side session) whole left s.log_now s.same (ap (due_datagram session) kept ∙ by (next_datagram_now d) (sym found ∙ e))
@@ -157,8 +157,8 @@ module _ (side : Side) (taken session left : ℕ) (whole : DueOutcome Log (List 
       by (Some x) g = absurd cc
 
   -- no datagram is due
-  pub none-received : o ≡ None → Follows side d whole.state taken
-  none-received e = subst (λ (x : DueOutcome Log (List ℕ)). Follows side d x.state taken) (sym (no-datagram e)) s.follows
+  pub none-received : o ≡ None → Follows side d whole.state collected
+  none-received e = subst (λ (x : DueOutcome Log (List ℕ)). Follows side d x.state collected) (sym (no-datagram e)) s.follows
 
   pub none-paid : o ≡ None → None ≡ whole.given
   none-paid e = sym (ap (λ (x : DueOutcome Log (List ℕ)). x.given) (no-datagram e))
@@ -182,14 +182,14 @@ module _ (side : Side) (taken session left : ℕ) (whole : DueOutcome Log (List 
     due-by : (b : Bool) → own ≡ b → due_datagram session (next_datagram side s.log_now) ≡ Some (record { item = datagram-due.datagram.1; is_own = b })
     due-by b e = datagram-due.due ∙ ap (λ (x : Bool). Some (record { item = datagram-due.datagram.1; is_own = x })) e
 
-    pub datagram-may : (r : CallRecord) → settles_datagram r ≡ true → MayBeCalled side s.log_now r
-    datagram-may r settles = may-settle side s.log_now taken d s.follows session (record { item = datagram-due.datagram.1; is_own = own }) datagram-due.due r settles
+    pub datagram-may : (r : CallRecord) → releases_datagram r ≡ true → MayBeCalled side s.log_now r
+    datagram-may r reads-settings = may-release-datagram side s.log_now collected d s.follows session (record { item = datagram-due.datagram.1; is_own = own }) datagram-due.due r reads-settings
 
     datagram-gives : own ≡ true → whole ≡ record { state = log_and_flush side s.log_now (Called DatagramReceived); given = Some datagram-due.datagram.1 }
     datagram-gives e = own-due (log_datagrams side session) whole left s.log_now s.same datagram-due.datagram.1 (due-by true e)
 
-    pub datagram-follows : (new : DriverValue) → own ≡ true → Follows side new (log_and_flush side s.log_now (Called DatagramReceived)) taken → Follows side new whole.state taken
-    datagram-follows new e f = subst (λ (x : DueOutcome Log (List ℕ)). Follows side new x.state taken) (sym (datagram-gives e)) f
+    pub datagram-follows : (new : DriverValue) → own ≡ true → Follows side new (log_and_flush side s.log_now (Called DatagramReceived)) collected → Follows side new whole.state collected
+    datagram-follows new e f = subst (λ (x : DueOutcome Log (List ℕ)). Follows side new x.state collected) (sym (datagram-gives e)) f
 
     pub datagram-given : (piece : Option (List ℕ)) → own ≡ true → piece ≡ front_of d.queue → payload_in (read_datagram piece) ≡ whole.given
     datagram-given piece e p = ap (λ (x : Option (List ℕ)). payload_in (read_datagram x)) p ∙ ap payload_in datagram-due.front ∙ sym (ap (λ (x : DueOutcome Log (List ℕ)). x.given) (datagram-gives e))

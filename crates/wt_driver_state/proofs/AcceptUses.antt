@@ -6,11 +6,11 @@ use Rattle.wt_driver_state.proofs.Acting.{acted-sends}
 use Rattle.wt_driver_state.proofs.Calling.{received-taken, skipped-taken}
 use Rattle.wt_driver_state.proofs.Receives.{named-receives}
 use Rattle.wt_driver_state.proofs.StageUses.{due-uses, table-with}
-use Rattle.wt_driver_state.proofs.StageWork.{passed-waits, slice-front, unsettled-with}
+use Rattle.wt_driver_state.proofs.StageWork.{passed-waits, slice-front, unreleased-with}
 use Rattle.wt_driver_state.specs.DriverValue.{DriverValue, without_first}
 use Rattle.wt_driver_state.specs.PollResults.{next_datagram_now}
 use Rattle.wt_driver_state.specs.Moving.{front_of}
-use Rattle.wt_driver_state.specs.Tie.{Follows, TakenIn, unsettled_datagrams}
+use Rattle.wt_driver_state.specs.Tie.{Follows, TakenIn, unreleased_datagrams}
 use Rattle.wt_driver_spec.proofs.Accepting.{due-named, may-release}
 use Rattle.wt_driver_spec.proofs.Following.{sound}
 use Rattle.wt_driver_spec.specs.Asking.{MayBeCalled, SendsWhileOpen, SparesControl}
@@ -23,7 +23,7 @@ use Rattle.wt_seam_spec.specs.Reports.{datagrams_of}
 use Rattle.wt_seam_spec.specs.Sent.{resets}
 use Rattle.wt_seam_spec.specs.Streams.{local_uni}
 use Rattle.wt_spec.specs.Connection.{first_of, is_due, is_for_session, next_datagram, next_due, read_datagram}
-use Rattle.wt_spec.specs.Driver.{apply_if, call_view, established_session, establishes, flush, is_moment, log_and_flush, or_earlier, pending_actions, settled_datagrams, settles_datagram, stream_table}
+use Rattle.wt_spec.specs.Driver.{apply_if, call_view, established_session, establishes, flush, is_moment, log_and_flush, or_earlier, pending_actions, released_datagrams, releases_datagram, stream_table}
 use Rattle.wt_spec.specs.StreamTable.{Classified, StreamTable, dispatched_streams, verdict_of}
 use Rattle.wt_turn.specs.Log.{CallRecord, Called, DatagramPassed, DatagramReceived, Log, Polled, Sent, StreamAccepted, StreamPassed, calls_of, events_of, is_open, with_actions}
 use Rattle.wt_wire.specs.declared.side.Side.{Side}
@@ -39,8 +39,8 @@ call-sends side log r none spares sends o = record {
 }
 
 -- a call that records nothing else may come after each log
-pub may-poll : (side : Side) (log : Log) (taken : ℕ) (d : DriverValue) → Follows side d log taken → MayBeCalled side log Polled
-may-poll side log taken d f = record { may = tt; can = tt; sends = call-sends side log Polled refl (λ k. refl) f.sends; half = tt }
+pub may-poll : (side : Side) (log : Log) (collected : ℕ) (d : DriverValue) → Follows side d log collected → MayBeCalled side log Polled
+may-poll side log collected d f = record { may = tt; can = tt; sends = call-sends side log Polled refl (λ k. refl) f.sends; half = tt }
 
 -- a stop leaves this end's control stream alone
 pub passing-spares : (side : Side) (log : Log) (id : ℕ) → SparesControl side log (passing_stop id)
@@ -49,10 +49,10 @@ passing-spares side log id = record { opens = λ e. absurd (true≢false (sym e)
 -- ---- a stream that is due
 
 -- a stream of this kind is due on the log where it is on what is kept
-pub due-kept : (side : Side) (log : Log) (taken : ℕ) (d : DriverValue) → Follows side d log taken → (kind session : ℕ)
+pub due-kept : (side : Side) (log : Log) (collected : ℕ) (d : DriverValue) → Follows side d log collected → (kind session : ℕ)
     → due_stream session (next_due side log kind session) ≡ due_stream session (state_next_due d.state kind session)
 unfolding state_of
-due-kept side log taken d f kind session = ap (λ (s : DriverState). due_stream session (state_next_due s kind session)) (sym f.refines.state_is)
+due-kept side log collected d f kind session = ap (λ (s : DriverState). due_stream session (state_next_due s kind session)) (sym f.refines.state_is)
 
 first-holds : (holds : Classified → Bool) (xs : List Classified) (c : Classified) → first_of holds xs ≡ Some c → holds c ≡ true
 first-holds holds [] c e = absurd cc
@@ -90,7 +90,7 @@ pub record MayPass (side : Side) (log : Log) (id : ℕ) : Type 0 where
   pub act : MayAct side log (passing_stop id)
   pub may_record : MayBeCalled side (Sent (passing_stop id) ∷ log) (StreamPassed id)
 
-module _ (side : Side) (log : Log) (taken : ℕ) (d : DriverValue) (f : Follows side d log taken) (kind session id : ℕ) where
+module _ (side : Side) (log : Log) (collected : ℕ) (d : DriverValue) (f : Follows side d log collected) (kind session id : ℕ) where
   named : (own : Bool) → due_stream session (next_due side log kind session) ≡ Some (record { item = id; is_own = own }) → names_session (verdict_of id (stream_table side log).classified) ≡ true
   named own e = due-named side log log kind session (record { item = id; is_own = own }) (sound side log f.refines.fits) (next_due side log kind session) refl e
 
@@ -129,63 +129,63 @@ module _ (side : Side) (log : Log) (taken : ℕ) (d : DriverValue) (f : Follows 
 -- ---- datagrams
 
 -- the datagram that is next waits in front
-pub datagram-kept : (side : Side) (log : Log) (taken : ℕ) (d : DriverValue) → Follows side d log taken → next_datagram side log ≡ next_datagram_now d
+pub datagram-kept : (side : Side) (log : Log) (collected : ℕ) (d : DriverValue) → Follows side d log collected → next_datagram side log ≡ next_datagram_now d
 unfolding state_of
-datagram-kept side log taken d f =
-    ap (λ (o : Option (List ℕ)). if nat_lt (settled_datagrams (calls_of log)) (stream_table side log).progress.datagrams then read_datagram o else None)
-    (slice-front (datagrams_of (events_of log)) (settled_datagrams (calls_of log)) ∙ ap (λ (q : List (List ℕ)). front_of q) (sym f.refines.queue_is))
+datagram-kept side log collected d f =
+    ap (λ (o : Option (List ℕ)). if nat_lt (released_datagrams (calls_of log)) (stream_table side log).progress.datagrams then read_datagram o else None)
+    (slice-front (datagrams_of (events_of log)) (released_datagrams (calls_of log)) ∙ ap (λ (q : List (List ℕ)). front_of q) (sym f.refines.queue_is))
     ∙ ap (λ (s : DriverState). if nat_lt s.datagrams s.progress.datagrams then read_datagram (front_of d.queue) else None) (sym f.refines.state_is)
 
 -- one waits where one is next
-datagram-waits : (side : Side) (log : Log) (session : ℕ) (x : Due (List ℕ)) → due_datagram session (next_datagram side log) ≡ Some x → 0 < length (unsettled_datagrams log)
+datagram-waits : (side : Side) (log : Log) (session : ℕ) (x : Due (List ℕ)) → due_datagram session (next_datagram side log) ≡ Some x → 0 < length (unreleased_datagrams log)
 datagram-waits side log session x e =
-    by (nat_lt (settled_datagrams (calls_of log)) (stream_table side log).progress.datagrams) (unsettled_datagrams log)
-    (ap (λ (o : Option (List ℕ)). due_datagram session (if nat_lt (settled_datagrams (calls_of log)) (stream_table side log).progress.datagrams then read_datagram o else None))
-    (sym (slice-front (datagrams_of (events_of log)) (settled_datagrams (calls_of log)))) ∙ e)
+    by (nat_lt (released_datagrams (calls_of log)) (stream_table side log).progress.datagrams) (unreleased_datagrams log)
+    (ap (λ (o : Option (List ℕ)). due_datagram session (if nat_lt (released_datagrams (calls_of log)) (stream_table side log).progress.datagrams then read_datagram o else None))
+    (sym (slice-front (datagrams_of (events_of log)) (released_datagrams (calls_of log)))) ∙ e)
   where
     by : (b : Bool) (q : List (List ℕ)) → due_datagram session (if b then read_datagram (front_of q) else None) ≡ Some x → 0 < length q
     by false q g = absurd cc
     by true [] g = absurd cc
     by true (piece ∷ q) g = omega arith
 
-came-more : (log : Log) → 0 < length (unsettled_datagrams log) → settled_datagrams (calls_of log) < length (datagrams_of (events_of log))
-came-more log lt = omega (arith, length-drop (settled_datagrams (calls_of log)) (datagrams_of (events_of log)))
+came-more : (log : Log) → 0 < length (unreleased_datagrams log) → released_datagrams (calls_of log) < length (datagrams_of (events_of log))
+came-more log lt = omega (arith, length-drop (released_datagrams (calls_of log)) (datagrams_of (events_of log)))
 
--- The datagram that is next may be settled.
-pub may-settle : (side : Side) (log : Log) (taken : ℕ) (d : DriverValue) → Follows side d log taken → (session : ℕ) (x : Due (List ℕ)) → due_datagram session (next_datagram side log) ≡ Some x
-    → (r : CallRecord) → settles_datagram r ≡ true → MayBeCalled side log r
-may-settle side log taken d f session x e r is = by r is
+-- The datagram that is next may be released.
+pub may-release-datagram : (side : Side) (log : Log) (collected : ℕ) (d : DriverValue) → Follows side d log collected → (session : ℕ) (x : Due (List ℕ)) → due_datagram session (next_datagram side log) ≡ Some x
+    → (r : CallRecord) → releases_datagram r ≡ true → MayBeCalled side log r
+may-release-datagram side log collected d f session x e r is = by r is
   where
-    lt : settled_datagrams (calls_of log) < length (datagrams_of (events_of log))
+    lt : released_datagrams (calls_of log) < length (datagrams_of (events_of log))
     lt = came-more log (datagram-waits side log session x e)
 
-    by : (r : CallRecord) → settles_datagram r ≡ true → MayBeCalled side log r
+    by : (r : CallRecord) → releases_datagram r ≡ true → MayBeCalled side log r
     by DatagramReceived i = record { may = tt; can = lt; sends = call-sends side log DatagramReceived refl (λ k. refl) f.sends; half = tt }
     by DatagramPassed i = record { may = tt; can = lt; sends = call-sends side log DatagramPassed refl (λ k. refl) f.sends; half = tt }
     by _ i = absurd (true≢false (sym i))
 
--- a datagram is settled
-pub settled-taken : (side : Side) (log : Log) (taken : ℕ) (d : DriverValue) (f : Follows side d log taken) (new : DriverValue)
+-- a datagram is released
+pub released-taken : (side : Side) (log : Log) (collected : ℕ) (d : DriverValue) (f : Follows side d log collected) (new : DriverValue)
     → new ≡ record d { state = record d.state { datagrams = suc d.state.datagrams }; queue = without_first d.queue }
-    → (r : CallRecord) → settles_datagram r ≡ true → MayBeCalled side log r → TakenIn side log (Called r) new taken
-settled-taken side log taken d f new e DatagramReceived is a = received-taken side log taken d f new e a
-settled-taken side log taken d f new e DatagramPassed is a = skipped-taken side log taken d f new e a
-settled-taken side log taken d f new e _ is a = absurd (true≢false (sym is))
+    → (r : CallRecord) → releases_datagram r ≡ true → MayBeCalled side log r → TakenIn side log (Called r) new collected
+released-taken side log collected d f new e DatagramReceived is a = received-taken side log collected d f new e a
+released-taken side log collected d f new e DatagramPassed is a = skipped-taken side log collected d f new e a
+released-taken side log collected d f new e _ is a = absurd (true≢false (sym is))
 
--- the work of the moment settles no other one
-settled-once : (side : Side) (log : Log) → unsettled_datagrams (log_and_flush side log (Called DatagramPassed)) ≡ unsettled_datagrams (Called DatagramPassed ∷ log)
+-- the work of the moment releases no other one
+released-once : (side : Side) (log : Log) → unreleased_datagrams (log_and_flush side log (Called DatagramPassed)) ≡ unreleased_datagrams (Called DatagramPassed ∷ log)
 unfolding flush
-settled-once side log = by (is_moment (Called DatagramPassed) && is_open (Called DatagramPassed ∷ log))
+released-once side log = by (is_moment (Called DatagramPassed) && is_open (Called DatagramPassed ∷ log))
   where
-    by : (b : Bool) → unsettled_datagrams (apply_if b (with_actions (pending_actions side (Called DatagramPassed ∷ log))) (Called DatagramPassed ∷ log)) ≡ unsettled_datagrams (Called DatagramPassed ∷ log)
-    by true = unsettled-with (pending_actions side (Called DatagramPassed ∷ log)) (Called DatagramPassed ∷ log)
+    by : (b : Bool) → unreleased_datagrams (apply_if b (with_actions (pending_actions side (Called DatagramPassed ∷ log))) (Called DatagramPassed ∷ log)) ≡ unreleased_datagrams (Called DatagramPassed ∷ log)
+    by true = unreleased-with (pending_actions side (Called DatagramPassed ∷ log)) (Called DatagramPassed ∷ log)
     by false = refl
 
 -- each pass leaves fewer
 pub passed-less : (side : Side) (session : ℕ) (log : Log) (x : Due (List ℕ)) → due_datagram session (next_datagram side log) ≡ Some x
-    → length (unsettled_datagrams (log_and_flush side log (Called DatagramPassed))) < length (unsettled_datagrams log)
+    → length (unreleased_datagrams (log_and_flush side log (Called DatagramPassed))) < length (unreleased_datagrams log)
 passed-less side session log x e =
-    subst (λ (q : List (List ℕ)). length q < length (unsettled_datagrams log)) (sym (settled-once side log ∙ passed-waits log)) (shorter (unsettled_datagrams log) (datagram-waits side log session x e))
+    subst (λ (q : List (List ℕ)). length q < length (unreleased_datagrams log)) (sym (released-once side log ∙ passed-waits log)) (shorter (unreleased_datagrams log) (datagram-waits side log session x e))
   where
     shorter : (q : List (List ℕ)) → 0 < length q → length (without_first q) < length q
     shorter [] lt = absurd (omega arith)

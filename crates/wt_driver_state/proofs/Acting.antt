@@ -6,10 +6,10 @@ use Rattle.wt_driver_state.proofs.Moved.{open-is}
 use Rattle.wt_driver_state.proofs.SettingsKept.{idle-keeps}
 use Rattle.wt_driver_state.proofs.StageMoments.{out-staged}
 use Rattle.wt_driver_state.proofs.Turning.{unchanged-follows}
-use Rattle.wt_driver_state.proofs.Worked.{sends-with, untaken-sent, within-sent}
+use Rattle.wt_driver_state.proofs.Worked.{sends-with, uncollected-sent, within-sent}
 use Rattle.wt_driver_state.specs.DriverValue.{DriverValue}
 use Rattle.wt_driver_state.specs.PeerSettings.{KeepsSettings}
-use Rattle.wt_driver_state.specs.Tie.{Follows, untaken_since}
+use Rattle.wt_driver_state.specs.Tie.{Follows, uncollected_since}
 use Rattle.wt_driver_spec.proofs.Following.{open-more, out-followed}
 use Rattle.wt_driver_spec.proofs.RestMoments.{open-says}
 use Rattle.wt_driver_spec.specs.Asking.{SendsWhileOpen, SparesControl}
@@ -66,31 +66,31 @@ module _ (side : Side) (log : Log) (a : Action) (s : SparesControl side log a) w
   acted-sends sends = λ o. sends-with side (a ∷ []) log ((s.finishes, s.resets), tt) (sends (open-then o))
 
   -- all of it
-  pub acted-follows : (taken : ℕ) (d new : DriverValue) (f : Follows side d log taken) → inboxes.Refines side new.inbox (Sent a ∷ log) f.refines.stage (a ∷ untaken_since taken log)
-      → new.state ≡ record d.state { is_open = new.inbox.transport.is_open } → new.queue ≡ d.queue → new.settings ≡ d.settings → Follows side new (Sent a ∷ log) taken
-  acted-follows taken d new f x k q h = record {
+  pub acted-follows : (collected : ℕ) (d new : DriverValue) (f : Follows side d log collected) → inboxes.Refines side new.inbox (Sent a ∷ log) f.refines.stage (a ∷ uncollected_since collected log)
+      → new.state ≡ record d.state { is_open = new.inbox.transport.is_open } → new.queue ≡ d.queue → new.settings ≡ d.settings → Follows side new (Sent a ∷ log) collected
+  acted-follows collected d new f x k q h = record {
     refines = record {
       stage = f.refines.stage;
-      inbox = subst (inboxes.Refines side new.inbox (Sent a ∷ log) f.refines.stage) (sym (untaken-sent taken a log f.within)) x;
+      inbox = subst (inboxes.Refines side new.inbox (Sent a ∷ log) f.refines.stage) (sym (uncollected-sent collected a log f.within)) x;
       staged = out-staged side log a f.refines.stage f.refines.staged;
-      state_is = k ∙ (λ i. record (f.refines.state_is i) { is_open = (open-is side (Sent a ∷ log) (a ∷ untaken_since taken log) new.inbox f.refines.stage x ∙ open-more (Sent a) log ∙ ap (λ b. not (closes a) && b) (open-says side log)) i }) ∙ sym acted-state;
+      state_is = k ∙ (λ i. record (f.refines.state_is i) { is_open = (open-is side (Sent a ∷ log) (a ∷ uncollected_since collected log) new.inbox f.refines.stage x ∙ open-more (Sent a) log ∙ ap (λ b. not (closes a) && b) (open-says side log)) i }) ∙ sym acted-state;
       queue_is = q ∙ f.refines.queue_is;
       settings = idle-keeps side log (Sent a) new.settings refl (subst (KeepsSettings side log) (sym h) f.refines.settings);
       fits = (tt, f.refines.fits);
       uses = (tt, f.refines.uses);
     };
-    within = within-sent taken a log f.within;
+    within = within-sent collected a log f.within;
     rests = acted-rests f.rests;
     sends = acted-sends f.sends;
   }
 
 -- a close goes out where the connection is open
-pub closed-follows : (side : Side) (log : Log) (taken : ℕ) (d new : DriverValue) (code : ℕ) (reason : List ℕ) (f : Follows side d log taken)
-    → inboxes.Refines side new.inbox (with_actions (if_open log (actions.Close code reason)) log) f.refines.stage (newest_first (if_open log (actions.Close code reason)) (untaken_since taken log))
-    → new.state ≡ record d.state { is_open = new.inbox.transport.is_open } → new.queue ≡ d.queue → new.settings ≡ d.settings → Follows side new (with_actions (if_open log (actions.Close code reason)) log) taken
-closed-follows side log taken d new code reason f x k q h = by (is_open log) x
+pub closed-follows : (side : Side) (log : Log) (collected : ℕ) (d new : DriverValue) (code : ℕ) (reason : List ℕ) (f : Follows side d log collected)
+    → inboxes.Refines side new.inbox (with_actions (if_open log (actions.Close code reason)) log) f.refines.stage (newest_first (if_open log (actions.Close code reason)) (uncollected_since collected log))
+    → new.state ≡ record d.state { is_open = new.inbox.transport.is_open } → new.queue ≡ d.queue → new.settings ≡ d.settings → Follows side new (with_actions (if_open log (actions.Close code reason)) log) collected
+closed-follows side log collected d new code reason f x k q h = by (is_open log) x
   where
-    by : (b : Bool) → inboxes.Refines side new.inbox (with_actions (if b then actions.Close code reason ∷ [] else []) log) f.refines.stage (newest_first (if b then actions.Close code reason ∷ [] else []) (untaken_since taken log))
-        → Follows side new (with_actions (if b then actions.Close code reason ∷ [] else []) log) taken
-    by true y = acted-follows side log (actions.Close code reason) (record { opens = λ e. absurd cc; sent = refl; finishes = refl; resets = refl }) taken d new f y k q h
-    by false y = unchanged-follows side log taken d f new y k q h
+    by : (b : Bool) → inboxes.Refines side new.inbox (with_actions (if b then actions.Close code reason ∷ [] else []) log) f.refines.stage (newest_first (if b then actions.Close code reason ∷ [] else []) (uncollected_since collected log))
+        → Follows side new (with_actions (if b then actions.Close code reason ∷ [] else []) log) collected
+    by true y = acted-follows side log (actions.Close code reason) (record { opens = λ e. absurd cc; sent = refl; finishes = refl; resets = refl }) collected d new f y k q h
+    by false y = unchanged-follows side log collected d f new y k q h

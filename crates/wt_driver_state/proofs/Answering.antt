@@ -12,7 +12,7 @@ use Rattle.wt_message.specs.declared.settings.Settings.{Settings}
 use Rattle.wt_proto.proofs.WalkLaws.{if_ok_same}
 use Rattle.wt_turn.specs.declared.poll.Poll.{Poll}
 use Rattle.wt_dispatch.specs.Requests.{first_request, request_in}
-use Rattle.wt_driver_state.specs.Tie.{Follows, untaken_since}
+use Rattle.wt_driver_state.specs.Tie.{Follows, uncollected_since}
 use Rattle.wt_driver_spec.specs.Asking.{AwaitsResponse}
 use Rattle.wt_driver_spec.specs.DriverState.{DriverState, requests_now, state_of}
 use Rattle.wt_inbox.specs.Stage.{Refines, ResponseHead, with_stage}
@@ -26,9 +26,9 @@ use Rattle.wt_wire.specs.declared.side.Side.{Side}
 -- ---- a response
 
 -- the log stays, and the response is being read
-pub response-follows : (side : Side) (log : Log) (taken : ℕ) (d new : DriverValue) (id : ℕ) (f : Follows side d log taken) → AwaitsResponse side log id
-    → Refines side new.inbox log (with_stage f.refines.stage id ResponseHead) (untaken_since taken log) → new.state ≡ d.state → new.queue ≡ d.queue → new.settings ≡ d.settings → Follows side new log taken
-response-follows side log taken d new id f a r s q k = record {
+pub response-follows : (side : Side) (log : Log) (collected : ℕ) (d new : DriverValue) (id : ℕ) (f : Follows side d log collected) → AwaitsResponse side log id
+    → Refines side new.inbox log (with_stage f.refines.stage id ResponseHead) (uncollected_since collected log) → new.state ≡ d.state → new.queue ≡ d.queue → new.settings ≡ d.settings → Follows side new log collected
+response-follows side log collected d new id f a r s q k = record {
   refines = record {
     stage = with_stage f.refines.stage id ResponseHead;
     inbox = r;
@@ -47,8 +47,8 @@ response-follows side log taken d new id f a r s q k = record {
 -- ---- the peer's SETTINGS
 
 -- a driver that gave SETTINGS follows what it did
-pub given-follows : (side : Side) (log : Log) (taken : ℕ) (d new : DriverValue) (given : Bool) → new ≡ record d { has_given_settings = given } → Follows side d log taken → Follows side new log taken
-given-follows side log taken d new given e f = subst (λ (v : DriverValue). Follows side v log taken) (sym e) (record {
+pub given-follows : (side : Side) (log : Log) (collected : ℕ) (d new : DriverValue) (given : Bool) → new ≡ record d { has_given_settings = given } → Follows side d log collected → Follows side new log collected
+given-follows side log collected d new given e f = subst (λ (v : DriverValue). Follows side v log collected) (sym e) (record {
   refines = record {
     stage = f.refines.stage;
     inbox = f.refines.inbox;
@@ -65,25 +65,25 @@ given-follows side log taken d new given e f = subst (λ (v : DriverValue). Foll
 })
 
 -- what is given are the peer's SETTINGS of the log
-pub settings-given : {E : Type 0} (side : Side) (log : Log) (taken : ℕ) (d : DriverValue) (r : Result (Poll (Result Settings DriverError)) E) → Follows side d log taken
+pub settings-given : {E : Type 0} (side : Side) (log : Log) (collected : ℕ) (d : DriverValue) (r : Result (Poll (Result Settings DriverError)) E) → Follows side d log collected
     → IfOk r (λ p. p ≡ settings_or (due_settings d) (result_of d.state.is_open d.state.progress.ending))
     → IfOk r (λ p. p ≡ settings_or (unless_given d.has_given_settings (peer_settings side log)) (result_of d.state.is_open d.state.progress.ending))
-settings-given side log taken d r f e =
+settings-given side log collected d r f e =
     if_ok_same r _ _ e
     (ap (λ (o : Option Settings). settings_or o (result_of d.state.is_open d.state.progress.ending))
     (due-settings-are side log d f.refines.settings (state-came side log d.state f.refines.state_is)))
 
 -- ---- the request that is queued
 
--- a request is told
-request-told : (id : ℕ) (v : Verdict) → is_request v ≡ true → request_in id v ≡ None → ⊥
-request-told id (verdicts.Request fields at) e f = absurd cc
-request-told id _ e f = absurd cc
+-- a request is reported
+request-reported : (id : ℕ) (v : Verdict) → is_request v ≡ true → request_in id v ≡ None → ⊥
+request-reported id (verdicts.Request fields offset) e f = absurd cc
+request-reported id _ e f = absurd cc
 
 -- a stream that awaits its delivery has a request
-pub requests-told : (delivered : ℕ → Bool) (cs : List Classified) → first_request (only (awaits_delivery delivered) cs) ≡ None → only (awaits_delivery delivered) cs ≡ []
-requests-told delivered [] e = refl
-requests-told delivered (c ∷ cs) e = by (awaits_delivery delivered c) refl (requests-told delivered cs) e
+pub requests-reported : (delivered : ℕ → Bool) (cs : List Classified) → first_request (only (awaits_delivery delivered) cs) ≡ None → only (awaits_delivery delivered) cs ≡ []
+requests-reported delivered [] e = refl
+requests-reported delivered (c ∷ cs) e = by (awaits_delivery delivered c) refl (requests-reported delivered cs) e
   where
     later : List Classified
     later = only (awaits_delivery delivered) cs
@@ -92,14 +92,14 @@ requests-told delivered (c ∷ cs) e = by (awaits_delivery delivered c) refl (re
     is-request f = (and_parts (is_request c.verdict) (not c.surplus) (and_parts (not (delivered c.id)) (is_request c.verdict && not c.surplus) f).1).0
 
     by : (b : Bool) → awaits_delivery delivered c ≡ b → (first_request later ≡ None → later ≡ []) → first_request (kept_if b c ++ later) ≡ None → kept_if b c ++ later ≡ []
-    by true f rest g = absurd (request-told c.id c.verdict (is-request f) g)
+    by true f rest g = absurd (request-reported c.id c.verdict (is-request f) g)
     by false f rest g = rest g
 
 queued-are : (side : Side) (log : Log) → (state_of side log).dispatched.requests ≡ only (awaits_delivery (call_view log).delivered) (stream_table side log).classified
 unfolding state_of
 queued-are side log = refl
 
--- where no request is told, none is queued
+-- where no request is reported, none is queued
 pub none-queued : (side : Side) (log : Log) (s : DriverState) → s ≡ state_of side log → first_request (requests_now s) ≡ None → requests_now s ≡ []
 none-queued side log s is = by s.progress.settings
   where
@@ -107,5 +107,5 @@ none-queued side log s is = by s.progress.settings
     same = ap (λ (x : DriverState). x.dispatched.requests) is ∙ queued-are side log
 
     by : (b : Bool) → first_request (if b then s.dispatched.requests else []) ≡ None → (if b then s.dispatched.requests else []) ≡ []
-    by true e = same ∙ requests-told (call_view log).delivered (stream_table side log).classified (ap first_request (sym same) ∙ e)
+    by true e = same ∙ requests-reported (call_view log).delivered (stream_table side log).classified (ap first_request (sym same) ∙ e)
     by false e = refl

@@ -75,7 +75,7 @@ plain log (PrioritySet id priority) s e = record { same = refl; view = refl }
 plain log Polled s e = record { same = refl; view = refl }
 plain log _ s e = absurd cc
 
-module _ (side : Side) (log : Log) (r : CallRecord) (taken : ℕ) (d : DriverValue) (leaves : leaves_at_rest r ≡ true) (in_ : TakenIn side log (Called r) d taken) (o : is_open log ≡ true) where
+module _ (side : Side) (log : Log) (r : CallRecord) (collected : ℕ) (d : DriverValue) (leaves : leaves_at_rest r ≡ true) (in_ : TakenIn side log (Called r) d collected) (o : is_open log ≡ true) where
   abbrev t : TransportView
   t = transport_view side log
 
@@ -92,8 +92,8 @@ module _ (side : Side) (log : Log) (r : CallRecord) (taken : ℕ) (d : DriverVal
   rests = in_.rests o
 
   -- what is kept then
-  state-behind : state_of side (Called r ∷ log) ≡ begin_scan before
-  state-behind = quiet-call-state side log r in_.may in_.fits p.same in_.rests ∙ ap (λ (b : Bool). begin_if b before) (sym (open-says side log) ∙ o)
+  state-after : state_of side (Called r ∷ log) ≡ begin_scan before
+  state-after = quiet-call-state side log r in_.may in_.fits p.same in_.rests ∙ ap (λ (b : Bool). begin_if b before) (sym (open-says side log) ∙ o)
 
   unis-rest : Rests t.ready (uni_rule t) 0 (slots (call_view log) table (uni_ids t))
   unfolding state_of
@@ -118,17 +118,17 @@ module _ (side : Side) (log : Log) (r : CallRecord) (taken : ℕ) (d : DriverVal
       ∙ ap (λ (v : CallView). (scan_order t v table).classified) p.view
       ∙ scanned-same
 
-  progress-behind : (stream_table side (Called r ∷ log)).progress ≡ (begin_scan before).progress
+  progress-after : (stream_table side (Called r ∷ log)).progress ≡ (begin_scan before).progress
   unfolding state_of
-  progress-behind = ap (λ (s : DriverState). s.progress) state-behind
+  progress-after = ap (λ (s : DriverState). s.progress) state-after
 
   ending-same : (stream_table side (Called r ∷ log)).progress.ending ≡ table.progress.ending
   unfolding state_of
-  ending-same = ap (λ (x : DriverProgress). x.ending) progress-behind
+  ending-same = ap (λ (x : DriverProgress). x.ending) progress-after
 
   came-same : (stream_table side (Called r ∷ log)).progress.settings ≡ table.progress.settings
   unfolding state_of
-  came-same = ap (λ (x : DriverProgress). x.settings) progress-behind
+  came-same = ap (λ (x : DriverProgress). x.settings) progress-after
 
   staged : StagesFit side (Called r ∷ log) in_.stage
   staged = λ k.
@@ -142,16 +142,16 @@ module _ (side : Side) (log : Log) (r : CallRecord) (taken : ℕ) (d : DriverVal
   }
 
   -- The driver follows the log with the call.
-  pub rest-follows : Follows side (with_state d (begin_scan d.state)) (log_and_flush side log (Called r)) taken
+  pub rest-follows : Follows side (with_state d (begin_scan d.state)) (log_and_flush side log (Called r)) collected
   rest-follows =
       let alone : log_and_flush side log (Called r) ≡ Called r ∷ log = quiet-call side log r in_.may in_.fits p.same in_.rests in
       let kept : d.state ≡ before = in_.state_is ∙ (λ i. record (p.same i) { is_open = before.is_open }) in
-      subst (λ (l : Log). Follows side (with_state d (begin_scan d.state)) l taken) (sym alone) (record {
+      subst (λ (l : Log). Follows side (with_state d (begin_scan d.state)) l collected) (sym alone) (record {
         refines = record {
           stage = in_.stage;
           inbox = in_.inbox;
           staged = staged;
-          state_is = ap begin_scan kept ∙ sym state-behind;
+          state_is = ap begin_scan kept ∙ sym state-after;
           queue_is = in_.queue_is;
           settings = settings;
           fits = (in_.may, in_.fits);

@@ -1,4 +1,4 @@
--- A driver to which nothing was told follows the empty log.
+-- A driver to which nothing was reported follows the empty log.
 use Rattle.std.proofs.Common.{arith, ◌≡◌, ℕ, true, [], refl, sym, subst, ◌∙◌}
 use Rattle.std.specs.Prelude.{None, Some}
 use Rattle.wt_driver_state.proofs.SettingsKept.{start-keeps}

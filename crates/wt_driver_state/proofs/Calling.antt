@@ -17,7 +17,7 @@ use Rattle.wt_turn.specs.declared.record.Record.{Record}
 use Rattle.wt_turn.specs.declared.record.Record.TheVariants as records
 use Rattle.wt_scan.specs.Scanning.{unless_given_up}
 use Rattle.wt_driver_state.specs.Stages.{called_stages, established_stages, is_there}
-use Rattle.wt_driver_state.specs.Tie.{Follows, TakenIn, unsettled_datagrams, untaken_since}
+use Rattle.wt_driver_state.specs.Tie.{Follows, TakenIn, unreleased_datagrams, uncollected_since}
 use Rattle.wt_driver_spec.proofs.RestMoments.{open-says}
 use Rattle.wt_driver_spec.specs.DriverState.{DriverState, state_of}
 use Rattle.wt_driver_spec.specs.Moment.{may_release}
@@ -57,11 +57,11 @@ same-priority : (r : CallRecord) (calls : List CallRecord) (k : ℕ) → TellsNo
 same-priority (PrioritySet id priority) calls k n = absurd n
 same-priority _ calls k n = refl
 
-module _ (side : Side) (t : seam.TransportState) (log : Log) (position : ℕ → ReadPosition) (untaken : List Action) (r : CallRecord) (n : TellsNothing r) where
+module _ (side : Side) (t : seam.TransportState) (log : Log) (position : ℕ → ReadPosition) (uncollected : List Action) (r : CallRecord) (n : TellsNothing r) where
   same-stream : (pieces : ℕ → List (List ℕ)) (k : ℕ) → seam.stream_of (Called r ∷ log) position pieces k ≡ seam.stream_of log position pieces k
   same-stream pieces k = λ i. record (seam.stream_of log position pieces k) { reset = same-reset r log k n i; priority = same-priority r (calls_of log) k n i }
 
-  transport-kept : seam.Refines side t log position untaken → seam.Refines side t (Called r ∷ log) position untaken
+  transport-kept : seam.Refines side t log position uncollected → seam.Refines side t (Called r ∷ log) position uncollected
   transport-kept s = record {
     pieces = s.pieces;
     facts = record {
@@ -71,40 +71,40 @@ module _ (side : Side) (t : seam.TransportState) (log : Log) (position : ℕ →
       open_same = s.facts.open_same;
     };
     holds = λ k. record { bytes = (s.holds k).bytes; filled = (s.holds k).filled; within = (s.holds k).within };
-    state = s.state ∙ sym (λ i. record (seam.state_of side log position s.pieces untaken) { streams = rows (λ k. same-stream s.pieces k i) (stream_count side log) });
+    state = s.state ∙ sym (λ i. record (seam.state_of side log position s.pieces uncollected) { streams = rows (λ k. same-stream s.pieces k i) (stream_count side log) });
   }
 
-pub inbox-kept : (side : Side) (x : InboxState) (log : Log) (stage : ℕ → Stage) (untaken : List Action) (r : CallRecord) → TellsNothing r → inboxes.Refines side x log stage untaken → inboxes.Refines side x (Called r ∷ log) stage untaken
-inbox-kept side x log stage untaken r n s = passes side x log stage untaken s x.transport (Called r ∷ log) untaken (goes-called side log r) (transport-kept side x.transport log s.position untaken r n s.transport)
+pub inbox-kept : (side : Side) (x : InboxState) (log : Log) (stage : ℕ → Stage) (uncollected : List Action) (r : CallRecord) → TellsNothing r → inboxes.Refines side x log stage uncollected → inboxes.Refines side x (Called r ∷ log) stage uncollected
+inbox-kept side x log stage uncollected r n s = passes side x log stage uncollected s x.transport (Called r ∷ log) uncollected (goes-called side log r) (transport-kept side x.transport log s.position uncollected r n s.transport)
 
 -- ---- a record taken in
 
-queue-so : (r : CallRecord) (log : Log) → unsettled_datagrams (Called r ∷ log) ≡ called_queue r (unsettled_datagrams log)
+queue-so : (r : CallRecord) (log : Log) → unreleased_datagrams (Called r ∷ log) ≡ called_queue r (unreleased_datagrams log)
 queue-so DatagramReceived log = received-waits log
 queue-so DatagramPassed log = passed-waits log
 queue-so _ log = refl
 
 -- What letting the response go ensures where a session is established: a client reads on after it.
 abbrev pub ReleasesResponse : DriverValue → DriverValue → ℕ → ℕ → Type 0
-ReleasesResponse d new id at = (log : Log) (stage : ℕ → Stage) (untaken : List Action) → inboxes.Refines Client d.inbox log stage untaken → awaits_response (stage id) ≡ true
-    → response_offset (response_walk_of (contents log id) (end_of (events_of log) id)) ≡ Some at → inboxes.Refines Client new.inbox log (with_stage stage id (Body at)) untaken
+ReleasesResponse d new id offset = (log : Log) (stage : ℕ → Stage) (uncollected : List Action) → inboxes.Refines Client d.inbox log stage uncollected → awaits_response (stage id) ≡ true
+    → response_offset (response_walk_of (contents log id) (end_of (events_of log) id)) ≡ Some offset → inboxes.Refines Client new.inbox log (with_stage stage id (Body offset)) uncollected
 
 -- a server keeps to its stages
 abbrev pub KeepsStages : DriverValue → DriverValue → Type 0
-KeepsStages d new = (log : Log) (stage : ℕ → Stage) (untaken : List Action) → inboxes.Refines Server d.inbox log stage untaken → inboxes.Refines Server new.inbox log stage untaken
+KeepsStages d new = (log : Log) (stage : ℕ → Stage) (uncollected : List Action) → inboxes.Refines Server d.inbox log stage uncollected → inboxes.Refines Server new.inbox log stage uncollected
 
-established-inbox : (side : Side) (log : Log) (taken : ℕ) (d new : DriverValue) (id at : ℕ) (f : Follows side d log taken) → ReleasesResponse d new id at → KeepsStages d new → Establishes side log id at
-    → inboxes.Refines side new.inbox log (established_stages side id at f.refines.stage) (untaken_since taken log)
-established-inbox Client log taken d new id at f client server a = client log f.refines.stage (untaken_since taken log) f.refines.inbox (response-staged Client log f.refines.stage id f.refines.fits f.refines.staged a.0) a.1
-established-inbox Server log taken d new id at f client server a = server log f.refines.stage (untaken_since taken log) f.refines.inbox
+established-inbox : (side : Side) (log : Log) (collected : ℕ) (d new : DriverValue) (id offset : ℕ) (f : Follows side d log collected) → ReleasesResponse d new id offset → KeepsStages d new → Establishes side log id offset
+    → inboxes.Refines side new.inbox log (established_stages side id offset f.refines.stage) (uncollected_since collected log)
+established-inbox Client log collected d new id offset f client server a = client log f.refines.stage (uncollected_since collected log) f.refines.inbox (response-staged Client log f.refines.stage id f.refines.fits f.refines.staged a.0) a.1
+established-inbox Server log collected d new id offset f client server a = server log f.refines.stage (uncollected_since collected log) f.refines.inbox
 
-module _ (side : Side) (log : Log) (taken : ℕ) (d : DriverValue) (f : Follows side d log taken) (r : CallRecord) (a : MayBeCalled side log r) where
+module _ (side : Side) (log : Log) (collected : ℕ) (d : DriverValue) (f : Follows side d log collected) (r : CallRecord) (a : MayBeCalled side log r) where
   open-before : d.state.is_open ≡ (state_of side log).is_open
   open-before = ap (λ (s : DriverState). s.is_open) f.refines.state_is
 
   -- the record, with what it did
-  pub call-taken : (new : DriverValue) (b : Bool) → inboxes.Refines side new.inbox (Called r ∷ log) (called_stages side log r f.refines.stage) (untaken_since taken log) → new.state ≡ record (after_call r d.state) { is_open = b }
-      → b ≡ (state_of side log).is_open → new.queue ≡ called_queue r d.queue → new.settings ≡ d.settings → TakenIn side log (Called r) new taken
+  pub call-taken : (new : DriverValue) (b : Bool) → inboxes.Refines side new.inbox (Called r ∷ log) (called_stages side log r f.refines.stage) (uncollected_since collected log) → new.state ≡ record (after_call r d.state) { is_open = b }
+      → b ≡ (state_of side log).is_open → new.queue ≡ called_queue r d.queue → new.settings ≡ d.settings → TakenIn side log (Called r) new collected
   call-taken new b x s o q k = record {
     stage = called_stages side log r f.refines.stage;
     inbox = x;
@@ -123,8 +123,8 @@ module _ (side : Side) (log : Log) (taken : ℕ) (d : DriverValue) (f : Follows 
   }
 
   -- the transport stands as before
-  pub open-behind : (x : InboxState) (stage : ℕ → Stage) → inboxes.Refines side x (Called r ∷ log) stage (untaken_since taken log) → x.transport.is_open ≡ (state_of side log).is_open
-  open-behind x stage s = open-is side (Called r ∷ log) (untaken_since taken log) x stage s ∙ open-says side log
+  pub open-after-record : (x : InboxState) (stage : ℕ → Stage) → inboxes.Refines side x (Called r ∷ log) stage (uncollected_since collected log) → x.transport.is_open ≡ (state_of side log).is_open
+  open-after-record x stage s = open-is side (Called r ∷ log) (uncollected_since collected log) x stage s ∙ open-says side log
 
 -- ---- each record
 
@@ -138,103 +138,103 @@ ChangesNothing (OpeningFailed id) = Unit {0}
 ChangesNothing Polled = Unit {0}
 ChangesNothing _ = ⊥
 
-module _ (side : Side) (log : Log) (taken : ℕ) (d : DriverValue) (f : Follows side d log taken) where
+module _ (side : Side) (log : Log) (collected : ℕ) (d : DriverValue) (f : Follows side d log collected) where
   abbrev Asks : CallRecord → Type 0
   Asks r = MayBeCalled side log r
 
   opened : d.state.is_open ≡ (state_of side log).is_open
   opened = ap (λ (s : DriverState). s.is_open) f.refines.state_is
 
-  open-stays : (r : CallRecord) (x : InboxState) (stage : ℕ → Stage) → inboxes.Refines side x (Called r ∷ log) stage (untaken_since taken log) → x.transport.is_open ≡ (state_of side log).is_open
-  open-stays r x stage s = open-is side (Called r ∷ log) (untaken_since taken log) x stage s ∙ open-says side log
+  open-stays : (r : CallRecord) (x : InboxState) (stage : ℕ → Stage) → inboxes.Refines side x (Called r ∷ log) stage (uncollected_since collected log) → x.transport.is_open ≡ (state_of side log).is_open
+  open-stays r x stage s = open-is side (Called r ∷ log) (uncollected_since collected log) x stage s ∙ open-says side log
 
-  kept : (r : CallRecord) → TellsNothing r → inboxes.Refines side d.inbox (Called r ∷ log) f.refines.stage (untaken_since taken log)
-  kept r n = inbox-kept side d.inbox log f.refines.stage (untaken_since taken log) r n f.refines.inbox
+  kept : (r : CallRecord) → TellsNothing r → inboxes.Refines side d.inbox (Called r ∷ log) f.refines.stage (uncollected_since collected log)
+  kept r n = inbox-kept side d.inbox log f.refines.stage (uncollected_since collected log) r n f.refines.inbox
 
-  pub nothing-taken : (r : CallRecord) → ChangesNothing r → Asks r → TakenIn side log (Called r) d taken
-  nothing-taken (ConnectStarted reserved head) n a = call-taken side log taken d f (ConnectStarted reserved head) a d d.state.is_open (kept (ConnectStarted reserved head) tt) refl opened refl refl
-  nothing-taken (ResponseStarted accepts head) n a = call-taken side log taken d f (ResponseStarted accepts head) a d d.state.is_open (kept (ResponseStarted accepts head) tt) refl opened refl refl
-  nothing-taken HandshakeOver n a = call-taken side log taken d f HandshakeOver a d d.state.is_open (kept HandshakeOver tt) refl opened refl refl
-  nothing-taken (OpeningStarted id session) n a = call-taken side log taken d f (OpeningStarted id session) a d d.state.is_open (kept (OpeningStarted id session) tt) refl opened refl refl
-  nothing-taken (OpeningFailed id) n a = call-taken side log taken d f (OpeningFailed id) a d d.state.is_open (kept (OpeningFailed id) tt) refl opened refl refl
-  nothing-taken Polled n a = call-taken side log taken d f Polled a d d.state.is_open (kept Polled tt) refl opened refl refl
+  pub nothing-taken : (r : CallRecord) → ChangesNothing r → Asks r → TakenIn side log (Called r) d collected
+  nothing-taken (ConnectStarted reserved head) n a = call-taken side log collected d f (ConnectStarted reserved head) a d d.state.is_open (kept (ConnectStarted reserved head) tt) refl opened refl refl
+  nothing-taken (ResponseStarted accepts head) n a = call-taken side log collected d f (ResponseStarted accepts head) a d d.state.is_open (kept (ResponseStarted accepts head) tt) refl opened refl refl
+  nothing-taken HandshakeOver n a = call-taken side log collected d f HandshakeOver a d d.state.is_open (kept HandshakeOver tt) refl opened refl refl
+  nothing-taken (OpeningStarted id session) n a = call-taken side log collected d f (OpeningStarted id session) a d d.state.is_open (kept (OpeningStarted id session) tt) refl opened refl refl
+  nothing-taken (OpeningFailed id) n a = call-taken side log collected d f (OpeningFailed id) a d d.state.is_open (kept (OpeningFailed id) tt) refl opened refl refl
+  nothing-taken Polled n a = call-taken side log collected d f Polled a d d.state.is_open (kept Polled tt) refl opened refl refl
   nothing-taken _ n a = absurd n
 
   first : (id : ℕ) → may_release side (stream_table side log).classified id ≡ true → IsEarly d id
   first id may = early side log id f.refines.fits may d f.refines.state_is
 
   module _ (new : DriverValue) where
-    pub delivered-taken : (id : ℕ) → new ≡ with_state d (remove_request id d.state) → Asks (RequestDelivered id) → TakenIn side log (Called (RequestDelivered id)) new taken
-    delivered-taken id e a = subst (λ (v : DriverValue). TakenIn side log (Called (RequestDelivered id)) v taken) (sym e)
-        (call-taken side log taken d f (RequestDelivered id) a (with_state d (remove_request id d.state)) d.state.is_open (kept (RequestDelivered id) tt) refl opened refl refl)
+    pub delivered-taken : (id : ℕ) → new ≡ with_state d (remove_request id d.state) → Asks (RequestDelivered id) → TakenIn side log (Called (RequestDelivered id)) new collected
+    delivered-taken id e a = subst (λ (v : DriverValue). TakenIn side log (Called (RequestDelivered id)) v collected) (sym e)
+        (call-taken side log collected d f (RequestDelivered id) a (with_state d (remove_request id d.state)) d.state.is_open (kept (RequestDelivered id) tt) refl opened refl refl)
 
-    pub established-taken : (id at : ℕ) → ReleasesResponse d new id at → KeepsStages d new → new.state ≡ record d.state { session = Some (id, at); is_open = new.inbox.transport.is_open } → new.queue ≡ d.queue → new.settings ≡ d.settings
-        → Asks (SessionEstablished id at) → TakenIn side log (Called (SessionEstablished id at)) new taken
-    established-taken id at client server s q k a =
-        let stage = established_stages side id at f.refines.stage in
-        let x = established-inbox side log taken d new id at f client server a.half in
-        let y = inbox-kept side new.inbox log stage (untaken_since taken log) (SessionEstablished id at) tt x in
-        call-taken side log taken d f (SessionEstablished id at) a new new.inbox.transport.is_open y s (open-stays (SessionEstablished id at) new.inbox stage y) q k
+    pub established-taken : (id start : ℕ) → ReleasesResponse d new id start → KeepsStages d new → new.state ≡ record d.state { session = Some (id, start); is_open = new.inbox.transport.is_open } → new.queue ≡ d.queue → new.settings ≡ d.settings
+        → Asks (SessionEstablished id start) → TakenIn side log (Called (SessionEstablished id start)) new collected
+    established-taken id start client server s q k a =
+        let stage = established_stages side id start f.refines.stage in
+        let x = established-inbox side log collected d new id start f client server a.half in
+        let y = inbox-kept side new.inbox log stage (uncollected_since collected log) (SessionEstablished id start) tt x in
+        call-taken side log collected d f (SessionEstablished id start) a new new.inbox.transport.is_open y s (open-stays (SessionEstablished id start) new.inbox stage y) q k
 
-    pub accepted-taken : (id : ℕ) → (IsAmong 4 id d.state.unis → IsAmong 1 id d.state.bis → new ≡ with_state d (release id d.state)) → Asks (StreamAccepted id) → TakenIn side log (Called (StreamAccepted id)) new taken
-    accepted-taken id e a = subst (λ (v : DriverValue). TakenIn side log (Called (StreamAccepted id)) v taken) (sym (e (first id a.may).unis (first id a.may).bis))
-        (call-taken side log taken d f (StreamAccepted id) a (with_state d (release id d.state)) d.state.is_open (kept (StreamAccepted id) tt) refl opened refl refl)
+    pub accepted-taken : (id : ℕ) → (IsAmong 4 id d.state.unis → IsAmong 1 id d.state.bis → new ≡ with_state d (release id d.state)) → Asks (StreamAccepted id) → TakenIn side log (Called (StreamAccepted id)) new collected
+    accepted-taken id e a = subst (λ (v : DriverValue). TakenIn side log (Called (StreamAccepted id)) v collected) (sym (e (first id a.may).unis (first id a.may).bis))
+        (call-taken side log collected d f (StreamAccepted id) a (with_state d (release id d.state)) d.state.is_open (kept (StreamAccepted id) tt) refl opened refl refl)
 
-    abbrev settled_value : DriverValue
-    settled_value = record d { state = record d.state { datagrams = suc d.state.datagrams }; queue = without_first d.queue }
+    abbrev released_value : DriverValue
+    released_value = record d { state = record d.state { datagrams = suc d.state.datagrams }; queue = without_first d.queue }
 
-    pub received-taken : new ≡ record d { state = record d.state { datagrams = suc d.state.datagrams }; queue = without_first d.queue } → Asks DatagramReceived → TakenIn side log (Called DatagramReceived) new taken
-    received-taken e a = subst (λ (v : DriverValue). TakenIn side log (Called DatagramReceived) v taken) (sym e)
-        (call-taken side log taken d f DatagramReceived a settled_value d.state.is_open (kept DatagramReceived tt) (λ i. record d.state { datagrams = sym (add-one d.state.datagrams) i }) opened refl refl)
+    pub received-taken : new ≡ record d { state = record d.state { datagrams = suc d.state.datagrams }; queue = without_first d.queue } → Asks DatagramReceived → TakenIn side log (Called DatagramReceived) new collected
+    received-taken e a = subst (λ (v : DriverValue). TakenIn side log (Called DatagramReceived) v collected) (sym e)
+        (call-taken side log collected d f DatagramReceived a released_value d.state.is_open (kept DatagramReceived tt) (λ i. record d.state { datagrams = sym (add-one d.state.datagrams) i }) opened refl refl)
 
-    pub skipped-taken : new ≡ record d { state = record d.state { datagrams = suc d.state.datagrams }; queue = without_first d.queue } → Asks DatagramPassed → TakenIn side log (Called DatagramPassed) new taken
-    skipped-taken e a = subst (λ (v : DriverValue). TakenIn side log (Called DatagramPassed) v taken) (sym e)
-        (call-taken side log taken d f DatagramPassed a settled_value d.state.is_open (kept DatagramPassed tt) (λ i. record d.state { datagrams = sym (add-one d.state.datagrams) i }) opened refl refl)
+    pub skipped-taken : new ≡ record d { state = record d.state { datagrams = suc d.state.datagrams }; queue = without_first d.queue } → Asks DatagramPassed → TakenIn side log (Called DatagramPassed) new collected
+    skipped-taken e a = subst (λ (v : DriverValue). TakenIn side log (Called DatagramPassed) v collected) (sym e)
+        (call-taken side log collected d f DatagramPassed a released_value d.state.is_open (kept DatagramPassed tt) (λ i. record d.state { datagrams = sym (add-one d.state.datagrams) i }) opened refl refl)
 
     -- a stream that is passed is one of the peer's, so it was given up
-    pub passed-taken : (id : ℕ) → inboxes.Refines side new.inbox log (with_stage f.refines.stage id (unless_given_up (can_receive side log id) (f.refines.stage id))) (untaken_since taken log)
-        → (IsAmong 4 id d.state.unis → IsAmong 1 id d.state.bis → new.state ≡ record (release id d.state) { is_open = new.inbox.transport.is_open }) → new.queue ≡ d.queue → new.settings ≡ d.settings → Asks (StreamPassed id) → TakenIn side log (Called (StreamPassed id)) new taken
+    pub passed-taken : (id : ℕ) → inboxes.Refines side new.inbox log (with_stage f.refines.stage id (unless_given_up (can_receive side log id) (f.refines.stage id))) (uncollected_since collected log)
+        → (IsAmong 4 id d.state.unis → IsAmong 1 id d.state.bis → new.state ≡ record (release id d.state) { is_open = new.inbox.transport.is_open }) → new.queue ≡ d.queue → new.settings ≡ d.settings → Asks (StreamPassed id) → TakenIn side log (Called (StreamPassed id)) new collected
     passed-taken id x s q k a =
         let can : can_receive side log id ≡ true = sessions-receive side log id f.refines.fits a.can.0 in
-        let z : inboxes.Refines side new.inbox log (with_stage f.refines.stage id GivenUp) (untaken_since taken log) =
-        subst (λ (b : Bool). inboxes.Refines side new.inbox log (with_stage f.refines.stage id (unless_given_up b (f.refines.stage id))) (untaken_since taken log)) can x in
-        let y = inbox-kept side new.inbox log (with_stage f.refines.stage id GivenUp) (untaken_since taken log) (StreamPassed id) tt z in
-        call-taken side log taken d f (StreamPassed id) a new new.inbox.transport.is_open y (s (first id a.may).unis (first id a.may).bis) (open-stays (StreamPassed id) new.inbox (with_stage f.refines.stage id GivenUp) y) q k
+        let z : inboxes.Refines side new.inbox log (with_stage f.refines.stage id GivenUp) (uncollected_since collected log) =
+        subst (λ (b : Bool). inboxes.Refines side new.inbox log (with_stage f.refines.stage id (unless_given_up b (f.refines.stage id))) (uncollected_since collected log)) can x in
+        let y = inbox-kept side new.inbox log (with_stage f.refines.stage id GivenUp) (uncollected_since collected log) (StreamPassed id) tt z in
+        call-taken side log collected d f (StreamPassed id) a new new.inbox.transport.is_open y (s (first id a.may).unis (first id a.may).bis) (open-stays (StreamPassed id) new.inbox (with_stage f.refines.stage id GivenUp) y) q k
 
     -- a stream that is given up was let go where it was there
-    pub given-up-taken : (id : ℕ) → inboxes.Refines side new.inbox log (with_stage f.refines.stage id (unless_given_up (can_receive side log id) (f.refines.stage id))) (untaken_since taken log)
-        → new.state ≡ record d.state { is_open = new.inbox.transport.is_open } → new.queue ≡ d.queue → new.settings ≡ d.settings → Asks (StreamGivenUp id) → TakenIn side log (Called (StreamGivenUp id)) new taken
+    pub given-up-taken : (id : ℕ) → inboxes.Refines side new.inbox log (with_stage f.refines.stage id (unless_given_up (can_receive side log id) (f.refines.stage id))) (uncollected_since collected log)
+        → new.state ≡ record d.state { is_open = new.inbox.transport.is_open } → new.queue ≡ d.queue → new.settings ≡ d.settings → Asks (StreamGivenUp id) → TakenIn side log (Called (StreamGivenUp id)) new collected
     given-up-taken id x s q k a =
         let later = called_stages side log (StreamGivenUp id) f.refines.stage in
         let same : can_receive side log id ≡ is_there side log id = there-is side log id f.refines.fits a.can in
-        let z : inboxes.Refines side new.inbox log later (untaken_since taken log) =
-        subst (λ (b : Bool). inboxes.Refines side new.inbox log (with_stage f.refines.stage id (unless_given_up b (f.refines.stage id))) (untaken_since taken log)) same x in
-        let y = inbox-kept side new.inbox log later (untaken_since taken log) (StreamGivenUp id) tt z in
-        call-taken side log taken d f (StreamGivenUp id) a new new.inbox.transport.is_open y s (open-stays (StreamGivenUp id) new.inbox later y) q k
+        let z : inboxes.Refines side new.inbox log later (uncollected_since collected log) =
+        subst (λ (b : Bool). inboxes.Refines side new.inbox log (with_stage f.refines.stage id (unless_given_up b (f.refines.stage id))) (uncollected_since collected log)) same x in
+        let y = inbox-kept side new.inbox log later (uncollected_since collected log) (StreamGivenUp id) tt z in
+        call-taken side log collected d f (StreamGivenUp id) a new new.inbox.transport.is_open y s (open-stays (StreamGivenUp id) new.inbox later y) q k
 
     pub read-taken : (id count : ℕ)
-        → ((offset : ℕ) → body_offset (f.refines.stage id) ≡ Some offset → count ≤ length (drop offset (contents log id)) → inboxes.Refines side new.inbox log (with_stage f.refines.stage id (Body (offset + count))) (untaken_since taken log))
-        → new.state ≡ record d.state { is_open = new.inbox.transport.is_open } → new.queue ≡ d.queue → new.settings ≡ d.settings → Asks (BytesRead id count) → TakenIn side log (Called (BytesRead id count)) new taken
+        → ((offset : ℕ) → body_offset (f.refines.stage id) ≡ Some offset → count ≤ length (drop offset (contents log id)) → inboxes.Refines side new.inbox log (with_stage f.refines.stage id (Body (offset + count))) (uncollected_since collected log))
+        → new.state ≡ record d.state { is_open = new.inbox.transport.is_open } → new.queue ≡ d.queue → new.settings ≡ d.settings → Asks (BytesRead id count) → TakenIn side log (Called (BytesRead id count)) new collected
     read-taken id count x s q k a =
-        let at = halves.body_start (verdict_of id (stream_table side log).classified) + halves.total_read id (calls_of log) in
-        let e : body_offset (f.refines.stage id) ≡ Some at = read-staged side log f.refines.stage id f.refines.fits f.refines.uses f.refines.staged a.half in
-        let z = x at e a.can.1 in
-        let w = subst (λ (to : Stage). inboxes.Refines side new.inbox log (with_stage f.refines.stage id to) (untaken_since taken log)) (sym (read-so count at (f.refines.stage id) e)) z in
-        let y = inbox-kept side new.inbox log (called_stages side log (BytesRead id count) f.refines.stage) (untaken_since taken log) (BytesRead id count) tt w in
-        call-taken side log taken d f (BytesRead id count) a new new.inbox.transport.is_open y s (open-stays (BytesRead id count) new.inbox (called_stages side log (BytesRead id count) f.refines.stage) y) q k
+        let start = halves.body_start (verdict_of id (stream_table side log).classified) + halves.total_read id (calls_of log) in
+        let e : body_offset (f.refines.stage id) ≡ Some start = read-staged side log f.refines.stage id f.refines.fits f.refines.uses f.refines.staged a.half in
+        let z = x start e a.can.1 in
+        let w = subst (λ (to : Stage). inboxes.Refines side new.inbox log (with_stage f.refines.stage id to) (uncollected_since collected log)) (sym (read-so count start (f.refines.stage id) e)) z in
+        let y = inbox-kept side new.inbox log (called_stages side log (BytesRead id count) f.refines.stage) (uncollected_since collected log) (BytesRead id count) tt w in
+        call-taken side log collected d f (BytesRead id count) a new new.inbox.transport.is_open y s (open-stays (BytesRead id count) new.inbox (called_stages side log (BytesRead id count) f.refines.stage) y) q k
 
-    pub told-taken : (r : CallRecord) → after_call r d.state ≡ d.state → called_queue r d.queue ≡ d.queue → called_stages side log r f.refines.stage ≡ f.refines.stage → inboxes.Refines side new.inbox (Called r ∷ log) f.refines.stage (untaken_since taken log)
-        → new.state ≡ record d.state { is_open = new.inbox.transport.is_open } → new.queue ≡ d.queue → new.settings ≡ d.settings → Asks r → TakenIn side log (Called r) new taken
-    told-taken r same same_queue same_stages x s q k a =
-        call-taken side log taken d f r a new new.inbox.transport.is_open (subst (λ (z : ℕ → Stage). inboxes.Refines side new.inbox (Called r ∷ log) z (untaken_since taken log)) (sym same_stages) x)
+    pub reported-taken : (r : CallRecord) → after_call r d.state ≡ d.state → called_queue r d.queue ≡ d.queue → called_stages side log r f.refines.stage ≡ f.refines.stage → inboxes.Refines side new.inbox (Called r ∷ log) f.refines.stage (uncollected_since collected log)
+        → new.state ≡ record d.state { is_open = new.inbox.transport.is_open } → new.queue ≡ d.queue → new.settings ≡ d.settings → Asks r → TakenIn side log (Called r) new collected
+    reported-taken r same same_queue same_stages x s q k a =
+        call-taken side log collected d f r a new new.inbox.transport.is_open (subst (λ (z : ℕ → Stage). inboxes.Refines side new.inbox (Called r ∷ log) z (uncollected_since collected log)) (sym same_stages) x)
         (s ∙ (λ i. record (sym same i) { is_open = new.inbox.transport.is_open })) (open-stays r new.inbox f.refines.stage x) (q ∙ sym same_queue) k
 
 -- a call that isn't one of these leaves a driver at rest
-pub no-other : (call : Record) → ((id : ℕ) → call ≡ records.RequestDelivered id → ⊥) → ((id at : ℕ) → call ≡ records.SessionEstablished id at → ⊥) → ((id : ℕ) → call ≡ records.StreamAccepted id → ⊥)
+pub no-other : (call : Record) → ((id : ℕ) → call ≡ records.RequestDelivered id → ⊥) → ((id offset : ℕ) → call ≡ records.SessionEstablished id offset → ⊥) → ((id : ℕ) → call ≡ records.StreamAccepted id → ⊥)
     → ((id : ℕ) → call ≡ records.StreamPassed id → ⊥) → ((id : ℕ) → call ≡ records.StreamGivenUp id → ⊥) → ((id code : ℕ) → call ≡ records.ResetUnsent id code → ⊥)
     → (call ≡ records.DatagramReceived → ⊥) → (call ≡ records.DatagramPassed → ⊥) → leaves_at_rest (record_of call) ≡ true
 no-other (records.RequestDelivered id) a b c d e f g h = absurd (a id refl)
-no-other (records.SessionEstablished id at) a b c d e f g h = absurd (b id at refl)
+no-other (records.SessionEstablished id offset) a b c d e f g h = absurd (b id offset refl)
 no-other (records.StreamAccepted id) a b c d e f g h = absurd (c id refl)
 no-other (records.StreamPassed id) a b c d e f g h = absurd (d id refl)
 no-other (records.StreamGivenUp id) a b c d e f g h = absurd (e id refl)
@@ -257,6 +257,6 @@ keeps-nothing records.Polled a b e = tt
 keeps-nothing _ a b e = absurd cc
 
 -- what is shown of a record's shape holds of the record
-pub of-shape : (side : Side) (log : Log) (taken : ℕ) (d : DriverValue) (stage : ℕ → Stage) (new : DriverValue) (call shape : Record) → call ≡ shape
-    → (MayBeCalled side log (record_of shape) → TakenIn side log (Called (record_of shape)) new taken) → MayBeCalled side log (record_of call) → TakenIn side log (Called (record_of call)) new taken
-of-shape side log taken d stage new call shape e g = subst (λ (x : Record). MayBeCalled side log (record_of x) → TakenIn side log (Called (record_of x)) new taken) (sym e) g
+pub of-shape : (side : Side) (log : Log) (collected : ℕ) (d : DriverValue) (stage : ℕ → Stage) (new : DriverValue) (call shape : Record) → call ≡ shape
+    → (MayBeCalled side log (record_of shape) → TakenIn side log (Called (record_of shape)) new collected) → MayBeCalled side log (record_of call) → TakenIn side log (Called (record_of call)) new collected
+of-shape side log collected d stage new call shape e g = subst (λ (x : Record). MayBeCalled side log (record_of x) → TakenIn side log (Called (record_of x)) new collected) (sym e) g

@@ -46,11 +46,11 @@ held-slots id d s local (k ∷ ks) peers f =
     (held-slot id k (d.released k) (has k s.dequeued) (verdict_of k s.classified) (λ e. f k e peers.0)) (held-slots id d s local ks peers.1 f)
 
 -- a slot that holds its stream isn't after the first few
-not-behind : (id most k n : ℕ) (ls : List Slot) → most ≤ n + k → IsBounded most n ls → HeldOnly id ls → has_slot id (drop k ls) ≡ false
-not-behind id most zero n [] le b h = refl
-not-behind id most (suc k) n [] le b h = refl
-not-behind id most (suc k) n (l ∷ ls) le b h = not-behind id most k (suc n) ls (omega arith) b.1 h.1
-not-behind id most zero n (l ∷ ls) le b h = by (not-behind id most zero (suc n) ls (omega arith) b.1 h.1) (l.id == id) refl (nat_lt n most) refl
+not-held-after : (id most k n : ℕ) (ls : List Slot) → most ≤ n + k → IsBounded most n ls → HeldOnly id ls → has_slot id (drop k ls) ≡ false
+not-held-after id most zero n [] le b h = refl
+not-held-after id most (suc k) n [] le b h = refl
+not-held-after id most (suc k) n (l ∷ ls) le b h = not-held-after id most k (suc n) ls (omega arith) b.1 h.1
+not-held-after id most zero n (l ∷ ls) le b h = by (not-held-after id most zero (suc n) ls (omega arith) b.1 h.1) (l.id == id) refl (nat_lt n most) refl
   where
     arrived-held : Arrived ≡ Held → ⊥
     arrived-held e = cc
@@ -73,7 +73,7 @@ module _ (side : Side) (log : Log) (id : ℕ) (fits : Fits side log) (may : may_
   early-unis : IsAmong 4 id (state_of side log).unis
   unfolding state_of
   early-unis = record {
-    early = not-behind id 4 4 0 (state_of side log).unis (omega arith) (log-bounded side log fits).unis
+    early = not-held-after id 4 4 0 (state_of side log).unis (omega arith) (log-bounded side log fits).unis
         (held-slots id (call_view log) (stream_table side log) (has_local_kind side) (uni_ids (transport_view side log)) (apart-ids (transport_view side log)).uni_peers held);
     distinct = (log-distinct side log).unis;
   }
@@ -81,7 +81,7 @@ module _ (side : Side) (log : Log) (id : ℕ) (fits : Fits side log) (may : may_
   early-bis : IsAmong 1 id (state_of side log).bis
   unfolding state_of
   early-bis = record {
-    early = not-behind id 1 1 0 (state_of side log).bis (omega arith) (log-bounded side log fits).bis
+    early = not-held-after id 1 1 0 (state_of side log).bis (omega arith) (log-bounded side log fits).bis
         (held-slots id (call_view log) (stream_table side log) (has_local_kind side) (bi_ids (transport_view side log)) (apart-ids (transport_view side log)).bi_peers held);
     distinct = (log-distinct side log).bis;
   }

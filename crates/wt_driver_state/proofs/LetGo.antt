@@ -53,9 +53,9 @@ let-go-named side (m ∷ log) k uses e = named-on side log m k (let-go-named sid
 
 -- ---- what a stage says of it
 
-gone : (dropped : Bool) (at : ℕ) (stage : Stage) → dropped ≡ true → ReadUpTo dropped at stage → stage ≡ GivenUp
-gone true at stage e f = f
-gone false at stage e f = absurd cc
+gone : (dropped : Bool) (offset : ℕ) (stage : Stage) → dropped ≡ true → ReadUpTo dropped offset stage → stage ≡ GivenUp
+gone true offset stage e f = f
+gone false offset stage e f = absurd cc
 
 may-give : (role : StreamRole) → is_for_application role None ≡ true → may_give role None ≡ true
 may-give OfLocalUni e = refl
@@ -74,15 +74,15 @@ let-go-gone side log stage k fits uses f went = by (let-go-named side log k uses
     says : (o : Option Classified) → classified_of k cs ≡ o → StageSays (role_of side k) (call_use side log k) ending o (stage k)
     says o e = subst (λ (o : Option Classified). StageSays (role_of side k) (call_use side log k) ending o (stage k)) e (f k)
 
-    body : (at : ℕ) → BodySays (call_use side log k) at (stage k) → stage k ≡ GivenUp
-    body at g = gone (is_let_go side log k) (at + (use_of k (calls_of log)).read) (stage k) went g
+    body : (offset : ℕ) → BodySays (call_use side log k) offset (stage k) → stage k ≡ GivenUp
+    body offset g = gone (is_let_go side log k) (offset + (use_of k (calls_of log)).read) (stage k) went g
 
     local : (role : StreamRole) → is_for_application role None ≡ true → FirstSays role (call_use side log k) ending (stage k) → stage k ≡ GivenUp
     local OfLocalBi e g = body 0 g
     local _ e g = absurd cc
 
     named : (surplus : Bool) (v : Verdict) → is_webtransport v ≡ true → ClassifiedSays surplus v (call_use side log k) ending (stage k) → stage k ≡ GivenUp
-    named surplus (verdicts.WebTransport session at) e g = body at g
+    named surplus (verdicts.WebTransport session offset) e g = body offset g
     named surplus _ e g = absurd cc
 
     found : (o : Option Classified) → classified_of k cs ≡ o → is_sessions o ≡ true → stage k ≡ GivenUp
@@ -100,10 +100,10 @@ unwanted-gone side log stage k f e = by (classified_of k (stream_table side log)
     said : (surplus : Bool) (v : Verdict) (done : CallUse) (ending : Option Ending) → (reads_no_more v || (is_request v && surplus)) ≡ true → ClassifiedSays surplus v done ending (stage k) → stage k ≡ GivenUp
     said surplus verdicts.Dropped done ending g h = h
     said surplus (verdicts.Refused code) done ending g h = h
-    said surplus (verdicts.Encoder at) done ending g h = h
-    said surplus (verdicts.Decoder at) done ending g h = h
-    said true (verdicts.Request request at) done ending g h = h
-    said false (verdicts.Request request at) done ending g h = absurd cc
+    said surplus (verdicts.Encoder offset) done ending g h = h
+    said surplus (verdicts.Decoder offset) done ending g h = h
+    said true (verdicts.Request request offset) done ending g h = h
+    said false (verdicts.Request request offset) done ending g h = absurd cc
     said surplus _ done ending g h = absurd cc
 
     by : (o : Option Classified) → is_unwanted o ≡ true → StageSays (role_of side k) (call_use side log k) (stream_table side log).progress.ending o (stage k) → stage k ≡ GivenUp

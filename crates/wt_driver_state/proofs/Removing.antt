@@ -40,29 +40,29 @@ later-none id (suc n) (l ∷ ls) e = by (l.id == id) e (later-none id n ls)
     by true f again = absurd cc
     by false f again = again f
 
-drop-later : (id most at : ℕ) (ls : List Slot) → most ≤ at → has_slot id (drop most ls) ≡ false → has_slot id (drop at ls) ≡ false
-drop-later id zero at ls le e = later-none id at ls e
+drop-later : (id most offset : ℕ) (ls : List Slot) → most ≤ offset → has_slot id (drop most ls) ≡ false → has_slot id (drop offset ls) ≡ false
+drop-later id zero offset ls le e = later-none id offset ls e
 drop-later id (suc most) zero ls le e = absurd (omega arith)
-drop-later id (suc most) (suc at) [] le e = refl
-drop-later id (suc most) (suc at) (l ∷ ls) le e = drop-later id most at ls (omega arith) e
+drop-later id (suc most) (suc offset) [] le e = refl
+drop-later id (suc most) (suc offset) (l ∷ ls) le e = drop-later id most offset ls (omega arith) e
 
-pub slot-removed-is : (id most at : ℕ) (ls first : List Slot) (l : Slot) → ls ≡ first → without_slot id ls ≡ take at ls ++ without_slot id (drop at ls) → at < length ls → l ≡ get_or ls at l → l.id ≡ id
-    → IsAmong most id first → remove ls at ≡ without_slot id first
-slot-removed-is id most at ls first l same far lt is e m =
-    let front : drop at ls ≡ l ∷ drop (at + 1) ls = drop_more ls at l lt ∙ ap (λ (x : Slot). x ∷ drop (at + 1) ls) (sym is) in
-    let distinct : AreDistinct (l ∷ drop (at + 1) ls) = subst AreDistinct front (distinct-drop at ls (subst AreDistinct (sym same) m.distinct)) in
-    let none : has_slot id (drop (at + 1) ls) ≡ false = ap (λ (k : ℕ). has_slot k (drop (at + 1) ls)) (sym e) ∙ distinct.0 in
-    let here : without_slot id (l ∷ drop (at + 1) ls) ≡ drop (at + 1) ls = ap (λ (b : Bool). cond b (without_slot id (drop (at + 1) ls)) (l ∷ without_slot id (drop (at + 1) ls))) (same-id id l.id e) ∙ without-none id (drop (at + 1) ls) none in
-    let plain : remove ls at ≡ take at ls ++ drop (at + 1) ls = rw add-one (removed ls at) in
+pub slot-removed-is : (id most offset : ℕ) (ls first : List Slot) (l : Slot) → ls ≡ first → without_slot id ls ≡ take offset ls ++ without_slot id (drop offset ls) → offset < length ls → l ≡ get_or ls offset l → l.id ≡ id
+    → IsAmong most id first → remove ls offset ≡ without_slot id first
+slot-removed-is id most offset ls first l same far lt is e m =
+    let front : drop offset ls ≡ l ∷ drop (offset + 1) ls = drop_more ls offset l lt ∙ ap (λ (x : Slot). x ∷ drop (offset + 1) ls) (sym is) in
+    let distinct : AreDistinct (l ∷ drop (offset + 1) ls) = subst AreDistinct front (distinct-drop offset ls (subst AreDistinct (sym same) m.distinct)) in
+    let none : has_slot id (drop (offset + 1) ls) ≡ false = ap (λ (k : ℕ). has_slot k (drop (offset + 1) ls)) (sym e) ∙ distinct.0 in
+    let here : without_slot id (l ∷ drop (offset + 1) ls) ≡ drop (offset + 1) ls = ap (λ (b : Bool). cond b (without_slot id (drop (offset + 1) ls)) (l ∷ without_slot id (drop (offset + 1) ls))) (same-id id l.id e) ∙ without-none id (drop (offset + 1) ls) none in
+    let plain : remove ls offset ≡ take offset ls ++ drop (offset + 1) ls = rw add-one (removed ls offset) in
     plain
-    ∙ ap (λ (ys : List Slot). take at ls ++ ys) (sym here)
-    ∙ ap (λ (ys : List Slot). take at ls ++ without_slot id ys) (sym front)
+    ∙ ap (λ (ys : List Slot). take offset ls ++ ys) (sym here)
+    ∙ ap (λ (ys : List Slot). take offset ls ++ without_slot id ys) (sym front)
     ∙ sym far ∙ ap (without_slot id) same
   where
     same-id : (id k : ℕ) → k ≡ id → (id == k) ≡ true
     same-id id k f = ap (λ (j : ℕ). id == j) f ∙ eq-eqb id id refl
 
-pub slot-absent-is : (id most at : ℕ) (ls first : List Slot) → ls ≡ first → without_slot id ls ≡ take at ls ++ without_slot id (drop at ls) → most ≤ at → IsAmong most id first → ls ≡ without_slot id first
-slot-absent-is id most at ls first same far le m =
-    let none : has_slot id (drop at ls) ≡ false = ap (λ (xs : List Slot). has_slot id (drop at xs)) same ∙ drop-later id most at first le m.early in
-    sym (take-append-drop at ls) ∙ ap (λ (ys : List Slot). take at ls ++ ys) (sym (without-none id (drop at ls) none)) ∙ sym far ∙ ap (without_slot id) same
+pub slot-absent-is : (id most offset : ℕ) (ls first : List Slot) → ls ≡ first → without_slot id ls ≡ take offset ls ++ without_slot id (drop offset ls) → most ≤ offset → IsAmong most id first → ls ≡ without_slot id first
+slot-absent-is id most offset ls first same far le m =
+    let none : has_slot id (drop offset ls) ≡ false = ap (λ (xs : List Slot). has_slot id (drop offset xs)) same ∙ drop-later id most offset first le m.early in
+    sym (take-append-drop offset ls) ∙ ap (λ (ys : List Slot). take offset ls ++ ys) (sym (without-none id (drop offset ls) none)) ∙ sym far ∙ ap (without_slot id) same

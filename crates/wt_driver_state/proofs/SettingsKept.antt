@@ -39,34 +39,34 @@ left_after zero xs more = more
 left_after (suc n) [] more = drop (suc n) more
 left_after (suc n) (x ∷ xs) more = left_after n xs more
 
-drop-behind : (n : ℕ) (xs more : List ℕ) → drop n (xs ++ more) ≡ drop n xs ++ left_after n xs more
-drop-behind zero [] more = refl
-drop-behind zero (x ∷ xs) more = refl
-drop-behind (suc n) [] more = refl
-drop-behind (suc n) (x ∷ xs) more = drop-behind n xs more
+drop-after : (n : ℕ) (xs more : List ℕ) → drop n (xs ++ more) ≡ drop n xs ++ left_after n xs more
+drop-after zero [] more = refl
+drop-after zero (x ∷ xs) more = refl
+drop-after (suc n) [] more = refl
+drop-after (suc n) (x ∷ xs) more = drop-after n xs more
 
--- the bytes that an entry brings for a stream
-abbrev brought : ℕ → Entry → List ℕ
-brought k (Received id byte) = if id == k then byte ∷ [] else []
-brought k _ = []
+-- the bytes that an entry adds to a stream
+abbrev piece_of : ℕ → Entry → List ℕ
+piece_of k (Received id byte) = if id == k then byte ∷ [] else []
+piece_of k _ = []
 
-with-brought : (k : ℕ) (e : Entry) (before : List ℕ) → with_byte k e before ≡ before ++ brought k e
-with-brought k (Received id byte) before = by (id == k)
+with-piece-added : (k : ℕ) (e : Entry) (before : List ℕ) → with_byte k e before ≡ before ++ piece_of k e
+with-piece-added k (Received id byte) before = by (id == k)
   where
     by : (b : Bool) → (if b then before ++ byte ∷ [] else before) ≡ before ++ (if b then byte ∷ [] else [])
     by true = refl
     by false = sym (append-nil before)
-with-brought k _ before = sym (append-nil before)
+with-piece-added k _ before = sym (append-nil before)
 
-drop-stays : (at : ℕ) (xs more : List ℕ) (end later : StreamEnd) (s : Settings) → (control_walk_of (drop at xs) end).settings ≡ Some s → (control_walk_of (drop at (xs ++ more)) later).settings ≡ Some s
-drop-stays at xs more end later s e =
-    ap (λ (ys : List ℕ). (control_walk_of ys later).settings) (drop-behind at xs more) ∙ settings_stay (drop at xs) (left_after at xs more) end later s e
+drop-stays : (offset : ℕ) (xs more : List ℕ) (end later : StreamEnd) (s : Settings) → (control_walk_of (drop offset xs) end).settings ≡ Some s → (control_walk_of (drop offset (xs ++ more)) later).settings ≡ Some s
+drop-stays offset xs more end later s e =
+    ap (λ (ys : List ℕ). (control_walk_of ys later).settings) (drop-after offset xs more) ∙ settings_stay (drop offset xs) (left_after offset xs more) end later s e
 
 read-stays : (side : Side) (log : Log) (e : Entry) (o : Option (ℕ × ℕ)) (s : Settings) → settings_read (transport_view side log) o ≡ Some s → settings_read (transport_view side (e ∷ log)) o ≡ Some s
 read-stays side log e None s f = absurd cc
 read-stays side log e (Some c) s f =
-    ap (λ (ys : List ℕ). (control_walk_of (drop c.1 ys) (end_of (events_of (e ∷ log)) c.0)).settings) (with-brought c.0 e (contents log c.0))
-    ∙ drop-stays c.1 (contents log c.0) (brought c.0 e) (end_of (events_of log) c.0) (end_of (events_of (e ∷ log)) c.0) s f
+    ap (λ (ys : List ℕ). (control_walk_of (drop c.1 ys) (end_of (events_of (e ∷ log)) c.0)).settings) (with-piece-added c.0 e (contents log c.0))
+    ∙ drop-stays c.1 (contents log c.0) (piece_of c.0 e) (end_of (events_of log) c.0) (end_of (events_of (e ∷ log)) c.0) s f
 
 -- an entry that is no moment leaves the table
 idle-table : (side : Side) (log : Log) (e : Entry) → (is_moment e && is_open (e ∷ log)) ≡ false → stream_table side (e ∷ log) ≡ stream_table side log
@@ -104,7 +104,7 @@ goes-then : (c d e : Known) → GoesOn c d → GoesOn d e → GoesOn c e
 goes-then c d e a b = record { has_come = b.has_come ∙ a.has_come; control = λ x i. b.control x (a.control x i) }
 
 control-stays : (v : Verdict) (r : Classified) (d : Dispatched) (x : ℕ × ℕ) → d.control ≡ Some x → (dispatch_by v r d).control ≡ Some x
-control-stays (verdicts.Control at) r d x e = ap (λ (o : Option (ℕ × ℕ)). or_later o (Some (r.id, at))) e
+control-stays (verdicts.Control offset) r d x e = ap (λ (o : Option (ℕ × ℕ)). or_later o (Some (r.id, offset))) e
 control-stays _ r d x e = e
 
 module _ (ready : Bool) (rule : SlotRule) where

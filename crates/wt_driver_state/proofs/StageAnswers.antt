@@ -182,15 +182,15 @@ read-staged side log stage k fits uses f half =
     says : (o : Option Classified) → classified_of k cs ≡ o → StageSays (role_of side k) (call_use side log k) ending o (stage k)
     says o e = subst (λ (o : Option Classified). StageSays (role_of side k) (call_use side log k) ending o (stage k)) e (f k)
 
-    read-up-to : (at : ℕ) → is_let_go side log k ≡ false → BodySays (call_use side log k) at (stage k) → body_offset (stage k) ≡ Some (at + total_read k (calls_of log))
-    read-up-to at kept g = up-to-says (is_let_go side log k) (at + (use_of k (calls_of log)).read) (stage k) kept g ∙ ap (λ n. Some (at + n)) (use-read k (calls_of log))
+    read-up-to : (offset : ℕ) → is_let_go side log k ≡ false → BodySays (call_use side log k) offset (stage k) → body_offset (stage k) ≡ Some (offset + total_read k (calls_of log))
+    read-up-to offset kept g = up-to-says (is_let_go side log k) (offset + (use_of k (calls_of log)).read) (stage k) kept g ∙ ap (λ n. Some (offset + n)) (use-read k (calls_of log))
 
     local : (role : StreamRole) → role ≡ OfLocalBi → FirstSays role (call_use side log k) ending (stage k) → is_let_go side log k ≡ false → body_offset (stage k) ≡ Some (0 + total_read k (calls_of log))
     local role e g kept = read-up-to 0 kept (subst (λ (r : StreamRole). FirstSays r (call_use side log k) ending (stage k)) e g)
 
     named : (surplus : Bool) (v : Verdict) → is_webtransport v ≡ true → ClassifiedSays surplus v (call_use side log k) ending (stage k) → is_let_go side log k ≡ false
         → body_offset (stage k) ≡ Some (halves.body_start (Some v) + total_read k (calls_of log))
-    named surplus (verdicts.WebTransport session at) e g kept = read-up-to at kept g
+    named surplus (verdicts.WebTransport session offset) e g kept = read-up-to offset kept g
     named surplus _ e g kept = absurd cc
 
     found : (o : Option Classified) → classified_of k cs ≡ o → is_sessions o ≡ true → is_let_go side log k ≡ false → body_offset (stage k) ≡ Some (halves.body_start (verdict_of k cs) + total_read k (calls_of log))

@@ -33,41 +33,41 @@ use Rattle.wt_wire.specs.declared.side.Side.TheVariants.{Client, Server}
 
 -- What the checks after the slots ask of the stages: the session's walk begins where it may, and that of the control stream.
 pub record ChecksAsk (t : TransportView) (s : DriverState) (stage : ℕ → Stage) : Type 0 where
-  pub session : (id at : ℕ) → s.session ≡ Some (id, at) → (datagram_checked t s.datagrams s.progress).ending ≡ None → session_offset (stage id) ≡ Some at
-  pub control : (id at : ℕ) → s.dispatched.control ≡ Some (id, at)
-      → control_offset (unless_ended_stage (datagram_checked t s.datagrams s.progress).ending (session_stages t s.session stage) stage id) ≡ Some at
+  pub session : (id offset : ℕ) → s.session ≡ Some (id, offset) → (datagram_checked t s.datagrams s.progress).ending ≡ None → session_offset (stage id) ≡ Some offset
+  pub control : (id offset : ℕ) → s.dispatched.control ≡ Some (id, offset)
+      → control_offset (unless_ended_stage (datagram_checked t s.datagrams s.progress).ending (session_stages t s.session stage) stage id) ≡ Some offset
 
 -- the session's stream can be read where its part begins
 session-read : (side : Side) (role : StreamRole) (o : Option Classified) (done : CallUse) (s : ℕ × ℕ) (ending : Option Ending) (stage : Stage) → (side ≡ Client → o ≡ None) → done.session ≡ Some s
     → session_at side role o s.1 ≡ Some s.1 → ending ≡ None → StageSays role done ending o stage → session_offset stage ≡ Some s.1
-session-read Client role o done s ending stage own is at e f = by role at (rw (own refl) at f)
+session-read Client role o done s ending stage own is offset e f = by role offset (rw (own refl) at f)
   where
     by : (role : StreamRole) → response_at role s.1 ≡ Some s.1 → StageSays role done ending None stage → session_offset stage ≡ Some s.1
-    by ForRequest at f = (rw is at f) e
-    by _ at f = absurd cc
-session-read Server role None done s ending stage own is at e f = absurd cc
-session-read Server role (Some c) done s ending stage own is at e f = by c.surplus c.verdict at f
+    by ForRequest offset f = (rw is at f) e
+    by _ offset f = absurd cc
+session-read Server role None done s ending stage own is offset e f = absurd cc
+session-read Server role (Some c) done s ending stage own is offset e f = by c.surplus c.verdict offset f
   where
     by : (surplus : Bool) (v : Verdict) → request_at surplus v ≡ Some s.1 → ClassifiedSays surplus v done ending stage → session_offset stage ≡ Some s.1
-    by false (verdicts.Request request at) g f = f e ∙ g
+    by false (verdicts.Request request offset) g f = f e ∙ g
     by true _ g f = absurd cc
     by false _ g f = absurd cc
 
 -- the control stream's walk begins after its type
-control-read : (role : StreamRole) (o : Option Classified) (done : CallUse) (ending : Option Ending) (at : ℕ) (stage : Stage) → verdict_in o ≡ Some (verdicts.Control at) → StageSays role done ending o stage → control_offset stage ≡ Some at
-control-read role None done ending at stage e f = absurd cc
-control-read role (Some c) done ending at stage e f = let same : c.verdict ≡ verdicts.Control at = cc in subst (λ v. ClassifiedSays c.surplus v done ending stage) same f
+control-read : (role : StreamRole) (o : Option Classified) (done : CallUse) (ending : Option Ending) (offset : ℕ) (stage : Stage) → verdict_in o ≡ Some (verdicts.Control offset) → StageSays role done ending o stage → control_offset stage ≡ Some offset
+control-read role None done ending offset stage e f = absurd cc
+control-read role (Some c) done ending offset stage e f = let same : c.verdict ≡ verdicts.Control offset = cc in subst (λ v. ClassifiedSays c.surplus v done ending stage) same f
 
 pub checks-asked : (side : Side) (did : ℕ → CallUse) (t : TransportView) (d : CallView) (sent : ControlSent) (open_ : Bool) (table : StreamTable) (stage : ℕ → Stage) → IsOwn side table.classified → IsOnce table.classified
     → ((k : ℕ) → (did k).session ≡ d.session)
     → ((s : ℕ × ℕ) → d.session ≡ Some s → session_at side (role_of side s.0) (classified_of s.0 table.classified) s.1 ≡ Some s.1)
     → TableFits side did table stage → ChecksAsk t (state_by t d sent open_ table) stage
 checks-asked side did t d sent open_ table stage own once kept placed f = record {
-  session = λ id at e runs.
-      session-read side (role_of side id) (classified_of id table.classified) (did id) (id, at) table.progress.ending (stage id) (own-none side table.classified id at own (placed (id, at) e)) (kept id ∙ e) (placed (id, at) e)
+  session = λ id offset e runs.
+      session-read side (role_of side id) (classified_of id table.classified) (did id) (id, offset) table.progress.ending (stage id) (own-none side table.classified id offset own (placed (id, offset) e)) (kept id ∙ e) (placed (id, offset) e)
       (went-on (λ q. check_datagram (t.ready && d.datagrams == q.datagrams) t q) table.progress runs) (f id);
-  control = λ id at e.
-      control-read (role_of side id) (classified_of id table.classified) (did id) _ at _ (sym (verdict-found id table.classified) ∙ control-found id at table.classified once e)
+  control = λ id offset e.
+      control-read (role_of side id) (classified_of id table.classified) (did id) _ offset _ (sym (verdict-found id table.classified) ∙ control-found id offset table.classified once e)
       (second-fits side did table.classified t own d.session kept placed once d sent open_ refl table.progress stage f id);
 }
 

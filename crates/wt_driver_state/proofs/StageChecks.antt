@@ -23,50 +23,50 @@ use Rattle.wt_wire.specs.declared.side.Side.TheVariants.{Client, Server}
 
 -- ---- the dispatched control stream is classified so
 
-pub control-found : (k at : ℕ) (cs : List Classified) → IsOnce cs → first_at control_start cs ≡ Some (k, at) → verdict_of k cs ≡ Some (verdicts.Control at)
-control-found k at [] once e = absurd cc
-control-found k at (c ∷ cs) once e = by c.verdict refl e (control-found k at cs once.1)
+pub control-found : (k offset : ℕ) (cs : List Classified) → IsOnce cs → first_at control_start cs ≡ Some (k, offset) → verdict_of k cs ≡ Some (verdicts.Control offset)
+control-found k offset [] once e = absurd cc
+control-found k offset (c ∷ cs) once e = by c.verdict refl e (control-found k offset cs once.1)
   where
-    later : verdict_of k cs ≡ Some (verdicts.Control at) → (b : Bool) → (c.id == k) ≡ b → (if b then Some c.verdict else verdict_of k cs) ≡ Some (verdicts.Control at)
+    later : verdict_of k cs ≡ Some (verdicts.Control offset) → (b : Bool) → (c.id == k) ≡ b → (if b then Some c.verdict else verdict_of k cs) ≡ Some (verdicts.Control offset)
     later f true g = absurd (let h = sym (ap (λ i. verdict_of i cs) (eqb-true c.id k g)) ∙ once.0 in cc)
     later f false g = f
 
-    here : (n : ℕ) → c.verdict ≡ verdicts.Control n → c.id ≡ k → n ≡ at → (if c.id == k then Some c.verdict else verdict_of k cs) ≡ Some (verdicts.Control at)
+    here : (n : ℕ) → c.verdict ≡ verdicts.Control n → c.id ≡ k → n ≡ offset → (if c.id == k then Some c.verdict else verdict_of k cs) ≡ Some (verdicts.Control offset)
     here n v same phase = rw (eq-eqb c.id k same, v, phase) refl
 
-    by : (v : Verdict) → c.verdict ≡ v → or_later (offset_with_id c.id (control_start v)) (first_at control_start cs) ≡ Some (k, at) → (first_at control_start cs ≡ Some (k, at) → verdict_of k cs ≡ Some (verdicts.Control at))
-        → (if c.id == k then Some c.verdict else verdict_of k cs) ≡ Some (verdicts.Control at)
+    by : (v : Verdict) → c.verdict ≡ v → or_later (offset_with_id c.id (control_start v)) (first_at control_start cs) ≡ Some (k, offset) → (first_at control_start cs ≡ Some (k, offset) → verdict_of k cs ≡ Some (verdicts.Control offset))
+        → (if c.id == k then Some c.verdict else verdict_of k cs) ≡ Some (verdicts.Control offset)
     by (verdicts.Control n) f g again =
-        let pair : (c.id, n) ≡ (k, at) = cc in
+        let pair : (c.id, n) ≡ (k, offset) = cc in
         here n f (ap (λ (x : ℕ × ℕ). x.0) pair) (ap (λ (x : ℕ × ℕ). x.1) pair)
     by _ f g again = later (again g) (c.id == k) refl
 
 -- a client's session is on no stream that is classified
-pub own-none : (side : Side) (cs : List Classified) (id at : ℕ) → IsOwn side cs → session_at side (role_of side id) (classified_of id cs) at ≡ Some at → side ≡ Client → classified_of id cs ≡ None
-own-none Client cs id at own e is = ap (λ i. classified_of i cs) (client-id id at (classified_of id cs) e) ∙ own
-own-none Server cs id at own e is = absurd cc
+pub own-none : (side : Side) (cs : List Classified) (id offset : ℕ) → IsOwn side cs → session_at side (role_of side id) (classified_of id cs) offset ≡ Some offset → side ≡ Client → classified_of id cs ≡ None
+own-none Client cs id offset own e is = ap (λ i. classified_of i cs) (client-id id offset (classified_of id cs) e) ∙ own
+own-none Server cs id offset own e is = absurd cc
 
 -- ---- what is said of the session's stream, and of the control stream
 
 session-says : (side : Side) (role : StreamRole) (o : Option Classified) (done : CallUse) (s : ℕ × ℕ) (ending : Option Ending) (stage : Stage) → (side ≡ Client → o ≡ None) → done.session ≡ Some s
     → session_at side role o s.1 ≡ Some s.1 → (ending ≡ None → session_offset stage ≡ Some s.1) → StageSays role done ending o stage
-session-says Client role o done s ending stage own is at f = rw (own refl) (by role at)
+session-says Client role o done s ending stage own is offset f = rw (own refl) (by role offset)
   where
     by : (role : StreamRole) → response_at role s.1 ≡ Some s.1 → StageSays role done ending None stage
     by ForRequest e = rw is f
     by _ e = absurd cc
-session-says Server role None done s ending stage own is at f = absurd cc
-session-says Server role (Some c) done s ending stage own is at f = by c.surplus c.verdict at
+session-says Server role None done s ending stage own is offset f = absurd cc
+session-says Server role (Some c) done s ending stage own is offset f = by c.surplus c.verdict offset
   where
     by : (surplus : Bool) (v : Verdict) → request_at surplus v ≡ Some s.1 → ClassifiedSays surplus v done ending stage
-    by false (verdicts.Request request at) e = λ g. f g ∙ sym e
+    by false (verdicts.Request request offset) e = λ g. f g ∙ sym e
     by true _ e = absurd cc
     by false _ e = absurd cc
 
 -- what is said of the control stream, once its walk began
-control-says : (role : StreamRole) (o : Option Classified) (done : CallUse) (ending : Option Ending) (at : ℕ) → verdict_in o ≡ Some (verdicts.Control at) → StageSays role done ending o (ControlBody at)
-control-says role None done ending at e = absurd cc
-control-says role (Some c) done ending at e = let same : c.verdict ≡ verdicts.Control at = cc in subst (λ v. ClassifiedSays c.surplus v done ending (ControlBody at)) (sym same) refl
+control-says : (role : StreamRole) (o : Option Classified) (done : CallUse) (ending : Option Ending) (offset : ℕ) → verdict_in o ≡ Some (verdicts.Control offset) → StageSays role done ending o (ControlBody offset)
+control-says role None done ending offset e = absurd cc
+control-says role (Some c) done ending offset e = let same : c.verdict ≡ verdicts.Control offset = cc in subst (λ v. ClassifiedSays c.surplus v done ending (ControlBody offset)) (sym same) refl
 
 -- ---- each check
 

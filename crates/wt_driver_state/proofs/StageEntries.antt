@@ -32,35 +32,35 @@ says-so role before after ending o stage e s = subst (λ (done : CallUse). Stage
 -- ---- a call
 
 -- a stream that isn't dropped is read up to this offset
-pub up-to : (dropped : Bool) (at : ℕ) (stage : Stage) → dropped ≡ false → body_offset stage ≡ Some at → ReadUpTo dropped at stage
-up-to false at stage e f = f
-up-to true at stage e f = absurd cc
+pub up-to : (dropped : Bool) (offset : ℕ) (stage : Stage) → dropped ≡ false → body_offset stage ≡ Some offset → ReadUpTo dropped offset stage
+up-to false offset stage e f = f
+up-to true offset stage e f = absurd cc
 
-pub up-to-says : (dropped : Bool) (at : ℕ) (stage : Stage) → dropped ≡ false → ReadUpTo dropped at stage → body_offset stage ≡ Some at
-up-to-says false at stage e f = f
-up-to-says true at stage e f = absurd cc
+pub up-to-says : (dropped : Bool) (offset : ℕ) (stage : Stage) → dropped ≡ false → ReadUpTo dropped offset stage → body_offset stage ≡ Some offset
+up-to-says false offset stage e f = f
+up-to-says true offset stage e f = absurd cc
 
 -- it reads on
-pub read-so : (count at : ℕ) (stage : Stage) → body_offset stage ≡ Some at → read_stage count stage ≡ Body (at + count)
-read-so count at Untouched e = let same : 0 ≡ at = cc in ap (λ (n : ℕ). Body (n + count)) same
-read-so count at (Body m) e = let same : m ≡ at = cc in ap (λ (n : ℕ). Body (n + count)) same
-read-so count at _ e = absurd cc
+pub read-so : (count offset : ℕ) (stage : Stage) → body_offset stage ≡ Some offset → read_stage count stage ≡ Body (offset + count)
+read-so count offset Untouched e = let same : 0 ≡ offset = cc in ap (λ (n : ℕ). Body (n + count)) same
+read-so count offset (Body m) e = let same : m ≡ offset = cc in ap (λ (n : ℕ). Body (n + count)) same
+read-so count offset _ e = absurd cc
 
-up-to-more : (dropped : Bool) (at count : ℕ) (stage : Stage) → ReadUpTo dropped at stage → ReadUpTo dropped (at + count) (read_stage count stage)
-up-to-more false at count stage f = ap body_offset (read-so count at stage f)
-up-to-more true at count stage f = ap (read_stage count) f
+up-to-more : (dropped : Bool) (offset count : ℕ) (stage : Stage) → ReadUpTo dropped offset stage → ReadUpTo dropped (offset + count) (read_stage count stage)
+up-to-more false offset count stage f = ap body_offset (read-so count offset stage f)
+up-to-more true offset count stage f = ap (read_stage count) f
 
 read-says : (role : StreamRole) (before : CallUse) (count : ℕ) (ending : Option Ending) (o : Option Classified) (stage : Stage) → is_for_application role o ≡ true → StageSays role before ending o stage
     → StageSays role (record before { read = count + before.read }) ending o (read_stage count stage)
 read-says role before count ending o stage app says = by role o app says
   where
-    body : (at : ℕ) → BodySays before at stage → BodySays (record before { read = count + before.read }) at (read_stage count stage)
-    body at f =
-        let same : at + before.read + count ≡ at + (count + before.read) = omega arith in
-        subst (λ (n : ℕ). ReadUpTo before.is_dropped n (read_stage count stage)) same (up-to-more before.is_dropped (at + before.read) count stage f)
+    body : (offset : ℕ) → BodySays before offset stage → BodySays (record before { read = count + before.read }) offset (read_stage count stage)
+    body offset f =
+        let same : offset + before.read + count ≡ offset + (count + before.read) = omega arith in
+        subst (λ (n : ℕ). ReadUpTo before.is_dropped n (read_stage count stage)) same (up-to-more before.is_dropped (offset + before.read) count stage f)
 
     named : (surplus : Bool) (v : Verdict) → is_webtransport v ≡ true → ClassifiedSays surplus v before ending stage → ClassifiedSays surplus v (record before { read = count + before.read }) ending (read_stage count stage)
-    named surplus (verdicts.WebTransport session at) e f = body at f
+    named surplus (verdicts.WebTransport session offset) e f = body offset f
     named surplus _ e f = absurd cc
 
     by : (role : StreamRole) (o : Option Classified) → is_for_application role o ≡ true → StageSays role before ending o stage → StageSays role (record before { read = count + before.read }) ending o (read_stage count stage)
@@ -75,7 +75,7 @@ dropped-says role before false ending o stage app says = says
 dropped-says role before true ending o stage app says = by role o app
   where
     named : (surplus : Bool) (v : Verdict) → is_webtransport v ≡ true → ClassifiedSays surplus v (record before { is_dropped = true }) ending GivenUp
-    named surplus (verdicts.WebTransport session at) e = refl
+    named surplus (verdicts.WebTransport session offset) e = refl
     named surplus _ e = absurd cc
 
     by : (role : StreamRole) (o : Option Classified) → is_for_application role o ≡ true → StageSays role (record before { is_dropped = true }) ending o GivenUp
@@ -86,7 +86,7 @@ dropped-says role before true ending o stage app says = by role o app
 -- of a classified stream as much is said, whatever session there is
 any-session : (surplus : Bool) (v : Verdict) (before : CallUse) (session : Option (ℕ × ℕ)) (ended : Bool) (ending : Option Ending) (stage : Stage) → ClassifiedSays surplus v before ending stage
     → ClassifiedSays surplus v (record before { session = session; is_over = ended }) ending stage
-any-session surplus (verdicts.WebTransport s at) before session ended ending stage f = f
+any-session surplus (verdicts.WebTransport s offset) before session ended ending stage f = f
 any-session surplus _ before session ended ending stage f = f
 
 -- it ends the handshake
@@ -114,40 +114,40 @@ not-request a b true d before session ending o stage e f = absurd cc
 not-request a b false d before session ending o stage e f = other-role a b d before session ending o stage f
 
 -- the stream's id is that of the request, where it has its role
-request-id : (a b c d : Bool) (at : ℕ) → response_at (role_by a b c d) at ≡ Some at → c ≡ true
-request-id true b c d at e = absurd cc
-request-id false true c d at e = absurd cc
-request-id false false true d at e = refl
-request-id false false false true at e = absurd cc
-request-id false false false false at e = absurd cc
+request-id : (a b c d : Bool) (offset : ℕ) → response_at (role_by a b c d) offset ≡ Some offset → c ≡ true
+request-id true b c d offset e = absurd cc
+request-id false true c d offset e = absurd cc
+request-id false false true d offset e = refl
+request-id false false false true offset e = absurd cc
+request-id false false false false offset e = absurd cc
 
 module _ (log : Log) (table : StreamTable) (stage : ℕ → Stage) where
   -- a session is established: a client reads the request's stream after the response
-  pub client-established : (id at : ℕ) → id ≡ 0 → ((k : ℕ) → (id == k) ≡ false → StageFits Client (call_use Client log) table k (stage k)) → session_offset (stage id) ≡ Some at → classified_of id table.classified ≡ None
-      → TableFits Client (call_use Client (Called (SessionEstablished id at) ∷ log)) table stage
-  client-established id at zero-id f read none k = by (id == k) refl
+  pub client-established : (id offset : ℕ) → id ≡ 0 → ((k : ℕ) → (id == k) ≡ false → StageFits Client (call_use Client log) table k (stage k)) → session_offset (stage id) ≡ Some offset → classified_of id table.classified ≡ None
+      → TableFits Client (call_use Client (Called (SessionEstablished id offset) ∷ log)) table stage
+  client-established id offset zero-id f read none k = by (id == k) refl
     where
-      unclassified : (o : Option Classified) → o ≡ None → session_offset (stage 0) ≡ Some at → StageSays ForRequest (call_use Client (Called (SessionEstablished id at) ∷ log) 0) table.progress.ending o (stage 0)
+      unclassified : (o : Option Classified) → o ≡ None → session_offset (stage 0) ≡ Some offset → StageSays ForRequest (call_use Client (Called (SessionEstablished id offset) ∷ log) 0) table.progress.ending o (stage 0)
       unclassified None e g = λ _. g
       unclassified (Some c) e g = absurd cc
 
-      front : StageFits Client (call_use Client (Called (SessionEstablished id at) ∷ log)) table 0 (stage 0)
+      front : StageFits Client (call_use Client (Called (SessionEstablished id offset) ∷ log)) table 0 (stage 0)
       front =
           unclassified (classified_of 0 table.classified) (subst (λ (i : ℕ). classified_of i table.classified ≡ None) zero-id none)
-          (subst (λ (i : ℕ). session_offset (stage i) ≡ Some at) zero-id read)
+          (subst (λ (i : ℕ). session_offset (stage i) ≡ Some offset) zero-id read)
 
-      by : (e : Bool) → (id == k) ≡ e → StageFits Client (call_use Client (Called (SessionEstablished id at) ∷ log)) table k (stage k)
-      by true e = subst (λ i. StageFits Client (call_use Client (Called (SessionEstablished id at) ∷ log)) table i (stage i)) (sym zero-id ∙ eqb-true id k e) front
+      by : (e : Bool) → (id == k) ≡ e → StageFits Client (call_use Client (Called (SessionEstablished id offset) ∷ log)) table k (stage k)
+      by true e = subst (λ i. StageFits Client (call_use Client (Called (SessionEstablished id offset) ∷ log)) table i (stage i)) (sym zero-id ∙ eqb-true id k e) front
       by false e =
-          not-request (k % 4 == 3) (k % 4 == 1) (k == 0) (k % 4 == 0) (call_use Client log k) (Some (id, at)) table.progress.ending (classified_of k table.classified) (stage k)
+          not-request (k % 4 == 3) (k % 4 == 1) (k == 0) (k % 4 == 0) (call_use Client log k) (Some (id, offset)) table.progress.ending (classified_of k table.classified) (stage k)
           (turned-round 0 k (ap (λ i. i == k) (sym zero-id) ∙ e)) (f k e)
 
-  server-established : (id at : ℕ) → TableFits Server (call_use Server log) table stage → TableFits Server (call_use Server (Called (SessionEstablished id at) ∷ log)) table stage
-  server-established id at f k = other-role (k % 4 == 2) (k % 4 == 0) (k % 4 == 1) (call_use Server log k) (Some (id, at)) table.progress.ending (classified_of k table.classified) (stage k) (f k)
+  server-established : (id offset : ℕ) → TableFits Server (call_use Server log) table stage → TableFits Server (call_use Server (Called (SessionEstablished id offset) ∷ log)) table stage
+  server-established id offset f k = other-role (k % 4 == 2) (k % 4 == 0) (k % 4 == 1) (call_use Server log k) (Some (id, offset)) table.progress.ending (classified_of k table.classified) (stage k) (f k)
 
 -- a client's session is on the stream for its request
-pub client-id : (id at : ℕ) (o : Option Classified) → session_at Client (role_of Client id) o at ≡ Some at → id ≡ 0
-client-id id at o e = eqb-true id 0 (request-id (id % 4 == 3) (id % 4 == 1) (id == 0) (id % 4 == 0) at e)
+pub client-id : (id offset : ℕ) (o : Option Classified) → session_at Client (role_of Client id) o offset ≡ Some offset → id ≡ 0
+client-id id offset o e = eqb-true id 0 (request-id (id % 4 == 3) (id % 4 == 1) (id == 0) (id % 4 == 0) offset e)
 
 -- a client's stream for its request is never classified
 abbrev pub IsOwn : Side → List Classified → Type 0
@@ -177,13 +177,13 @@ module _ (side : Side) (log : Log) (table : StreamTable) (stage : ℕ → Stage)
       (dropped-says (role_of side id) (call_use side log id) there table.progress.ending (classified_of id table.classified) (stage id) may (f id)))
 
 -- a session is established
-established-fits : (side : Side) (log : Log) (table : StreamTable) (stage : ℕ → Stage) (id at : ℕ) → IsOwn side table.classified
-    → session_at side (role_of side id) (classified_of id table.classified) at ≡ Some at → TableFits side (call_use side log) table stage
-    → TableFits side (call_use side (Called (SessionEstablished id at) ∷ log)) table (established_stages side id at stage)
-established-fits Client log table stage id at own may f =
-    let zero-id = client-id id at (classified_of id table.classified) may in
-    client-established log table (with_stage stage id (Body at)) id at zero-id (λ k e. rw e (f k)) (rw (eq-eqb id id refl) refl) (ap (λ i. classified_of i table.classified) zero-id ∙ own)
-established-fits Server log table stage id at own may f = server-established log table stage id at f
+established-fits : (side : Side) (log : Log) (table : StreamTable) (stage : ℕ → Stage) (id offset : ℕ) → IsOwn side table.classified
+    → session_at side (role_of side id) (classified_of id table.classified) offset ≡ Some offset → TableFits side (call_use side log) table stage
+    → TableFits side (call_use side (Called (SessionEstablished id offset) ∷ log)) table (established_stages side id offset stage)
+established-fits Client log table stage id offset own may f =
+    let zero-id = client-id id offset (classified_of id table.classified) may in
+    client-established log table (with_stage stage id (Body offset)) id offset zero-id (λ k e. rw e (f k)) (rw (eq-eqb id id refl) refl) (ap (λ i. classified_of i table.classified) zero-id ∙ own)
+established-fits Server log table stage id offset own may f = server-established log table stage id offset f
 
 pub named-for : (role : StreamRole) (o : Option Classified) → is_sessions o ≡ true → is_for_application role o ≡ true
 named-for role None e = absurd cc
@@ -197,6 +197,6 @@ called-fits side log stage (StreamGivenUp id) own may f =
     drop-fits side log (stream_table side log) stage id (StreamGivenUp id) (is_there side log id) may (λ k e. rw e refl) (rw (eq-eqb id id refl) refl) f
 called-fits side log stage (StreamPassed id) own may f =
     drop-fits side log (stream_table side log) stage id (StreamPassed id) true (named-for (role_of side id) (classified_of id (stream_table side log).classified) may.0) (λ k e. rw e refl) (rw (eq-eqb id id refl) refl) f
-called-fits side log stage (SessionEstablished id at) own may f = established-fits side log (stream_table side log) stage id at own may.0 f
+called-fits side log stage (SessionEstablished id offset) own may f = established-fits side log (stream_table side log) stage id offset own may.0 f
 called-fits side log stage HandshakeOver own may f = λ k. over-says (role_of side k) (call_use side log k) (stream_table side log).progress.ending (classified_of k (stream_table side log).classified) (stage k) (f k)
 called-fits side log stage _ own may f = f

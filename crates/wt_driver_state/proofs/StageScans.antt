@@ -67,17 +67,17 @@ once-plain : (o : Option (ℕ × ℕ)) → (only_once o).surplus ≡ false
 once-plain None = refl
 once-plain (Some x) = refl
 
-at-body : (surplus : Bool) (at : ℕ) → surplus ≡ false → unless_given_up (surplus || false) (Body at) ≡ Body at
-at-body surplus at e = rw e refl
+at-body : (surplus : Bool) (offset : ℕ) → surplus ≡ false → unless_given_up (surplus || false) (Body offset) ≡ Body offset
+at-body surplus offset e = rw e refl
 
 -- a request is read on after it, unless it is surplus
-at-request : (surplus : Bool) (at : ℕ) (ending : Option Ending) → RequestSays surplus at ending (unless_given_up (surplus || false) (Body at))
-at-request false at ending = λ _. refl
-at-request true at ending = refl
+at-request : (surplus : Bool) (offset : ℕ) (ending : Option Ending) → RequestSays surplus offset ending (unless_given_up (surplus || false) (Body offset))
+at-request false offset ending = λ _. refl
+at-request true offset ending = refl
 
 -- a stream of a session is read from the end of its header on
-at-session : (done : CallUse) (at : ℕ) → done.read ≡ 0 → done.is_dropped ≡ false → BodySays done at (Body at)
-at-session done at none kept = up-to done.is_dropped (at + done.read) (Body at) kept (ap (λ (n : ℕ). Some n) (sym (add-zero at)) ∙ ap (λ (n : ℕ). Some (at + n)) (sym none))
+at-session : (done : CallUse) (offset : ℕ) → done.read ≡ 0 → done.is_dropped ≡ false → BodySays done offset (Body offset)
+at-session done offset none kept = up-to done.is_dropped (offset + done.read) (Body offset) kept (ap (λ (n : ℕ). Some n) (sym (add-zero offset)) ∙ ap (λ (n : ℕ). Some (offset + n)) (sym none))
 
 -- whether or not it is surplus, nothing of it is kept
 let-go : (surplus : Bool) (stage : Stage) → unless_given_up (surplus || true) stage ≡ GivenUp
@@ -87,18 +87,18 @@ let-go false stage = refl
 -- a stream that is classified now is at the stage that its verdict asks
 newly : (half : Half) (t : TransportView) (d : Dispatched) (k : ℕ) (v : Verdict) (done : CallUse) (ending : Option Ending) → done.read ≡ 0 → done.is_dropped ≡ false
     → ClassifiedSays ((rule_of half t).consequence d k v).surplus v done ending (classified_stage ((rule_of half t).consequence d k v).surplus v)
-newly Uni t d k (verdicts.Control at) done ending e f = ap control_offset (at-body (only_once d.control).surplus at (once-plain d.control))
-newly Bi t d k (verdicts.Control at) done ending e f = refl
-newly Uni t d k (verdicts.Request request at) done ending e f = λ _. refl
-newly Bi t d k (verdicts.Request request at) done ending e f = at-request ((rule_of Bi t).consequence d k (verdicts.Request request at)).surplus at ending
-newly Uni t d k (verdicts.WebTransport session at) done ending e f = at-session done at e f
-newly Bi t d k (verdicts.WebTransport session at) done ending e f = at-session done at e f
+newly Uni t d k (verdicts.Control offset) done ending e f = ap control_offset (at-body (only_once d.control).surplus offset (once-plain d.control))
+newly Bi t d k (verdicts.Control offset) done ending e f = refl
+newly Uni t d k (verdicts.Request request offset) done ending e f = λ _. refl
+newly Bi t d k (verdicts.Request request offset) done ending e f = at-request ((rule_of Bi t).consequence d k (verdicts.Request request offset)).surplus offset ending
+newly Uni t d k (verdicts.WebTransport session offset) done ending e f = at-session done offset e f
+newly Bi t d k (verdicts.WebTransport session offset) done ending e f = at-session done offset e f
 newly Uni t d k verdicts.Dropped done ending e f = refl
 newly Bi t d k verdicts.Dropped done ending e f = refl
 newly Uni t d k (verdicts.Refused code) done ending e f = refl
 newly Bi t d k (verdicts.Refused code) done ending e f = refl
-newly half t d k (verdicts.Encoder at) done ending e f = let-go ((rule_of half t).consequence d k (verdicts.Encoder at)).surplus (stage_from (Some at))
-newly half t d k (verdicts.Decoder at) done ending e f = let-go ((rule_of half t).consequence d k (verdicts.Decoder at)).surplus (stage_from (Some at))
+newly half t d k (verdicts.Encoder offset) done ending e f = let-go ((rule_of half t).consequence d k (verdicts.Encoder offset)).surplus (stage_from (Some offset))
+newly half t d k (verdicts.Decoder offset) done ending e f = let-go ((rule_of half t).consequence d k (verdicts.Decoder offset)).surplus (stage_from (Some offset))
 newly half t d k _ done ending e f = tt
 
 -- of a stream that isn't classified and that the peer opened
@@ -115,12 +115,12 @@ header-says Bi role done ending e f g = rw e (refl, f, g)
 pub weaker-says : (role : StreamRole) (done : CallUse) (ending later : Option Ending) (o : Option Classified) (stage : Stage) → (later ≡ None → ending ≡ None) → StageSays role done ending o stage → StageSays role done later o stage
 weaker-says role done ending later (Some c) stage runs f = by c.verdict f
   where
-    request-says : (surplus : Bool) (at : ℕ) → RequestSays surplus at ending stage → RequestSays surplus at later stage
-    request-says false at f = λ g. f (runs g)
-    request-says true at f = f
+    request-says : (surplus : Bool) (offset : ℕ) → RequestSays surplus offset ending stage → RequestSays surplus offset later stage
+    request-says false offset f = λ g. f (runs g)
+    request-says true offset f = f
 
     by : (v : Verdict) → ClassifiedSays c.surplus v done ending stage → ClassifiedSays c.surplus v done later stage
-    by (verdicts.Request request at) f = request-says c.surplus at f
+    by (verdicts.Request request offset) f = request-says c.surplus offset f
     by _ f = f
 weaker-says ForRequest done ending later None stage runs f = by done.session done.is_over f
   where

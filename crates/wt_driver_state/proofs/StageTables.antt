@@ -57,22 +57,22 @@ entry-found side log m j c e = by (is_moment m && is_open (m ∷ log))
 -- ---- the session's stream
 
 -- a stream on which a session may be established stays one
-session-stays : (side : Side) (log : Log) (m : Entry) (id at : ℕ) → session_at side (role_of side id) (classified_of id (stream_table side log).classified) at ≡ Some at
-    → session_at side (role_of side id) (classified_of id (stream_table side (m ∷ log)).classified) at ≡ Some at
-session-stays Client log m id at e = e
-session-stays Server log m id at e = by (classified_of id (stream_table Server log).classified) refl e
+session-stays : (side : Side) (log : Log) (m : Entry) (id offset : ℕ) → session_at side (role_of side id) (classified_of id (stream_table side log).classified) offset ≡ Some offset
+    → session_at side (role_of side id) (classified_of id (stream_table side (m ∷ log)).classified) offset ≡ Some offset
+session-stays Client log m id offset e = e
+session-stays Server log m id offset e = by (classified_of id (stream_table Server log).classified) refl e
   where
-    by : (o : Option Classified) → classified_of id (stream_table Server log).classified ≡ o → queued_at o ≡ Some at → queued_at (classified_of id (stream_table Server (m ∷ log)).classified) ≡ Some at
+    by : (o : Option Classified) → classified_of id (stream_table Server log).classified ≡ o → queued_at o ≡ Some offset → queued_at (classified_of id (stream_table Server (m ∷ log)).classified) ≡ Some offset
     by None f g = absurd cc
     by (Some c) f g = ap queued_at (entry-found Server log m id c f) ∙ g
 
 -- the established session is on such a stream
 pub session-is : (side : Side) (log : Log) (s : ℕ × ℕ) → Uses side log → established_session (calls_of log) ≡ Some s → session_at side (role_of side s.0) (classified_of s.0 (stream_table side log).classified) s.1 ≡ Some s.1
 session-is side [] s uses e = absurd cc
-session-is side (Called (SessionEstablished id at) ∷ log) s uses e =
-    let same : (id, at) ≡ s = cc in
-    subst (λ (x : ℕ × ℕ). session_at side (role_of side x.0) (classified_of x.0 (stream_table side (Called (SessionEstablished id at) ∷ log)).classified) x.1 ≡ Some x.1) same
-    (session-stays side log (Called (SessionEstablished id at)) id at uses.0.0)
+session-is side (Called (SessionEstablished id offset) ∷ log) s uses e =
+    let same : (id, offset) ≡ s = cc in
+    subst (λ (x : ℕ × ℕ). session_at side (role_of side x.0) (classified_of x.0 (stream_table side (Called (SessionEstablished id offset) ∷ log)).classified) x.1 ≡ Some x.1) same
+    (session-stays side log (Called (SessionEstablished id offset)) id offset uses.0.0)
 session-is side (Called r ∷ log) s uses e = session-stays side log (Called r) s.0 s.1 (session-is side log s uses.1 e)
 session-is side (m ∷ log) s uses e = session-stays side log m s.0 s.1 (session-is side log s uses.1 e)
 
@@ -89,5 +89,5 @@ is-own Server log fits = tt
 
 pub use-session : (k : ℕ) (calls : List CallRecord) → (use_of k calls).session ≡ established_session calls
 use-session k [] = refl
-use-session k (SessionEstablished id at ∷ calls) = refl
+use-session k (SessionEstablished id offset ∷ calls) = refl
 use-session k (_ ∷ calls) = use-session k calls

@@ -28,7 +28,7 @@ use Rattle.wt_seam_spec.specs.Streams.{contents, local_bi, local_count, local_un
 use Rattle.wt_spec.specs.Answers.{call_effect, in_session, is_client, is_first, is_lawful, log_after, may_call, may_respond, on_receiving, on_sending, on_session, receive}
 use Rattle.wt_spec.specs.Connect.{address_of, authority_of, connect, connect_to, outcome_error, path_of, port_of, request_head, reserved_name, server_name, unless_stopped, with_address}
 use Rattle.wt_spec.specs.Connection.{accept_due, accept_first, datagram_allowed, datagram_within, ends_opening, give_or_pass, is_for_session, is_opening, next_datagram, next_due, open_stream, pass_stream, poll_opening, read_datagram, receive_first, receive_next, receive_or_pass, send_datagram, starts_opening, stream_header}
-use Rattle.wt_spec.specs.Driver.{call_view, established_session, flush, log_and_flush, settings_came, settled_datagrams, stream_table}
+use Rattle.wt_spec.specs.Driver.{call_view, established_session, flush, log_and_flush, settings_came, released_datagrams, stream_table}
 use Rattle.wt_spec.specs.Effect.{Effect, close_when_open, driver_error, head_left, is_covered, is_empty, log_call, poll_sending, reply_with, transport_error}
 use Rattle.wt_spec.specs.Halves.{all_written_reply, exact_at_end, finish_once, has_receiving_half, has_sending_half, is_done, on_half, read, read_exact, read_reply, reset, set_priority, take_bytes, unread_body, write_by, write_error, written_reply}
 use Rattle.wt_spec.specs.Handshake.{Connecting, HandshakeState, Requested, Responding, accept_response, await_or_fail, await_response, awaits_answer, continue_by, deliver, establish, fail_handshake, handshake_state, has_success, incoming, is_refused, open_request, queued_requests, read_response, reject_response, request_end, requested_stream, respond, send_request, start_response, unless_reserved}
@@ -68,7 +68,7 @@ pub record LeadsUses (side : Side) (effect : Effect) : Type 0 where
 -- an action leaves what a call may record
 may-out : (side : Side) (log : Log) (a : Action) (r : CallRecord) → MayUse side log r → MayUse side (Sent a ∷ log) r
 unfolding stream_table
-may-out side log a (SessionEstablished id at) may = (may.0, opened-stays side (a ∷ []) log may.1)
+may-out side log a (SessionEstablished id offset) may = (may.0, opened-stays side (a ∷ []) log may.1)
 may-out side log a _ may = may
 
 pub may-with : (side : Side) (acts : List Action) (log : Log) (r : CallRecord) → MayUse side log r → MayUse side (with_actions acts log) r
@@ -116,22 +116,22 @@ module _ (side : Side) (reply : ℕ → Reply) (kind session : ℕ) where
       by (Some c) e again = one (is_for_session session c.verdict) c e again
 
 -- the datagram that is due came
-due-came : (side : Side) (log : Log) (d : ℕ × List ℕ) → next_datagram side log ≡ Some d → settled_datagrams (calls_of log) < length (datagrams_of (events_of log))
-due-came side log d e = by (nat_lt (settled_datagrams (calls_of log)) (stream_table side log).progress.datagrams) e
+due-came : (side : Side) (log : Log) (d : ℕ × List ℕ) → next_datagram side log ≡ Some d → released_datagrams (calls_of log) < length (datagrams_of (events_of log))
+due-came side log d e = by (nat_lt (released_datagrams (calls_of log)) (stream_table side log).progress.datagrams) e
   where
-    there : (o : Option (List ℕ)) → slice_get (datagrams_of (events_of log)) (settled_datagrams (calls_of log)) ≡ o → read_datagram o ≡ Some d → settled_datagrams (calls_of log) < length (datagrams_of (events_of log))
+    there : (o : Option (List ℕ)) → slice_get (datagrams_of (events_of log)) (released_datagrams (calls_of log)) ≡ o → read_datagram o ≡ Some d → released_datagrams (calls_of log) < length (datagrams_of (events_of log))
     there None f g = absurd cc
-    there (Some piece) f g = slice_get_within (datagrams_of (events_of log)) (settled_datagrams (calls_of log)) piece f
+    there (Some piece) f g = slice_get_within (datagrams_of (events_of log)) (released_datagrams (calls_of log)) piece f
 
-    by : (b : Bool) → (if b then read_datagram (slice_get (datagrams_of (events_of log)) (settled_datagrams (calls_of log))) else None) ≡ Some d → settled_datagrams (calls_of log) < length (datagrams_of (events_of log))
-    by true f = there (slice_get (datagrams_of (events_of log)) (settled_datagrams (calls_of log))) refl f
+    by : (b : Bool) → (if b then read_datagram (slice_get (datagrams_of (events_of log)) (released_datagrams (calls_of log))) else None) ≡ Some d → released_datagrams (calls_of log) < length (datagrams_of (events_of log))
+    by true f = there (slice_get (datagrams_of (events_of log)) (released_datagrams (calls_of log))) refl f
     by false f = absurd cc
 
 receive-uses : (side : Side) (session n : ℕ) (log : Log) → Uses side log → LeadsUses side (receive_first n side session log)
 receive-uses side session zero log uses = called-uses side log [] Polled uses tt
 receive-uses side session (suc n) log uses = by (next_datagram side log) refl (λ later. receive-uses side session n later)
   where
-    one : (b : Bool) (payload : List ℕ) → settled_datagrams (calls_of log) < length (datagrams_of (events_of log)) → ((later : Log) → Uses side later → LeadsUses side (receive_first n side session later)) → LeadsUses side (receive_or_pass b side (λ later. receive_first n side session later) log payload)
+    one : (b : Bool) (payload : List ℕ) → released_datagrams (calls_of log) < length (datagrams_of (events_of log)) → ((later : Log) → Uses side later → LeadsUses side (receive_first n side session later)) → LeadsUses side (receive_or_pass b side (λ later. receive_first n side session later) log payload)
     one true payload has_come again = called-uses side (log_call side log [] DatagramReceived) [] Polled (moment-uses side log (Called DatagramReceived) has_come uses) tt
     one false payload has_come again = again (log_call side log [] DatagramPassed) (moment-uses side log (Called DatagramPassed) has_come uses)
 
@@ -243,9 +243,9 @@ module _ (side : Side) (log : Log) (fits : Fits side log) (uses : Uses side log)
   failed-uses : (own : List Action) (reply : Reply) → LeadsUses side (fail_handshake side log own reply)
   failed-uses own reply = called-uses side log own HandshakeOver uses tt
 
-  establish-uses : (own : List Action) (id at : ℕ) → MayUse side (with_actions own log) (SessionEstablished id at) → LeadsUses side (establish side log own id at)
-  establish-uses own id at may =
-      called-uses side (log_call side log own (SessionEstablished id at)) [] Polled (moment-uses side (with_actions own log) (Called (SessionEstablished id at)) may (actions-use side own log uses)) tt
+  establish-uses : (own : List Action) (id offset : ℕ) → MayUse side (with_actions own log) (SessionEstablished id offset) → LeadsUses side (establish side log own id offset)
+  establish-uses own id offset may =
+      called-uses side (log_call side log own (SessionEstablished id offset)) [] Polled (moment-uses side (with_actions own log) (Called (SessionEstablished id offset)) may (actions-use side own log uses)) tt
 
   deliver-uses : (cs : List Classified) → ((c : Classified) → In c cs → is_some (queued_at (classified_of c.id (stream_table side log).classified)) ≡ true) → LeadsUses side (deliver side log cs)
   deliver-uses [] there = either side (is_open log) _ _ (polls [] _) (failed-uses [] _)
@@ -268,9 +268,9 @@ module _ (side : Side) (log : Log) (fits : Fits side log) (uses : Uses side log)
     waits : (own : List Action) (reply : Reply) → LeadsUses side (reply_with (log_call side log own waiting) reply)
     waits own reply = called-uses side log own waiting uses (may-with side own log waiting may)
 
-    server-may : (side : Side) → side ≡ Server → (at : ℕ) → (o : _) → queued_at o ≡ Some at → RequestOpened Server log → session_at side (role_of side id) o at ≡ Some at
-    server-may Client e at o q r = absurd cc
-    server-may Server e at o q r = q
+    server-may : (side : Side) → side ≡ Server → (offset : ℕ) → (o : _) → queued_at o ≡ Some offset → RequestOpened Server log → session_at side (role_of side id) o offset ≡ Some offset
+    server-may Client e offset o q r = absurd cc
+    server-may Server e offset o q r = q
 
     opened : (side : Side) → side ≡ Server → RequestOpened side log
     opened Client e = absurd cc
@@ -320,9 +320,9 @@ module _ (log : Log) (fits : Fits Client log) (uses : Uses Client log) where
   response-uses own (responses.Fault code) o = failed-uses Client log fits uses (own ++ close_when_open log (code_of code)) _
   response-uses own responses.Ended o = failed-uses Client log fits uses (own ++ close_when_open log 0) _
   response-uses own responses.Incomplete o = either Client (is_open log) _ _ (polls Client log fits uses own _) (failed-uses Client log fits uses own _)
-  response-uses own (responses.Response fields at) o =
+  response-uses own (responses.Response fields offset) o =
       either Client (not (has_success fields)) _ _ (failed-uses Client log fits uses (own ++ close_when_open log 0) _)
-      (either Client (is_open log) _ _ (establish-uses Client log fits uses own 0 at (refl, o)) (failed-uses Client log fits uses own _))
+      (either Client (is_open log) _ _ (establish-uses Client log fits uses own 0 offset (refl, o)) (failed-uses Client log fits uses own _))
 
   request-uses : (own : List Action) (left : List ℕ) → RequestOpened Client (with_actions own log) → LeadsUses Client (send_request Client log 0 own left)
   request-uses own left o =

@@ -53,9 +53,9 @@ opened-stays Server (a ∷ later) log e = opened-stays Server later (Sent a ∷ 
 -- a client with a session opened it
 pub established-opened : (side : Side) (log : Log) (s : ℕ × ℕ) → Uses side log → established_session (calls_of log) ≡ Some s → RequestOpened side log
 established-opened side [] s uses e = absurd cc
-established-opened side (Called (SessionEstablished id at) ∷ log) s uses e = by side uses.0.1
+established-opened side (Called (SessionEstablished id offset) ∷ log) s uses e = by side uses.0.1
   where
-    by : (side : Side) → RequestOpened side log → RequestOpened side (Called (SessionEstablished id at) ∷ log)
+    by : (side : Side) → RequestOpened side log → RequestOpened side (Called (SessionEstablished id offset) ∷ log)
     by Client o = o
     by Server o = tt
 established-opened side (Called r ∷ log) s uses e = by side (established-opened side log s uses.1 e)
@@ -97,7 +97,7 @@ queued-found side log c fits i =
   where
     by : (surplus : Bool) (v : Verdict) → is_request v ≡ true → not surplus ≡ true → is_some (request_at surplus v) ≡ true
     by true v e f = absurd cc
-    by false (verdicts.Request request at) e f = refl
+    by false (verdicts.Request request offset) e f = refl
     by false _ e f = absurd cc
 
 -- a queued request stays classified so
@@ -125,7 +125,7 @@ answering-queued side (Called (ResponseStarted accepts head) ∷ log) uses e =
     by (Requested id) e = refl
     by _ e = absurd cc
 answering-queued side (Called (ConnectStarted reserved head) ∷ log) uses e = absurd cc
-answering-queued side (Called (SessionEstablished id at) ∷ log) uses e = absurd cc
+answering-queued side (Called (SessionEstablished id offset) ∷ log) uses e = absurd cc
 answering-queued side (Called HandshakeOver ∷ log) uses e = absurd cc
 answering-queued side (Called r ∷ log) uses e = queued-stays side log (Called r) (requested_stream (calls_of log)) (answering-queued side log uses.1 e)
 answering-queued side (m ∷ log) uses e = queued-stays side log m (requested_stream (calls_of log)) (answering-queued side log uses.1 e)
@@ -137,7 +137,7 @@ ends-at side log k e = rw (verdict-found k (stream_table side log).classified) (
   where
     named : (surplus : Bool) (v : Verdict) → is_some (request_at surplus v) ≡ true → request_at surplus v ≡ Some (request_end (Some v))
     named true v e = absurd cc
-    named false (verdicts.Request request at) e = refl
+    named false (verdicts.Request request offset) e = refl
     named false _ e = absurd cc
 
     by : (o : Option Classified) → is_some (queued_at o) ≡ true → queued_at o ≡ Some (request_end (verdict_in o))
@@ -150,7 +150,7 @@ responding-side side [] accepts head uses e = absurd cc
 responding-side side (Called (ResponseStarted a h) ∷ log) accepts head uses e = uses.0.0
 responding-side side (Called (RequestDelivered id) ∷ log) accepts head uses e = absurd cc
 responding-side side (Called (ConnectStarted reserved h) ∷ log) accepts head uses e = absurd cc
-responding-side side (Called (SessionEstablished id at) ∷ log) accepts head uses e = absurd cc
+responding-side side (Called (SessionEstablished id offset) ∷ log) accepts head uses e = absurd cc
 responding-side side (Called HandshakeOver ∷ log) accepts head uses e = absurd cc
 responding-side side (Called _ ∷ log) accepts head uses e = responding-side side log accepts head uses.1 e
 responding-side side (_ ∷ log) accepts head uses e = responding-side side log accepts head uses.1 e
@@ -160,7 +160,7 @@ connecting-side side [] reserved head uses e = absurd cc
 connecting-side side (Called (ConnectStarted r h) ∷ log) reserved head uses e = uses.0.0
 connecting-side side (Called (RequestDelivered id) ∷ log) reserved head uses e = absurd cc
 connecting-side side (Called (ResponseStarted accepts h) ∷ log) reserved head uses e = absurd cc
-connecting-side side (Called (SessionEstablished id at) ∷ log) reserved head uses e = absurd cc
+connecting-side side (Called (SessionEstablished id offset) ∷ log) reserved head uses e = absurd cc
 connecting-side side (Called HandshakeOver ∷ log) reserved head uses e = absurd cc
 connecting-side side (Called _ ∷ log) reserved head uses e = connecting-side side log reserved head uses.1 e
 connecting-side side (_ ∷ log) reserved head uses e = connecting-side side log reserved head uses.1 e

@@ -15,7 +15,7 @@ use Rattle.wt_driver_state.specs.DriverValue.{DriverValue, with_state}
 use Rattle.wt_driver_state.specs.PeerSettings.{KeepsSettings}
 use Rattle.wt_driver_spec.specs.Asking.{SendFacts}
 use Rattle.wt_driver_spec.specs.Uses.{Uses}
-use Rattle.wt_driver_state.specs.Tie.{Follows, TakenIn, unsettled_datagrams, untaken_since}
+use Rattle.wt_driver_state.specs.Tie.{Follows, TakenIn, unreleased_datagrams, uncollected_since}
 use Rattle.wt_driver_spec.proofs.Following.{open-more}
 use Rattle.wt_driver_spec.proofs.RestMoments.{late-followed, open-says}
 use Rattle.wt_driver_spec.specs.DriverState.{DriverState, state_of}
@@ -56,24 +56,24 @@ event-sends side log e f = record {
 
 -- ---- what waits after an event
 
-event-waits : (side : Side) (log : Log) (e : Event) → Uses side log → unsettled_datagrams (Reported e ∷ log) ≡ with_datagram e (unsettled_datagrams log)
+event-waits : (side : Side) (log : Log) (e : Event) → Uses side log → unreleased_datagrams (Reported e ∷ log) ≡ with_datagram e (unreleased_datagrams log)
 event-waits side log (Datagram piece) uses = datagram-waits side log piece uses
 event-waits side log _ uses = refl
 
--- the connection stands as the log says
-open-after : (side : Side) (log : Log) (m : Entry) (x : InboxState) (stage : ℕ → Stage) (untaken : List Action) → inboxes.Refines side x (m ∷ log) stage untaken
+-- the connection is as the log says
+open-after : (side : Side) (log : Log) (m : Entry) (x : InboxState) (stage : ℕ → Stage) (uncollected : List Action) → inboxes.Refines side x (m ∷ log) stage uncollected
     → x.transport.is_open ≡ (not (ends_by m) && (state_of side log).is_open)
-open-after side log m x stage untaken r = open-is side (m ∷ log) untaken x stage r ∙ open-more m log ∙ ap (λ b. not (ends_by m) && b) (open-says side log)
+open-after side log m x stage uncollected r = open-is side (m ∷ log) uncollected x stage r ∙ open-more m log ∙ ap (λ b. not (ends_by m) && b) (open-says side log)
 
-module _ (side : Side) (log : Log) (taken : ℕ) (d : DriverValue) (f : Follows side d log taken) where
+module _ (side : Side) (log : Log) (collected : ℕ) (d : DriverValue) (f : Follows side d log collected) where
   -- an event was taken in
-  pub event-taken : (e : Event) (new : DriverValue) → is_open log ≡ true → inboxes.Refines side new.inbox (Reported e ∷ log) f.refines.stage (untaken_since taken log)
-      → new.state ≡ record (with_arrival (transport_view side log) e d.state) { is_open = new.inbox.transport.is_open } → new.queue ≡ with_datagram e d.queue → new.settings ≡ d.settings → TakenIn side log (Reported e) new taken
+  pub event-taken : (e : Event) (new : DriverValue) → is_open log ≡ true → inboxes.Refines side new.inbox (Reported e ∷ log) f.refines.stage (uncollected_since collected log)
+      → new.state ≡ record (with_arrival (transport_view side log) e d.state) { is_open = new.inbox.transport.is_open } → new.queue ≡ with_datagram e d.queue → new.settings ≡ d.settings → TakenIn side log (Reported e) new collected
   event-taken e new o r s q k = record {
     stage = f.refines.stage;
     inbox = r;
     fit = f.refines.staged;
-    state_is = s ∙ (λ i. record (with_arrival (transport_view side log) e (f.refines.state_is i)) { is_open = open-after side log (Reported e) new.inbox f.refines.stage (untaken_since taken log) r i });
+    state_is = s ∙ (λ i. record (with_arrival (transport_view side log) e (f.refines.state_is i)) { is_open = open-after side log (Reported e) new.inbox f.refines.stage (uncollected_since collected log) r i });
     queue_is = q ∙ ap (with_datagram e) f.refines.queue_is ∙ sym (event-waits side log e f.refines.uses);
     settings = subst (KeepsSettings side log) (sym k) f.refines.settings;
     within = f.within;
@@ -87,15 +87,15 @@ module _ (side : Side) (log : Log) (taken : ℕ) (d : DriverValue) (f : Follows 
   }
 
   -- one came after the end
-  pub late-follows : (e : Event) (new : DriverValue) → is_open log ≡ false → inboxes.Refines side new.inbox (ReportedLate e ∷ log) f.refines.stage (untaken_since taken log)
-      → new.state ≡ record d.state { is_open = new.inbox.transport.is_open } → new.queue ≡ d.queue → new.settings ≡ d.settings → Follows side new (log_and_flush side log (ReportedLate e)) taken
+  pub late-follows : (e : Event) (new : DriverValue) → is_open log ≡ false → inboxes.Refines side new.inbox (ReportedLate e ∷ log) f.refines.stage (uncollected_since collected log)
+      → new.state ≡ record d.state { is_open = new.inbox.transport.is_open } → new.queue ≡ d.queue → new.settings ≡ d.settings → Follows side new (log_and_flush side log (ReportedLate e)) collected
   unfolding flush
   late-follows e new o r s q k = record {
     refines = record {
       stage = f.refines.stage;
       inbox = r;
       staged = late-staged side log e f.refines.stage f.refines.staged;
-      state_is = s ∙ (λ i. record (f.refines.state_is i) { is_open = open-after side log (ReportedLate e) new.inbox f.refines.stage (untaken_since taken log) r i }) ∙ sym (late-followed side log e f.refines.fits);
+      state_is = s ∙ (λ i. record (f.refines.state_is i) { is_open = open-after side log (ReportedLate e) new.inbox f.refines.stage (uncollected_since collected log) r i }) ∙ sym (late-followed side log e f.refines.fits);
       queue_is = q ∙ f.refines.queue_is;
       settings = idle-keeps side log (ReportedLate e) new.settings refl (subst (KeepsSettings side log) (sym k) f.refines.settings);
       fits = (tt, f.refines.fits);
@@ -113,13 +113,13 @@ module _ (side : Side) (log : Log) (taken : ℕ) (d : DriverValue) (f : Follows 
       closed later = none (sym o ∙ sym (open-more (ReportedLate e) log) ∙ later)
 
   -- a byte was taken in
-  pub byte-taken : (id byte : ℕ) (new : DriverValue) → is_open log ≡ true → inboxes.Refines side new.inbox (Received id byte ∷ log) f.refines.stage (untaken_since taken log)
-      → new.state ≡ record d.state { is_open = new.inbox.transport.is_open } → new.queue ≡ d.queue → new.settings ≡ d.settings → TakenIn side log (Received id byte) new taken
+  pub byte-taken : (id byte : ℕ) (new : DriverValue) → is_open log ≡ true → inboxes.Refines side new.inbox (Received id byte ∷ log) f.refines.stage (uncollected_since collected log)
+      → new.state ≡ record d.state { is_open = new.inbox.transport.is_open } → new.queue ≡ d.queue → new.settings ≡ d.settings → TakenIn side log (Received id byte) new collected
   byte-taken id byte new o r s q k = record {
     stage = f.refines.stage;
     inbox = r;
     fit = f.refines.staged;
-    state_is = s ∙ (λ i. record (f.refines.state_is i) { is_open = open-after side log (Received id byte) new.inbox f.refines.stage (untaken_since taken log) r i });
+    state_is = s ∙ (λ i. record (f.refines.state_is i) { is_open = open-after side log (Received id byte) new.inbox f.refines.stage (uncollected_since collected log) r i });
     queue_is = q ∙ f.refines.queue_is;
     settings = subst (KeepsSettings side log) (sym k) f.refines.settings;
     within = f.within;
@@ -133,14 +133,14 @@ module _ (side : Side) (log : Log) (taken : ℕ) (d : DriverValue) (f : Follows 
   }
 
   -- bytes that came after the end are left out
-  pub unchanged-follows : (new : DriverValue) → inboxes.Refines side new.inbox log f.refines.stage (untaken_since taken log) → new.state ≡ record d.state { is_open = new.inbox.transport.is_open } → new.queue ≡ d.queue → new.settings ≡ d.settings
-      → Follows side new log taken
+  pub unchanged-follows : (new : DriverValue) → inboxes.Refines side new.inbox log f.refines.stage (uncollected_since collected log) → new.state ≡ record d.state { is_open = new.inbox.transport.is_open } → new.queue ≡ d.queue → new.settings ≡ d.settings
+      → Follows side new log collected
   unchanged-follows new r s q k = record {
     refines = record {
       stage = f.refines.stage;
       inbox = r;
       staged = f.refines.staged;
-      state_is = s ∙ (λ i. record (f.refines.state_is i) { is_open = (open-is side log (untaken_since taken log) new.inbox f.refines.stage r ∙ open-says side log) i });
+      state_is = s ∙ (λ i. record (f.refines.state_is i) { is_open = (open-is side log (uncollected_since collected log) new.inbox f.refines.stage r ∙ open-says side log) i });
       queue_is = q ∙ f.refines.queue_is;
       settings = subst (KeepsSettings side log) (sym k) f.refines.settings;
       fits = f.refines.fits;
@@ -181,27 +181,27 @@ fits-on side log k b p q f = by (is_open log) (is_moment (Received k b) && is_op
 -- ---- the bytes of a piece, one after another
 
 -- so many bytes were taken
-pub record BytesSoFar (side : Side) (log : Log) (taken : ℕ) (id : ℕ) (bytes : List ℕ) (at : ℕ) (d : DriverValue) : Type 0 where
+pub record BytesSoFar (side : Side) (log : Log) (collected : ℕ) (id : ℕ) (bytes : List ℕ) (offset : ℕ) (d : DriverValue) : Type 0 where
   pub log_now : Log
-  pub follows : Follows side d log_now taken
-  pub left : receive side log_now id (drop at bytes) ≡ receive side log id bytes
+  pub follows : Follows side d log_now collected
+  pub left : receive side log_now id (drop offset bytes) ≡ receive side log id bytes
   pub fit : fits side log_now (turns.Bytes id []) ≡ true
 
-module _ (side : Side) (log : Log) (taken id : ℕ) (bytes : List ℕ) where
-  pub bytes-begin : (d : DriverValue) → Follows side d log taken → fits side log (turns.Bytes id bytes) ≡ true → BytesSoFar side log taken id bytes 0 d
+module _ (side : Side) (log : Log) (collected id : ℕ) (bytes : List ℕ) where
+  pub bytes-begin : (d : DriverValue) → Follows side d log collected → fits side log (turns.Bytes id bytes) ≡ true → BytesSoFar side log collected id bytes 0 d
   bytes-begin d f may = record { log_now = log; follows = f; left = refl; fit = may }
 
-  module _ (at : ℕ) (d : DriverValue) (s : BytesSoFar side log taken id bytes at d) where
-    pub bytes-on : (new : DriverValue) → at < length bytes → Follows side new (receive side s.log_now id (get_or bytes at 0 ∷ [])) taken → BytesSoFar side log taken id bytes (at + 1) new
+  module _ (offset : ℕ) (d : DriverValue) (s : BytesSoFar side log collected id bytes offset d) where
+    pub bytes-on : (new : DriverValue) → offset < length bytes → Follows side new (receive side s.log_now id (get_or bytes offset 0 ∷ [])) collected → BytesSoFar side log collected id bytes (offset + 1) new
     bytes-on new lt f = record {
-      log_now = receive side s.log_now id (get_or bytes at 0 ∷ []);
+      log_now = receive side s.log_now id (get_or bytes offset 0 ∷ []);
       follows = f;
-      left = sym (ap (receive side s.log_now id) (drop_more bytes at 0 lt)) ∙ s.left;
-      fit = fits-on side s.log_now id (get_or bytes at 0) [] [] s.fit;
+      left = sym (ap (receive side s.log_now id) (drop_more bytes offset 0 lt)) ∙ s.left;
+      fit = fits-on side s.log_now id (get_or bytes offset 0) [] [] s.fit;
     }
 
-    pub bytes-end : length bytes ≤ at → Follows side d (receive side log id bytes) taken
-    bytes-end le = subst (λ (l : Log). Follows side d l taken) (sym (ap (receive side s.log_now id) (drop_all at bytes le)) ∙ s.left) s.follows
+    pub bytes-end : length bytes ≤ offset → Follows side d (receive side log id bytes) collected
+    bytes-end le = subst (λ (l : Log). Follows side d l collected) (sym (ap (receive side s.log_now id) (drop_all offset bytes le)) ∙ s.left) s.follows
 
 -- ---- whole turns
 
@@ -215,28 +215,28 @@ after-event-turn side log (turns.Call call) e is = absurd cc
 after-event-turn side log _ e is = ap (λ (x : Event). flush side (event_entry (is_open log) x ∷ log)) (same-some _ e is)
 
 -- an event's moment, by whether the connection is open
-pub event-follows : (side : Side) (log : Log) (taken : ℕ) (turn : Turn) (e : Event) (d new : DriverValue) (r : Result (Unit {0}) OutOfMemory) → event_of turn ≡ Some e → EventTaken side log e d taken
-    → ((m : Entry) → TakenIn side log m d taken → OnOk r (Follows side new (log_and_flush side log m) taken)) → OnOk r (d.state.is_open ≡ false → new ≡ d) → OnOk r (Follows side new (log_after side log turn) taken)
-event-follows side log taken turn e d new r is t flushed same = subst (λ (l : Log). OnOk r (Follows side new l taken)) (sym (after-event-turn side log turn e is)) (by (is_open log) refl)
+pub event-follows : (side : Side) (log : Log) (collected : ℕ) (turn : Turn) (e : Event) (d new : DriverValue) (r : Result (Unit {0}) OutOfMemory) → event_of turn ≡ Some e → EventTaken side log e d collected
+    → ((m : Entry) → TakenIn side log m d collected → OnOk r (Follows side new (log_and_flush side log m) collected)) → OnOk r (d.state.is_open ≡ false → new ≡ d) → OnOk r (Follows side new (log_after side log turn) collected)
+event-follows side log collected turn e d new r is t flushed same = subst (λ (l : Log). OnOk r (Follows side new l collected)) (sym (after-event-turn side log turn e is)) (by (is_open log) refl)
   where
-    by : (o : Bool) → is_open log ≡ o → OnOk r (Follows side new (flush side (event_entry o e ∷ log)) taken)
+    by : (o : Bool) → is_open log ≡ o → OnOk r (Follows side new (flush side (event_entry o e ∷ log)) collected)
     by true o = flushed (Reported e) (t.count_is o)
-    by false o = on_ok_weaker r (λ (g : d.state.is_open ≡ false → new ≡ d). subst (λ (v : DriverValue). Follows side v (log_and_flush side log (ReportedLate e)) taken) (sym (g (t.ended o))) (t.late o)) same
+    by false o = on_ok_weaker r (λ (g : d.state.is_open ≡ false → new ≡ d). subst (λ (v : DriverValue). Follows side v (log_and_flush side log (ReportedLate e)) collected) (sym (g (t.ended o))) (t.late o)) same
 
 -- a byte's moment
-pub byte-follows : (side : Side) (log : Log) (taken : ℕ) (d : DriverValue) (f : Follows side d log taken) (id byte : ℕ) (mid new : DriverValue) (r : Result (Unit {0}) OutOfMemory)
-    → inboxes.Refines side mid.inbox (log_turn log (turns.Bytes id (byte ∷ []))) f.refines.stage (untaken_since taken log) → mid.state ≡ record d.state { is_open = mid.inbox.transport.is_open } → mid.queue ≡ d.queue → mid.settings ≡ d.settings
-    → ((m : Entry) → TakenIn side log m mid taken → OnOk r (Follows side new (log_and_flush side log m) taken)) → OnOk r (mid.state.is_open ≡ false → new ≡ mid) → OnOk r (Follows side new (receive side log id (byte ∷ [])) taken)
-byte-follows side log taken d f id byte mid new r x s q k flushed same = by (is_open log) refl x
+pub byte-follows : (side : Side) (log : Log) (collected : ℕ) (d : DriverValue) (f : Follows side d log collected) (id byte : ℕ) (mid new : DriverValue) (r : Result (Unit {0}) OutOfMemory)
+    → inboxes.Refines side mid.inbox (log_turn log (turns.Bytes id (byte ∷ []))) f.refines.stage (uncollected_since collected log) → mid.state ≡ record d.state { is_open = mid.inbox.transport.is_open } → mid.queue ≡ d.queue → mid.settings ≡ d.settings
+    → ((m : Entry) → TakenIn side log m mid collected → OnOk r (Follows side new (log_and_flush side log m) collected)) → OnOk r (mid.state.is_open ≡ false → new ≡ mid) → OnOk r (Follows side new (receive side log id (byte ∷ [])) collected)
+byte-follows side log collected d f id byte mid new r x s q k flushed same = by (is_open log) refl x
   where
-    by : (o : Bool) → is_open log ≡ o → inboxes.Refines side mid.inbox (log_bytes_if o log id (byte ∷ [])) f.refines.stage (untaken_since taken log)
-        → OnOk r (Follows side new (if o then log_and_flush side log (Received id byte) else log) taken)
-    by true o y = flushed (Received id byte) (byte-taken side log taken d f id byte mid o y s q k)
+    by : (o : Bool) → is_open log ≡ o → inboxes.Refines side mid.inbox (log_bytes_if o log id (byte ∷ [])) f.refines.stage (uncollected_since collected log)
+        → OnOk r (Follows side new (if o then log_and_flush side log (Received id byte) else log) collected)
+    by true o y = flushed (Received id byte) (byte-taken side log collected d f id byte mid o y s q k)
     by false o y =
         on_ok_weaker r
         (λ (g : mid.state.is_open ≡ false → new ≡ mid).
-        subst (λ (v : DriverValue). Follows side v log taken) (sym (g (ap (λ (k : DriverState). k.is_open) s ∙ open-is side log (untaken_since taken log) mid.inbox f.refines.stage y ∙ o)))
-        (unchanged-follows side log taken d f mid y s q k))
+        subst (λ (v : DriverValue). Follows side v log collected) (sym (g (ap (λ (k : DriverState). k.is_open) s ∙ open-is side log (uncollected_since collected log) mid.inbox f.refines.stage y ∙ o)))
+        (unchanged-follows side log collected d f mid y s q k))
         same
 
 -- the log after a turn in an event's shape
@@ -246,26 +246,26 @@ event-turn-log log (turns.Call call) e is = absurd cc
 event-turn-log log _ e is = ap (λ (x : Event). event_entry (is_open log) x ∷ log) (same-some _ e is)
 
 -- an event was noted, then recorded
-pub event-noted : (side : Side) (log : Log) (taken : ℕ) (d : DriverValue) (f : Follows side d log taken) (turn : Turn) (e : Event) (mid new : DriverValue) → event_of turn ≡ Some e
+pub event-noted : (side : Side) (log : Log) (collected : ℕ) (d : DriverValue) (f : Follows side d log collected) (turn : Turn) (e : Event) (mid new : DriverValue) → event_of turn ≡ Some e
     → (is_open log ≡ true → mid ≡ after_arrival (transport_view side log) (event_of turn) d) → (d.state.is_open ≡ false → mid ≡ d)
-    → inboxes.Refines side new.inbox (log_turn log turn) f.refines.stage (untaken_since taken log) → new.state ≡ record mid.state { is_open = new.inbox.transport.is_open } → new.queue ≡ mid.queue → new.settings ≡ mid.settings → EventTaken side log e new taken
-event-noted side log taken d f turn e mid new is here shut r s q k = record {
+    → inboxes.Refines side new.inbox (log_turn log turn) f.refines.stage (uncollected_since collected log) → new.state ≡ record mid.state { is_open = new.inbox.transport.is_open } → new.queue ≡ mid.queue → new.settings ≡ mid.settings → EventTaken side log e new collected
+event-noted side log collected d f turn e mid new is here shut r s q k = record {
   count_is = λ o.
       let m : mid ≡ after_arrival (transport_view side log) (Some e) d = here o ∙ ap (λ (x : Option Event). after_arrival (transport_view side log) x d) is in
-      event-taken side log taken d f e new o (entered true o)
+      event-taken side log collected d f e new o (entered true o)
       (s ∙ (λ i. record (m i).state { is_open = new.inbox.transport.is_open }))
       (q ∙ ap (λ (v : DriverValue). v.queue) m) (k ∙ ap (λ (v : DriverValue). v.settings) m);
   late = λ o.
       let m : mid ≡ d = shut (was o) in
-      late-follows side log taken d f e new o (entered false o) (s ∙ (λ i. record (m i).state { is_open = new.inbox.transport.is_open })) (q ∙ ap (λ (v : DriverValue). v.queue) m) (k ∙ ap (λ (v : DriverValue). v.settings) m);
-  ended = λ o. ap (λ (k : DriverState). k.is_open) s ∙ open-is side (ReportedLate e ∷ log) (untaken_since taken log) new.inbox f.refines.stage (entered false o) ∙ open-more (ReportedLate e) log ∙ o;
+      late-follows side log collected d f e new o (entered false o) (s ∙ (λ i. record (m i).state { is_open = new.inbox.transport.is_open })) (q ∙ ap (λ (v : DriverValue). v.queue) m) (k ∙ ap (λ (v : DriverValue). v.settings) m);
+  ended = λ o. ap (λ (k : DriverState). k.is_open) s ∙ open-is side (ReportedLate e ∷ log) (uncollected_since collected log) new.inbox f.refines.stage (entered false o) ∙ open-more (ReportedLate e) log ∙ o;
 }
   where
     was : is_open log ≡ false → d.state.is_open ≡ false
     was o = ap (λ (k : DriverState). k.is_open) f.refines.state_is ∙ sym (open-says side log) ∙ o
 
-    entered : (b : Bool) → is_open log ≡ b → inboxes.Refines side new.inbox (event_entry b e ∷ log) f.refines.stage (untaken_since taken log)
-    entered b o = subst (λ (l : Log). inboxes.Refines side new.inbox l f.refines.stage (untaken_since taken log)) (event-turn-log log turn e is ∙ ap (λ (x : Bool). event_entry x e ∷ log) o) r
+    entered : (b : Bool) → is_open log ≡ b → inboxes.Refines side new.inbox (event_entry b e ∷ log) f.refines.stage (uncollected_since collected log)
+    entered b o = subst (λ (l : Log). inboxes.Refines side new.inbox l f.refines.stage (uncollected_since collected log)) (event-turn-log log turn e is ∙ ap (λ (x : Bool). event_entry x e ∷ log) o) r
 
 -- four that hold where it is Ok
 pub on-four : {T E P Q R S X : Type 0} (r : Result T E) → (P → Q → R → S → X) → OnOk r P → OnOk r Q → OnOk r R → OnOk r S → OnOk r X
@@ -277,15 +277,15 @@ fits-any side log k p q f = f
 
 -- ---- the peer's streams that an event opens
 
-module _ (side : Side) (log : Log) (stage : ℕ → Stage) (untaken : List Action) (d : DriverValue) (r : inboxes.Refines side d.inbox log stage untaken) (o : is_open log ≡ true) where
+module _ (side : Side) (log : Log) (stage : ℕ → Stage) (uncollected : List Action) (d : DriverValue) (r : inboxes.Refines side d.inbox log stage uncollected) (o : is_open log ≡ true) where
   same-side : d.inbox.transport.side ≡ side
   same-side = ap (λ (t : TransportState). t.side) r.transport.state
 
   unis-are : peer_unis_now d.inbox.transport ≡ (transport_view side log).unis
-  unis-are = refined_peer_unis side d.inbox.transport log r.position untaken r.transport ∙ peer-unis-are side d.inbox log stage untaken r o
+  unis-are = refined_peer_unis side d.inbox.transport log r.position uncollected r.transport ∙ peer-unis-are side d.inbox log stage uncollected r o
 
   bis-are : peer_bis_now d.inbox.transport ≡ (transport_view side log).bis
-  bis-are = refined_peer_bis side d.inbox.transport log r.position untaken r.transport ∙ peer-bis-are side d.inbox log stage untaken r o
+  bis-are = refined_peer_bis side d.inbox.transport log r.position uncollected r.transport ∙ peer-bis-are side d.inbox log stage uncollected r o
 
   pub uni-arrives : with_state d (record d.state { unis = d.state.unis ++ new_slot (4 * peer_unis_now d.inbox.transport + peer_uni d.inbox.transport.side) ∷ [] }) ≡ after_arrival (transport_view side log) (Some PeerUni) d
   uni-arrives = λ i. with_state d (record d.state { unis = d.state.unis ++ new_slot (4 * unis-are i + peer_uni (same-side i)) ∷ [] })
@@ -296,24 +296,24 @@ module _ (side : Side) (log : Log) (stage : ℕ → Stage) (untaken : List Actio
 -- ---- a turn by its kind
 
 -- a piece is its bytes
-pub piece-follows : (side : Side) (log : Log) (taken : ℕ) (d : DriverValue) → Follows side d log taken → (turn : Turn) (id : ℕ) (piece : List ℕ) (new : DriverValue) (r : Result (Unit {0}) OutOfMemory) → turn ≡ turns.Bytes id piece
-    → IsTrue (fits_now d.inbox.transport turn) → (fits side log (turns.Bytes id piece) ≡ true → OnOk r (Follows side new (receive side log id piece) taken)) → OnOk r (Follows side new (log_after side log turn) taken)
-piece-follows side log taken d f turn id piece new r is may flushed =
-    subst (λ (t : Turn). OnOk r (Follows side new (log_after side log t) taken)) (sym is)
+pub piece-follows : (side : Side) (log : Log) (collected : ℕ) (d : DriverValue) → Follows side d log collected → (turn : Turn) (id : ℕ) (piece : List ℕ) (new : DriverValue) (r : Result (Unit {0}) OutOfMemory) → turn ≡ turns.Bytes id piece
+    → IsTrue (fits_now d.inbox.transport turn) → (fits side log (turns.Bytes id piece) ≡ true → OnOk r (Follows side new (receive side log id piece) collected)) → OnOk r (Follows side new (log_after side log turn) collected)
+piece-follows side log collected d f turn id piece new r is may flushed =
+    subst (λ (t : Turn). OnOk r (Follows side new (log_after side log t) collected)) (sym is)
     (flushed
     (ap (fits side log) (sym is)
-    ∙ sym (refined_fits side d.inbox.transport log f.refines.inbox.position (untaken_since taken log) f.refines.inbox.transport turn)
+    ∙ sym (refined_fits side d.inbox.transport log f.refines.inbox.position (uncollected_since collected log) f.refines.inbox.transport turn)
     ∙ may))
 
 -- any other turn but a call is an event
-pub turn-follows : (side : Side) (log : Log) (taken : ℕ) (d : DriverValue) (turn : Turn) (new : DriverValue) (r : Result (Unit {0}) OutOfMemory) → is_call turn ≡ false
-    → ((id : ℕ) (piece : List ℕ) → turn ≡ turns.Bytes id piece → ⊥) → ((e : Event) → event_of turn ≡ Some e → OnOk r (Follows side new (log_after side log turn) taken)) → OnOk r (Follows side new (log_after side log turn) taken)
-turn-follows side log taken d turn new r no-call no-bytes flushed = by (event_of turn) refl
+pub turn-follows : (side : Side) (log : Log) (collected : ℕ) (d : DriverValue) (turn : Turn) (new : DriverValue) (r : Result (Unit {0}) OutOfMemory) → is_call turn ≡ false
+    → ((id : ℕ) (piece : List ℕ) → turn ≡ turns.Bytes id piece → ⊥) → ((e : Event) → event_of turn ≡ Some e → OnOk r (Follows side new (log_after side log turn) collected)) → OnOk r (Follows side new (log_after side log turn) collected)
+turn-follows side log collected d turn new r no-call no-bytes flushed = by (event_of turn) refl
   where
     none : (t : Turn) → is_call t ≡ false → ((id : ℕ) (piece : List ℕ) → t ≡ turns.Bytes id piece → ⊥) → event_of t ≡ None → ⊥
     none (turns.Bytes id piece) a b e = b id piece refl
     none _ a b e = cc
 
-    by : (x : Option Event) → event_of turn ≡ x → OnOk r (Follows side new (log_after side log turn) taken)
+    by : (x : Option Event) → event_of turn ≡ x → OnOk r (Follows side new (log_after side log turn) collected)
     by (Some e) is = flushed e is
     by None is = absurd (none turn no-call no-bytes is)

@@ -12,7 +12,7 @@ use Rattle.wt_driver_spec.specs.Asking.{SendFacts}
 use Rattle.wt_driver_state.specs.Moving.{CanGiveUp, HasDatagram, MayScan, Moves}
 use Rattle.wt_driver_state.specs.PeerSettings.{settings_scanned}
 use Rattle.wt_driver_state.specs.Stages.{scanned_stages}
-use Rattle.wt_driver_state.specs.Tie.{Follows, Refines, TakenIn, untaken_since}
+use Rattle.wt_driver_state.specs.Tie.{Follows, Refines, TakenIn, uncollected_since}
 use Rattle.wt_driver_spec.specs.Asking.{SendsWhileOpen}
 use Rattle.wt_driver_spec.proofs.Following.{entry-followed, scanned-out, sound}
 use Rattle.wt_driver_spec.proofs.RestMoments.{flushed-state, moment-rests-open, open-says, still-open}
@@ -32,29 +32,29 @@ use Rattle.wt_turn.specs.Log.{Entry, Log, Sent, actions_of, calls_of, is_open, w
 use Rattle.wt_turn.specs.declared.action.Action.{Action}
 use Rattle.wt_wire.specs.declared.side.Side.{Side}
 
--- ---- what wasn't taken yet
+-- ---- what wasn't collected yet
 
-less-more : (n taken : ℕ) → taken ≤ n → suc n - taken ≡ suc (n - taken)
-less-more n taken le = omega arith
+less-more : (n collected : ℕ) → collected ≤ n → suc n - collected ≡ suc (n - collected)
+less-more n collected le = omega arith
 
-one-longer : (taken n : ℕ) → taken ≤ n → taken ≤ suc n
-one-longer taken n le = omega arith
+one-longer : (collected n : ℕ) → collected ≤ n → collected ≤ suc n
+one-longer collected n le = omega arith
 
-pub untaken-sent : (taken : ℕ) (a : Action) (log : Log) → taken ≤ length (actions_of log) → untaken_since taken (Sent a ∷ log) ≡ a ∷ untaken_since taken log
-untaken-sent taken a log le = ap (λ (i : ℕ). take i (a ∷ actions_of log)) (less-more (length (actions_of log)) taken le)
+pub uncollected-sent : (collected : ℕ) (a : Action) (log : Log) → collected ≤ length (actions_of log) → uncollected_since collected (Sent a ∷ log) ≡ a ∷ uncollected_since collected log
+uncollected-sent collected a log le = ap (λ (i : ℕ). take i (a ∷ actions_of log)) (less-more (length (actions_of log)) collected le)
 
-pub within-sent : (taken : ℕ) (a : Action) (log : Log) → taken ≤ length (actions_of log) → taken ≤ length (actions_of (Sent a ∷ log))
-within-sent taken a log le = one-longer taken (length (actions_of log)) le
+pub within-sent : (collected : ℕ) (a : Action) (log : Log) → collected ≤ length (actions_of log) → collected ≤ length (actions_of (Sent a ∷ log))
+within-sent collected a log le = one-longer collected (length (actions_of log)) le
 
-pub within-with : (taken : ℕ) (acts : List Action) (log : Log) → taken ≤ length (actions_of log) → taken ≤ length (actions_of (with_actions acts log))
-within-with taken [] log le = le
-within-with taken (a ∷ later) log le = within-with taken later (Sent a ∷ log) (within-sent taken a log le)
+pub within-with : (collected : ℕ) (acts : List Action) (log : Log) → collected ≤ length (actions_of log) → collected ≤ length (actions_of (with_actions acts log))
+within-with collected [] log le = le
+within-with collected (a ∷ later) log le = within-with collected later (Sent a ∷ log) (within-sent collected a log le)
 
 -- all that goes out after it wasn't
-pub untaken-with : (taken : ℕ) (acts : List Action) (log : Log) → taken ≤ length (actions_of log) → untaken_since taken (with_actions acts log) ≡ newest_first acts (untaken_since taken log)
-untaken-with taken [] log le = refl
-untaken-with taken (a ∷ later) log le =
-    untaken-with taken later (Sent a ∷ log) (within-sent taken a log le) ∙ ap (newest_first later) (untaken-sent taken a log le)
+pub uncollected-with : (collected : ℕ) (acts : List Action) (log : Log) → collected ≤ length (actions_of log) → uncollected_since collected (with_actions acts log) ≡ newest_first acts (uncollected_since collected log)
+uncollected-with collected [] log le = refl
+uncollected-with collected (a ∷ later) log le =
+    uncollected-with collected later (Sent a ∷ log) (within-sent collected a log le) ∙ ap (newest_first later) (uncollected-sent collected a log le)
 
 -- ---- the driver may go on sending
 
@@ -123,7 +123,7 @@ sends-flush side log m at_moment sends o = by (still-open side log m at_moment o
 
 -- ---- the work
 
-module _ (side : Side) (log : Log) (m : Entry) (taken : ℕ) (d : DriverValue) (in_ : TakenIn side log m d taken) where
+module _ (side : Side) (log : Log) (m : Entry) (collected : ℕ) (d : DriverValue) (in_ : TakenIn side log m d collected) where
   abbrev u : TransportView
   u = transport_view side (m ∷ log)
 
@@ -134,11 +134,11 @@ module _ (side : Side) (log : Log) (m : Entry) (taken : ℕ) (d : DriverValue) (
   counts b o = (λ i. in_.at_moment i && o i)
 
   -- nothing is done once the connection is closed
-  pub idle-follows : is_open (m ∷ log) ≡ false → Follows side d (log_and_flush side log m) taken
+  pub idle-follows : is_open (m ∷ log) ≡ false → Follows side d (log_and_flush side log m) collected
   unfolding flush
   idle-follows o =
       let idle = counts false o in
-      let refined = idle-refines side log m in_.stage in_.may in_.can in_.fits in_.uses in_.fit d in_.state_is in_.queue_is (untaken_since taken (m ∷ log)) idle in_.inbox in_.settings in
+      let refined = idle-refines side log m in_.stage in_.may in_.can in_.fits in_.uses in_.fit d in_.state_is in_.queue_is (uncollected_since collected (m ∷ log)) idle in_.inbox in_.settings in
       record {
         refines = rw idle (rw idle at refined);
         within = rw idle in_.within;
@@ -156,7 +156,7 @@ module _ (side : Side) (log : Log) (m : Entry) (taken : ℕ) (d : DriverValue) (
     pub scan-receives : CanGiveUp side (m ∷ log) d.state
     scan-receives = subst (λ (s : DriverState). CanGiveUp side (m ∷ log) s) (sym in_.state_is) (entry-receives side log m in_.may in_.fits)
 
-    module _ (scanned : DriverValue) (moved : Moves side (m ∷ log) (untaken_since taken (m ∷ log)) d scanned (scanned_stages u d.state in_.stage) (scan_state u d.state) (settings_scanned u d.state d.settings)) where
+    module _ (scanned : DriverValue) (moved : Moves side (m ∷ log) (uncollected_since collected (m ∷ log)) d scanned (scanned_stages u d.state in_.stage) (scan_state u d.state) (settings_scanned u d.state d.settings)) where
       -- the scan led to the state of the log with the entry
       pub scanned-state : scanned.state ≡ state_of side (m ∷ log)
       scanned-state =
@@ -174,16 +174,16 @@ module _ (side : Side) (log : Log) (m : Entry) (taken : ℕ) (d : DriverValue) (
       flush-may = subst (λ (s : DriverState). MayFlush side (m ∷ log) s.session s.progress) (sym scanned-state) (may_flush side log m in_.rests in_.at_moment o (in_.sends o))
 
       -- then all of it went out
-      pub work-follows : (last : DriverValue) → Flushes side (m ∷ log) (scanned_stages u d.state in_.stage) (untaken_since taken (m ∷ log)) (actions_after u (control_sent side (m ∷ log)) scanned.state.session scanned.state.progress) last.inbox last.state.control_sent
+      pub work-follows : (last : DriverValue) → Flushes side (m ∷ log) (scanned_stages u d.state in_.stage) (uncollected_since collected (m ∷ log)) (actions_after u (control_sent side (m ∷ log)) scanned.state.session scanned.state.progress) last.inbox last.state.control_sent
           → last.state ≡ record scanned.state { control_sent = last.state.control_sent; is_open = last.state.is_open } → last.queue ≡ scanned.queue → last.settings ≡ scanned.settings → last.state.is_open ≡ last.inbox.transport.is_open
-          → Follows side last (log_and_flush side log m) taken
+          → Follows side last (log_and_flush side log m) collected
       unfolding flush
       work-follows last f rest queue settings opens =
           let at_moment = counts true o in
           let out : actions_after u (control_sent side (m ∷ log)) scanned.state.session scanned.state.progress ≡ step_actions u scanned.state =
           ap (λ (s : ControlSent). actions_after u s scanned.state.session scanned.state.progress) flush-control in
-          let inbox = subst (λ (xs : List Action). inboxes.Refines side last.inbox (with_actions xs (m ∷ log)) (scanned_stages u d.state in_.stage) (newest_first xs (untaken_since taken (m ∷ log)))) out f.inbox in
-          let late : List Action = newest_first (step_actions u scanned.state) (untaken_since taken (m ∷ log)) in
+          let inbox = subst (λ (xs : List Action). inboxes.Refines side last.inbox (with_actions xs (m ∷ log)) (scanned_stages u d.state in_.stage) (newest_first xs (uncollected_since collected (m ∷ log)))) out f.inbox in
+          let late : List Action = newest_first (step_actions u scanned.state) (uncollected_since collected (m ∷ log)) in
           let pending : step_actions u scanned.state ≡ acts = ap (step_actions u) scanned-state ∙ sym (scanned-out side (m ∷ log)) in
           let whole : is_open (with_actions (step_actions u scanned.state) (m ∷ log)) ≡ (state_after_flush u scanned.state).is_open =
           ap (λ (xs : List Action). is_open (with_actions xs (m ∷ log))) pending
@@ -192,10 +192,10 @@ module _ (side : Side) (log : Log) (m : Entry) (taken : ℕ) (d : DriverValue) (
           let open_is : last.state.is_open ≡ (state_after_flush u scanned.state).is_open = opens ∙ ap (λ (t : TransportState). t.is_open) inbox.transport.state ∙ whole in
           let own : last.state.control_sent ≡ (state_after_flush u scanned.state).control_sent = f.control_is ∙ ap (control_flushed u.may_open u.credit) flush-control in
           let state : last.state ≡ state_after_flush u scanned.state = rest ∙ (λ i. record scanned.state { control_sent = own i; is_open = open_is i }) in
-          let refined = work-refines side log m in_.stage in_.may in_.can in_.fits in_.uses in_.fit d in_.state_is in_.queue_is scanned last (untaken_since taken (m ∷ log)) late at_moment moved inbox state queue settings in_.settings in
+          let refined = work-refines side log m in_.stage in_.may in_.can in_.fits in_.uses in_.fit d in_.state_is in_.queue_is scanned last (uncollected_since collected (m ∷ log)) late at_moment moved inbox state queue settings in_.settings in
           record {
-            refines = subst (Refines side last (log_and_flush side log m)) (ap (λ (xs : List Action). newest_first xs (untaken_since taken (m ∷ log))) pending ∙ sym (rw at_moment (untaken-with taken acts (m ∷ log) in_.within))) refined;
-            within = rw at_moment (within-with taken acts (m ∷ log) in_.within);
+            refines = subst (Refines side last (log_and_flush side log m)) (ap (λ (xs : List Action). newest_first xs (uncollected_since collected (m ∷ log))) pending ∙ sym (rw at_moment (uncollected-with collected acts (m ∷ log) in_.within))) refined;
+            within = rw at_moment (within-with collected acts (m ∷ log) in_.within);
             rests = moment-rests-open side log m in_.may in_.fits in_.at_moment;
             sends = sends-flush side log m in_.at_moment in_.sends;
           }

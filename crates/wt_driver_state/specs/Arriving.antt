@@ -1,4 +1,4 @@
--- What a turn of the transport brings, and what a driver is once it took it in.
+-- What a turn of the transport adds, and what a driver is once it took it in.
 use Rattle.std.specs.Prelude.{◌≡◌, None, Option, Some, false, true, ℕ}
 use Rattle.wt_driver_state.specs.DriverValue.{DriverValue}
 use Rattle.wt_driver_state.specs.Tie.{Follows, TakenIn}
@@ -9,13 +9,13 @@ use Rattle.wt_spec.specs.StreamTable.{TransportView}
 use Rattle.wt_turn.specs.Log.{Event, Log, Reported, ReportedLate, is_open}
 use Rattle.wt_wire.specs.declared.side.Side.{Side}
 
--- a driver that noted what an event brings: a stream's slot, a datagram
+-- a driver that noted what an event adds: a stream's slot, a datagram
 abbrev pub after_arrival : TransportView → Option Event → DriverValue → DriverValue
 after_arrival t None d = d
 after_arrival t (Some e) d = record d { state = with_arrival t e d.state; queue = with_datagram e d.queue }
 
 -- A driver took in an event: its moment's work is to be done, or it came after the end, and that is all.
-pub record EventTaken (side : Side) (log : Log) (e : Event) (d : DriverValue) (taken : ℕ) : Type 0 where
-  pub count_is : is_open log ≡ true → TakenIn side log (Reported e) d taken
-  pub late : is_open log ≡ false → Follows side d (log_and_flush side log (ReportedLate e)) taken
+pub record EventTaken (side : Side) (log : Log) (e : Event) (d : DriverValue) (collected : ℕ) : Type 0 where
+  pub count_is : is_open log ≡ true → TakenIn side log (Reported e) d collected
+  pub late : is_open log ≡ false → Follows side d (log_and_flush side log (ReportedLate e)) collected
   pub ended : is_open log ≡ false → d.state.is_open ≡ false

@@ -5,7 +5,7 @@ use Rattle.wt_driver_spec.specs.DriverState.{DriverState, Slot}
 use Rattle.wt_inbox.specs.State.{InboxState}
 use Rattle.wt_message.specs.declared.settings.Settings.{Settings}
 
--- the inbox, what is kept of the log, the datagrams that came and aren't settled, and the peer's SETTINGS
+-- the inbox, what is kept of the log, the datagrams that came and aren't released, and the peer's SETTINGS
 pub record DriverValue : Type 0 where
   pub inbox : InboxState
   pub state : DriverState

@@ -16,8 +16,8 @@ use Rattle.wt_turn.specs.declared.action.Action.{Action}
 use Rattle.wt_wire.specs.declared.side.Side.{Side}
 
 -- A step led to this state, with the streams at these stages, and keeps these SETTINGS. The datagrams that wait stay.
-pub record Moves (side : Side) (log : Log) (untaken : List Action) (old new : DriverValue) (stage : ℕ → Stage) (state : DriverState) (settings : Option Settings) : Type 0 where
-  pub inbox : Refines side new.inbox log stage untaken
+pub record Moves (side : Side) (log : Log) (uncollected : List Action) (old new : DriverValue) (stage : ℕ → Stage) (state : DriverState) (settings : Option Settings) : Type 0 where
+  pub inbox : Refines side new.inbox log stage uncollected
   pub state_is : new.state ≡ state
   pub queue : new.queue ≡ old.queue
   pub settings_are : new.settings ≡ settings

@@ -26,7 +26,7 @@ payload_in (Some d) = Some d.1
 abbrev pub payload_by : Poll (Result (List ℕ) DriverError) → Option (List ℕ)
 payload_by p = payload_in (read_datagram (given_by p))
 
--- the datagram that is dequeued and not settled, by what a driver keeps: its quarter id and its payload
+-- the datagram that is dequeued and not released, by what a driver keeps: its quarter id and its payload
 abbrev pub next_datagram_now : DriverValue → Option (ℕ × List ℕ)
 next_datagram_now d = if nat_lt d.state.datagrams d.state.progress.datagrams then read_datagram (front_of d.queue) else None
 

@@ -26,7 +26,7 @@ may_register log = is_open log && not (is_some (established_session (calls_of lo
 
 -- the log once the session is registered, where it can be
 abbrev pub log_once_registered : Side → Log → ℕ → ℕ → Log
-log_once_registered side log id at = if may_register log then log_and_flush side log (Called (SessionEstablished id at)) else log
+log_once_registered side log id offset = if may_register log then log_and_flush side log (Called (SessionEstablished id offset)) else log
 
 -- what registering a session answers: the result of the connection, where there is one
 abbrev pub registered_answer : Option DriverError → Result (Unit {0}) DriverError

@@ -51,12 +51,12 @@ call_use side log k = record (use_of k (calls_of log)) { is_dropped = is_let_go 
 
 -- a stream is read up to this offset; nothing of one that a call let go is kept
 abbrev pub ReadUpTo : Bool → ℕ → Stage → Type 0
-ReadUpTo false at stage = body_offset stage ≡ Some at
-ReadUpTo true at stage = stage ≡ GivenUp
+ReadUpTo false offset stage = body_offset stage ≡ Some offset
+ReadUpTo true offset stage = stage ≡ GivenUp
 
 -- the application's part of a stream begins at this offset, and is read as far as the calls read it, until a call lets it go
 abbrev pub BodySays : CallUse → ℕ → Stage → Type 0
-BodySays done at stage = ReadUpTo done.is_dropped (at + done.read) stage
+BodySays done offset stage = ReadUpTo done.is_dropped (offset + done.read) stage
 
 -- the response is to be read, then the session's part; nothing once the handshake failed
 abbrev pub ResponseSays : Option (ℕ × ℕ) → Bool → Option Ending → Stage → Type 0
@@ -66,8 +66,8 @@ ResponseSays None false ending stage = awaits_response stage ≡ true
 
 -- the session's part may be read after a request; nothing of a surplus one is kept
 abbrev pub RequestSays : Bool → ℕ → Option Ending → Stage → Type 0
-RequestSays false at ending stage = ending ≡ None → session_offset stage ≡ Some at
-RequestSays true at ending stage = stage ≡ GivenUp
+RequestSays false offset ending stage = ending ≡ None → session_offset stage ≡ Some offset
+RequestSays true offset ending stage = stage ≡ GivenUp
 
 -- of a stream that isn't classified: no call did anything to one of the peer's
 abbrev pub FirstSays : StreamRole → CallUse → Option Ending → Stage → Type 0
@@ -79,13 +79,13 @@ FirstSays OfLocalUni done ending stage = Unit {0}
 
 -- of a stream that is classified with this verdict: nothing of one that is dropped or refused is kept, nor of a QPACK stream
 abbrev pub ClassifiedSays : Bool → Verdict → CallUse → Option Ending → Stage → Type 0
-ClassifiedSays surplus (verdicts.Control at) done ending stage = control_offset stage ≡ Some at
-ClassifiedSays surplus (verdicts.Request request at) done ending stage = RequestSays surplus at ending stage
-ClassifiedSays surplus (verdicts.WebTransport session at) done ending stage = BodySays done at stage
+ClassifiedSays surplus (verdicts.Control offset) done ending stage = control_offset stage ≡ Some offset
+ClassifiedSays surplus (verdicts.Request request offset) done ending stage = RequestSays surplus offset ending stage
+ClassifiedSays surplus (verdicts.WebTransport session offset) done ending stage = BodySays done offset stage
 ClassifiedSays surplus verdicts.Dropped done ending stage = stage ≡ GivenUp
 ClassifiedSays surplus (verdicts.Refused code) done ending stage = stage ≡ GivenUp
-ClassifiedSays surplus (verdicts.Encoder at) done ending stage = stage ≡ GivenUp
-ClassifiedSays surplus (verdicts.Decoder at) done ending stage = stage ≡ GivenUp
+ClassifiedSays surplus (verdicts.Encoder offset) done ending stage = stage ≡ GivenUp
+ClassifiedSays surplus (verdicts.Decoder offset) done ending stage = stage ≡ GivenUp
 ClassifiedSays surplus _ done ending stage = Unit {0}
 
 -- nothing is kept of a stream that is classified so: dropped, refused, of QPACK, or a surplus request
@@ -119,8 +119,8 @@ offset_plus count (Some offset) = Some (offset + count)
 
 -- the stages once a session is established: a client reads on after the response
 abbrev pub established_stages : Side → ℕ → ℕ → (ℕ → Stage) → ℕ → Stage
-established_stages Client id at stage = with_stage stage id (Body at)
-established_stages Server id at stage = stage
+established_stages Client id offset stage = with_stage stage id (Body offset)
+established_stages Server id offset stage = stage
 
 -- the stage of a stream of which so many bytes more are read: one that is given up stays so
 abbrev pub read_stage : ℕ → Stage → Stage
@@ -132,7 +132,7 @@ abbrev pub called_stages : Side → Log → CallRecord → (ℕ → Stage) → �
 called_stages side log (BytesRead id count) stage = with_stage stage id (read_stage count (stage id))
 called_stages side log (StreamGivenUp id) stage = with_stage stage id (unless_given_up (is_there side log id) (stage id))
 called_stages side log (StreamPassed id) stage = with_stage stage id GivenUp
-called_stages side log (SessionEstablished id at) stage = established_stages side id at stage
+called_stages side log (SessionEstablished id offset) stage = established_stages side id offset stage
 called_stages side log _ stage = stage
 
 -- the stages after an entry, by the log before it: only a call changes them
@@ -147,8 +147,8 @@ unless_ended_stage (Some e) to stage = stage
 
 -- the walk over a session's stream goes on, unless it is over
 abbrev pub session_stage : Bool → ℕ → Stage
-session_stage true at = Anywhere
-session_stage false at = SessionBody at
+session_stage true offset = Anywhere
+session_stage false offset = SessionBody offset
 
 -- the walk over the session's stream is over
 abbrev pub is_session_over : TransportView → ℕ × ℕ → Bool
@@ -166,7 +166,7 @@ control_stages (Some c) stage = with_stage stage c.0 (ControlBody c.1)
 
 -- what is known after the check of the datagrams
 abbrev pub datagram_checked : TransportView → ℕ → DriverProgress → DriverProgress
-datagram_checked t settled_count p = unless_ended p.ending (λ q. check_datagram (t.ready && settled_count == q.datagrams) t q) p
+datagram_checked t released_count p = unless_ended p.ending (λ q. check_datagram (t.ready && released_count == q.datagrams) t q) p
 
 -- then of the session, and of this end's control stream
 abbrev pub session_checked : TransportView → Option (ℕ × ℕ) → DriverProgress → DriverProgress
@@ -196,6 +196,6 @@ scanned_stages t s stage =
     let unis = scan_uni_slots t (begin_scan s) in
     check_stages t (scan_bi_slots t unis) (bi_stages t unis (uni_stages t (begin_scan s) stage))
 
--- the stages after an entry and its moment, by the log before it, and by what the transport told before it and up to it
+-- the stages after an entry and its moment, by the log before it, and by what the transport reported before it and up to it
 abbrev pub moment_stages : Log → TransportView → TransportView → Entry → DriverState → (ℕ → Stage) → ℕ → Stage
 moment_stages log t u e s stage = apply_if (scans e (after_entry t e s)) (scanned_stages u (after_entry t e s)) (entry_stages t.side log e stage)

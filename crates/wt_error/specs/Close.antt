@@ -1,4 +1,4 @@
--- How a close of the peer is told and shown (RFC 9000, section 10.2).
+-- How a close of the peer is reported and shown (RFC 9000, section 10.2).
 use Rattle.std.specs.Prelude.{ℕ, List, [], ◌∷◌, ◌++◌, codes, encode_utf8_all}
 use Rattle.std.specs.Fmt.{decimal}
 use Rattle.bstr.specs.Utf8.{lossy_chars}

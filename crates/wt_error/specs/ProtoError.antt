@@ -1,4 +1,4 @@
--- What a lost connection is told as.
+-- What a lost connection is reported as.
 use Rattle.std.specs.Prelude.{ℕ, ◌^◌, List, codes, Option, Some, None, nat_lt, if◌then◌else◌}
 use Rattle.wt_error.specs.declared.loss.LossReason.{LossReason}
 use Rattle.wt_error.specs.declared.loss.LossReason.TheVariants as losses

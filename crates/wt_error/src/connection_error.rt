@@ -237,7 +237,7 @@ impl ConnectionError {
     }
 }
 
-/// A connection that is lost is told by this error from then on. No memory is taken.
+/// A connection that is lost is reported by this error from then on. No memory is taken.
 impl From<LossReason> for ConnectionError {
     ghost use Rattle.wt_error.specs.ProtoError.{error_of_loss};
 

@@ -26,7 +26,7 @@ use Rattle.wt_seam_spec.specs.Reports.{stop_of}
 use Rattle.wt_seam_spec.specs.Streams.{can_receive, can_send, exists, local_count, local_uni, one_more_if, peer_bi, peer_count, peer_opens, peer_uni}
 use Rattle.wt_spec.specs.Driver.{apply_if, call_view, close_actions, control_actions, control_sent, established_session, is_moment, reset_if, session_id, stream_table, transport_view}
 use Rattle.wt_spec.specs.Scan.{Scan, SlotRule, bi_ids, bi_rule, check_control, check_datagram, check_qpack, check_session, checks, classify, critical_if, dequeued_datagram, parsed_datagram, session_ends, with_consequence, with_dequeued, with_fault, dequeue, has, in_order, stop_list, scan, scan_bis, scan_order, scan_unis, stream_ids, uni_ids, uni_rule, unless_ended, visit, without_stops}
-use Rattle.wt_spec.specs.StreamTable.{ByFault, BySession, CallView, Classified, Dispatched, Ending, DriverProgress, Stopped, StreamTable, TransportView, bi_consequence, dispatched_streams, only_once, queued_behind, uni_consequence, verdict_of}
+use Rattle.wt_spec.specs.StreamTable.{ByFault, BySession, CallView, Classified, Dispatched, Ending, DriverProgress, Stopped, StreamTable, TransportView, bi_consequence, dispatched_streams, only_once, queued_after, uni_consequence, verdict_of}
 use Rattle.wt_turn.specs.Log.{Called, Entry, Log, Received, Reported, ReportedLate, Sent, Stop, ends_by, actions_of, all_events_of, calls_of, events_of, is_open}
 use Rattle.wt_turn.specs.declared.action.Action.{Action}
 use Rattle.wt_wire.specs.declared.side.Side.{Side}
@@ -149,16 +149,16 @@ once-stops None = refl
 once-stops (Some s) = refl
 
 uni-stops : (d : Dispatched) (k : ℕ) (v : Verdict) → (uni_consequence d k v).stop ≡ None
-uni-stops d k (verdicts.Control at) = once-stops d.control
-uni-stops d k (verdicts.Encoder at) = once-stops d.encoder
-uni-stops d k (verdicts.Decoder at) = once-stops d.decoder
+uni-stops d k (verdicts.Control offset) = once-stops d.control
+uni-stops d k (verdicts.Encoder offset) = once-stops d.encoder
+uni-stops d k (verdicts.Decoder offset) = once-stops d.decoder
 uni-stops d k _ = refl
 
 bi-itself : (side : Side) (log : Log) (d : Dispatched) (k : ℕ) (v : Verdict) → can_receive side log k ≡ true → CanStop side log (stop_list (bi_consequence d k v).stop)
 bi-itself side log d k (verdicts.Refused code) r = (r, tt)
-bi-itself side log d k (verdicts.Request headers at) r = by d.requests
+bi-itself side log d k (verdicts.Request headers offset) r = by d.requests
   where
-    by : (cs : List Classified) → CanStop side log (stop_list (queued_behind cs k).stop)
+    by : (cs : List Classified) → CanStop side log (stop_list (queued_after cs k).stop)
     by [] = tt
     by (c ∷ cs) = (r, tt)
 bi-itself side log d k _ r = tt

@@ -5,7 +5,7 @@ use Rattle.std.proofs.lemmas.Bool.{lt-ltb, ltb-true, and_parts}
 use Rattle.std.proofs.lemmas.List.{drop_more, drop_all}
 use Rattle.wt_flush.specs.Flushing.{CanReset, CanStop, ControlRuns, OpensControl, Sends, SendsControl}
 use Rattle.wt_seam_spec.specs.Acting.{local_kind}
-use Rattle.wt_driver_spec.proofs.ControlStream.{control-opens, control-sends, take-behind}
+use Rattle.wt_driver_spec.proofs.ControlStream.{control-opens, control-sends, take-after}
 use Rattle.wt_driver_spec.proofs.Following.{open-more}
 use Rattle.wt_inbox.specs.Stage.{Refines, Stage}
 use Rattle.wt_inbox.specs.State.{InboxState}
@@ -36,11 +36,11 @@ newest-both [] ys before = refl
 newest-both (x ∷ xs) ys before = newest-both xs ys (x ∷ before)
 
 -- these are sent after those
-pub then_sends : (side : Side) (log : Log) (stage : ℕ → Stage) (untaken : List Action) (xs ys : List Action) (x : InboxState)
-    → Refines side x (with_actions ys (with_actions xs log)) stage (newest_first ys (newest_first xs untaken)) → Refines side x (with_actions (xs ++ ys) log) stage (newest_first (xs ++ ys) untaken)
-then_sends side log stage untaken xs ys x r =
-    subst (λ (l : Log). Refines side x l stage (newest_first (xs ++ ys) untaken)) (sym (with-both xs ys log))
-    (subst (λ (u : List Action). Refines side x (with_actions ys (with_actions xs log)) stage u) (sym (newest-both xs ys untaken)) r)
+pub then_sends : (side : Side) (log : Log) (stage : ℕ → Stage) (uncollected : List Action) (xs ys : List Action) (x : InboxState)
+    → Refines side x (with_actions ys (with_actions xs log)) stage (newest_first ys (newest_first xs uncollected)) → Refines side x (with_actions (xs ++ ys) log) stage (newest_first (xs ++ ys) uncollected)
+then_sends side log stage uncollected xs ys x r =
+    subst (λ (l : Log). Refines side x l stage (newest_first (xs ++ ys) uncollected)) (sym (with-both xs ys log))
+    (subst (λ (u : List Action). Refines side x (with_actions ys (with_actions xs log)) stage u) (sym (newest-both xs ys uncollected)) r)
 
 -- ---- the connection stays open
 
@@ -120,13 +120,13 @@ reset-after side acts log session _ c = tt
 
 -- ---- where the connection is open
 
-pub open_puts : (side : Side) (log : Log) (stage : ℕ → Stage) (untaken : List Action) (a : Action) (x : InboxState) → is_open log ≡ true
-    → Refines side x (with_actions (if_open log a) log) stage (newest_first (if_open log a) untaken) → Refines side x (Sent a ∷ log) stage (a ∷ untaken)
-open_puts side log stage untaken a x o r = rw o at r
+pub open_puts : (side : Side) (log : Log) (stage : ℕ → Stage) (uncollected : List Action) (a : Action) (x : InboxState) → is_open log ≡ true
+    → Refines side x (with_actions (if_open log a) log) stage (newest_first (if_open log a) uncollected) → Refines side x (Sent a ∷ log) stage (a ∷ uncollected)
+open_puts side log stage uncollected a x o r = rw o at r
 
-pub reset_puts : (side : Side) (log : Log) (stage : ℕ → Stage) (untaken : List Action) (id code : ℕ) (x : InboxState) → is_open log ≡ true
-    → Refines side x (reset_entry log id code ∷ log) stage (newest_first (if_open log (actions.ResetOut id code)) untaken) → Refines side x (Sent (actions.ResetOut id code) ∷ log) stage (actions.ResetOut id code ∷ untaken)
-reset_puts side log stage untaken id code x o r = rw o at r
+pub reset_puts : (side : Side) (log : Log) (stage : ℕ → Stage) (uncollected : List Action) (id code : ℕ) (x : InboxState) → is_open log ≡ true
+    → Refines side x (reset_entry log id code ∷ log) stage (newest_first (if_open log (actions.ResetOut id code)) uncollected) → Refines side x (Sent (actions.ResetOut id code) ∷ log) stage (actions.ResetOut id code ∷ uncollected)
+reset_puts side log stage uncollected id code x o r = rw o at r
 
 -- what opening sends, where it answers this id
 pub opens-it : (side : Side) (log : Log) (kind id : ℕ) → opened_id side log kind ≡ Some id → actions_to_open side log kind ≡ actions.Opened id ∷ []
@@ -140,21 +140,21 @@ opens-it side log kind id e = by (may_open side log kind) (next_id side log kind
         opened_of (Some k) = actions.Opened k ∷ []
     by false n e = absurd cc
 
-pub open_opens : (side : Side) (log : Log) (stage : ℕ → Stage) (untaken : List Action) (kind id : ℕ) (x : InboxState) → opened_id side log kind ≡ Some id
-    → Refines side x (with_actions (actions_to_open side log kind) log) stage (newest_first (actions_to_open side log kind) untaken) → Refines side x (Sent (actions.Opened id) ∷ log) stage (actions.Opened id ∷ untaken)
-open_opens side log stage untaken kind id x e r = subst (λ (acts : List Action). Refines side x (with_actions acts log) stage (newest_first acts untaken)) (opens-it side log kind id e) r
+pub open_opens : (side : Side) (log : Log) (stage : ℕ → Stage) (uncollected : List Action) (kind id : ℕ) (x : InboxState) → opened_id side log kind ≡ Some id
+    → Refines side x (with_actions (actions_to_open side log kind) log) stage (newest_first (actions_to_open side log kind) uncollected) → Refines side x (Sent (actions.Opened id) ∷ log) stage (actions.Opened id ∷ uncollected)
+open_opens side log stage uncollected kind id x e r = subst (λ (acts : List Action). Refines side x (with_actions acts log) stage (newest_first acts uncollected)) (opens-it side log kind id e) r
 
-pub open_bi_opens : (side : Side) (log : Log) (stage : ℕ → Stage) (untaken : List Action) (id : ℕ) (x : InboxState) → is_bidirectional id ≡ true → opened_id side log (local_kind side id) ≡ Some id
-    → Refines side x (with_actions (actions_to_open side log (local_bi side)) log) stage (newest_first (actions_to_open side log (local_bi side)) untaken) → Refines side x (Sent (actions.Opened id) ∷ log) stage (actions.Opened id ∷ untaken)
-open_bi_opens side log stage untaken id x b e r = open_opens side log stage untaken (local_bi side) id x (sym (ap (λ (b : Bool). opened_id side log (if b then local_bi side else local_uni side)) b) ∙ e) r
+pub open_bi_opens : (side : Side) (log : Log) (stage : ℕ → Stage) (uncollected : List Action) (id : ℕ) (x : InboxState) → is_bidirectional id ≡ true → opened_id side log (local_kind side id) ≡ Some id
+    → Refines side x (with_actions (actions_to_open side log (local_bi side)) log) stage (newest_first (actions_to_open side log (local_bi side)) uncollected) → Refines side x (Sent (actions.Opened id) ∷ log) stage (actions.Opened id ∷ uncollected)
+open_bi_opens side log stage uncollected id x b e r = open_opens side log stage uncollected (local_bi side) id x (sym (ap (λ (b : Bool). opened_id side log (if b then local_bi side else local_uni side)) b) ∙ e) r
 
-pub open_uni_opens : (side : Side) (log : Log) (stage : ℕ → Stage) (untaken : List Action) (id : ℕ) (x : InboxState) → is_bidirectional id ≡ false → opened_id side log (local_kind side id) ≡ Some id
-    → Refines side x (with_actions (actions_to_open side log (local_uni side)) log) stage (newest_first (actions_to_open side log (local_uni side)) untaken) → Refines side x (Sent (actions.Opened id) ∷ log) stage (actions.Opened id ∷ untaken)
-open_uni_opens side log stage untaken id x b e r = open_opens side log stage untaken (local_uni side) id x (sym (ap (λ (b : Bool). opened_id side log (if b then local_bi side else local_uni side)) b) ∙ e) r
+pub open_uni_opens : (side : Side) (log : Log) (stage : ℕ → Stage) (uncollected : List Action) (id : ℕ) (x : InboxState) → is_bidirectional id ≡ false → opened_id side log (local_kind side id) ≡ Some id
+    → Refines side x (with_actions (actions_to_open side log (local_uni side)) log) stage (newest_first (actions_to_open side log (local_uni side)) uncollected) → Refines side x (Sent (actions.Opened id) ∷ log) stage (actions.Opened id ∷ uncollected)
+open_uni_opens side log stage uncollected id x b e r = open_opens side log stage uncollected (local_uni side) id x (sym (ap (λ (b : Bool). opened_id side log (if b then local_bi side else local_uni side)) b) ∙ e) r
 
-pub sent_acts : (side : Side) (log : Log) (stage : ℕ → Stage) (untaken : List Action) (acts others : List Action) (x : InboxState) → acts ≡ others
-    → Refines side x (with_actions acts log) stage (newest_first acts untaken) → Refines side x (with_actions others log) stage (newest_first others untaken)
-sent_acts side log stage untaken acts others x e r = subst (λ (acts : List Action). Refines side x (with_actions acts log) stage (newest_first acts untaken)) e r
+pub sent_acts : (side : Side) (log : Log) (stage : ℕ → Stage) (uncollected : List Action) (acts others : List Action) (x : InboxState) → acts ≡ others
+    → Refines side x (with_actions acts log) stage (newest_first acts uncollected) → Refines side x (with_actions others log) stage (newest_first others uncollected)
+sent_acts side log stage uncollected acts others x e r = subst (λ (acts : List Action). Refines side x (with_actions acts log) stage (newest_first acts uncollected)) e r
 
 -- ---- the end
 
@@ -162,60 +162,60 @@ reset-none : (b : Bool) (id : ℕ) → closes_none (reset_if b id) ≡ true
 reset-none true id = refl
 reset-none false id = refl
 
-module _ (side : Side) (log : Log) (stage : ℕ → Stage) (untaken : List Action) (session : Option (ℕ × ℕ)) (code : ℕ) (reason : List ℕ) (by_capsule : Bool) (e : Option Ending) (is : e ≡ Some (BySession code reason by_capsule)) where
+module _ (side : Side) (log : Log) (stage : ℕ → Stage) (uncollected : List Action) (session : Option (ℕ × ℕ)) (code : ℕ) (reason : List ℕ) (by_capsule : Bool) (e : Option Ending) (is : e ≡ Some (BySession code reason by_capsule)) where
   pub ending_resets : CanReset side log session e → by_capsule ≡ true → can_send side log (session_id session) ≡ true
   ending_resets c b = subst (λ (o : Option Ending). CanReset side log session o) (is ∙ ap (λ (b : Bool). Some (BySession code reason b)) b) c
 
   pub ending_open : is_open log ≡ true → is_open (with_actions (reset_if by_capsule (session_id session)) log) ≡ true
   ending_open o = stays-open (reset_if by_capsule (session_id session)) log (reset-none by_capsule (session_id session)) o
 
-  pub ending_sends : (x : InboxState) → Sends side (with_actions (reset_if by_capsule (session_id session)) log) stage (newest_first (reset_if by_capsule (session_id session)) untaken) (actions.Close (code_of h3.NoError) [] ∷ []) x
-      → Sends side log stage untaken (close_actions (session_id session) e) x
+  pub ending_sends : (x : InboxState) → Sends side (with_actions (reset_if by_capsule (session_id session)) log) stage (newest_first (reset_if by_capsule (session_id session)) uncollected) (actions.Close (code_of h3.NoError) [] ∷ []) x
+      → Sends side log stage uncollected (close_actions (session_id session) e) x
   ending_sends x r =
-      subst (λ (o : Option Ending). Sends side log stage untaken (close_actions (session_id session) o) x) (sym is)
-      (then_sends side log stage untaken (reset_if by_capsule (session_id session)) (actions.Close (code_of h3.NoError) [] ∷ []) x r)
+      subst (λ (o : Option Ending). Sends side log stage uncollected (close_actions (session_id session) o) x) (sym is)
+      (then_sends side log stage uncollected (reset_if by_capsule (session_id session)) (actions.Close (code_of h3.NoError) [] ∷ []) x r)
 
 -- ---- the stops, one after another
 
 -- so many streams were stopped
-pub record StopsSoFar (side : Side) (log : Log) (stage : ℕ → Stage) (untaken : List Action) (stops : List Stopped) (at : ℕ) (x : InboxState) : Type 0 where
+pub record StopsSoFar (side : Side) (log : Log) (stage : ℕ → Stage) (uncollected : List Action) (stops : List Stopped) (offset : ℕ) (x : InboxState) : Type 0 where
   pub log_now : Log
-  pub untaken_now : List Action
-  pub inbox : Refines side x log_now stage untaken_now
+  pub uncollected_now : List Action
+  pub inbox : Refines side x log_now stage uncollected_now
   pub open_now : is_open log_now ≡ true
-  pub left_log : with_actions (stop_actions (drop at stops)) log_now ≡ with_actions (stop_actions stops) log
-  pub left_untaken : newest_first (stop_actions (drop at stops)) untaken_now ≡ newest_first (stop_actions stops) untaken
-  pub can : CanStop side log_now (drop at stops)
+  pub left_log : with_actions (stop_actions (drop offset stops)) log_now ≡ with_actions (stop_actions stops) log
+  pub left_uncollected : newest_first (stop_actions (drop offset stops)) uncollected_now ≡ newest_first (stop_actions stops) uncollected
+  pub can : CanStop side log_now (drop offset stops)
 
-module _ (side : Side) (log : Log) (stage : ℕ → Stage) (untaken : List Action) (stops : List Stopped) where
-  pub stops_begin : (x : InboxState) → Refines side x log stage untaken → is_open log ≡ true → CanStop side log stops → StopsSoFar side log stage untaken stops 0 x
-  stops_begin x r o c = record { log_now = log; untaken_now = untaken; inbox = r; open_now = o; left_log = refl; left_untaken = refl; can = c }
+module _ (side : Side) (log : Log) (stage : ℕ → Stage) (uncollected : List Action) (stops : List Stopped) where
+  pub stops_begin : (x : InboxState) → Refines side x log stage uncollected → is_open log ≡ true → CanStop side log stops → StopsSoFar side log stage uncollected stops 0 x
+  stops_begin x r o c = record { log_now = log; uncollected_now = uncollected; inbox = r; open_now = o; left_log = refl; left_uncollected = refl; can = c }
 
-  module _ (at : ℕ) (x : InboxState) (s : StopsSoFar side log stage untaken stops at x) where
-    module _ (stop : Stopped) (lt : at < length stops) (is : stop ≡ get_or stops at stop) where
-      front : drop at stops ≡ stop ∷ drop (at + 1) stops
-      front = drop_more stops at stop lt ∙ ap (λ (x : Stopped). x ∷ drop (at + 1) stops) (sym is)
+  module _ (offset : ℕ) (x : InboxState) (s : StopsSoFar side log stage uncollected stops offset x) where
+    module _ (stop : Stopped) (lt : offset < length stops) (is : stop ≡ get_or stops offset stop) where
+      front : drop offset stops ≡ stop ∷ drop (offset + 1) stops
+      front = drop_more stops offset stop lt ∙ ap (λ (x : Stopped). x ∷ drop (offset + 1) stops) (sym is)
 
       pub front_stops : can_receive side s.log_now stop.id ≡ true
       front_stops = (rw front at s.can).0
 
-      pub stops_on : (y : InboxState) → Refines side y (Sent (actions.StopOut stop.id (code_of stop.code)) ∷ s.log_now) stage (actions.StopOut stop.id (code_of stop.code) ∷ s.untaken_now) → StopsSoFar side log stage untaken stops (at + 1) y
+      pub stops_on : (y : InboxState) → Refines side y (Sent (actions.StopOut stop.id (code_of stop.code)) ∷ s.log_now) stage (actions.StopOut stop.id (code_of stop.code) ∷ s.uncollected_now) → StopsSoFar side log stage uncollected stops (offset + 1) y
       stops_on y r = record {
         log_now = Sent (actions.StopOut stop.id (code_of stop.code)) ∷ s.log_now;
-        untaken_now = actions.StopOut stop.id (code_of stop.code) ∷ s.untaken_now;
+        uncollected_now = actions.StopOut stop.id (code_of stop.code) ∷ s.uncollected_now;
         inbox = r;
         open_now = open-more (Sent (actions.StopOut stop.id (code_of stop.code))) s.log_now ∙ s.open_now;
         left_log = sym (ap (λ (xs : List Stopped). with_actions (stop_actions xs) s.log_now) front) ∙ s.left_log;
-        left_untaken = sym (ap (λ (xs : List Stopped). newest_first (stop_actions xs) s.untaken_now) front) ∙ s.left_untaken;
-        can = stop-later side (actions.StopOut stop.id (code_of stop.code)) s.log_now (drop (at + 1) stops) (rw front at s.can).1;
+        left_uncollected = sym (ap (λ (xs : List Stopped). newest_first (stop_actions xs) s.uncollected_now) front) ∙ s.left_uncollected;
+        can = stop-later side (actions.StopOut stop.id (code_of stop.code)) s.log_now (drop (offset + 1) stops) (rw front at s.can).1;
       }
 
-    pub stops_end : length stops ≤ at → Sends side log stage untaken (stop_actions stops) x
+    pub stops_end : length stops ≤ offset → Sends side log stage uncollected (stop_actions stops) x
     stops_end le =
-        let none : drop at stops ≡ [] = drop_all at stops le in
+        let none : drop offset stops ≡ [] = drop_all offset stops le in
         let same_log : s.log_now ≡ with_actions (stop_actions stops) log = sym (ap (λ (xs : List Stopped). with_actions (stop_actions xs) s.log_now) none) ∙ s.left_log in
-        let same_untaken : s.untaken_now ≡ newest_first (stop_actions stops) untaken = sym (ap (λ (xs : List Stopped). newest_first (stop_actions xs) s.untaken_now) none) ∙ s.left_untaken in
-        subst (λ (l : Log). Refines side x l stage (newest_first (stop_actions stops) untaken)) same_log (subst (λ (u : List Action). Refines side x s.log_now stage u) same_untaken s.inbox)
+        let same_uncollected : s.uncollected_now ≡ newest_first (stop_actions stops) uncollected = sym (ap (λ (xs : List Stopped). newest_first (stop_actions xs) s.uncollected_now) none) ∙ s.left_uncollected in
+        subst (λ (l : Log). Refines side x l stage (newest_first (stop_actions stops) uncollected)) same_log (subst (λ (u : List Action). Refines side x s.log_now stage u) same_uncollected s.inbox)
 
 -- ---- this end's control stream
 
@@ -246,22 +246,22 @@ left_is side log e bytes =
     let c = credit (events_of log) (local_uni side) in
     let same : credit_left log (local_uni side) ≡ c - n = ap (λ (es : List Event). credit es (local_uni side) - n) e in
     let l = length-take (c - n) (drop n bytes) in
-    let m = ap (λ (xs : List ℕ). length xs) (take-behind n c bytes) in
+    let m = ap (λ (xs : List ℕ). length xs) (take-after n c bytes) in
     omega (arith, same, l, m)
 
-module _ (side : Side) (log : Log) (stage : ℕ → Stage) (untaken : List Action) where
-  same-events : (x : InboxState) → Refines side x log stage untaken → is_open log ≡ true → all_events_of log ≡ events_of log
+module _ (side : Side) (log : Log) (stage : ℕ → Stage) (uncollected : List Action) where
+  same-events : (x : InboxState) → Refines side x log stage uncollected → is_open log ≡ true → all_events_of log ≡ events_of log
   same-events x r o = sym (r.transport.facts.open_same o)
 
-  pub opens_first : (x y : InboxState) (b : Bool) → b ≡ false → Refines side x log stage untaken → is_open log ≡ true → (control_sent side log).opened ≡ b → (transport_view side log).may_open ≡ true
-      → Refines side y (with_actions (actions_to_open side log (local_uni side)) log) stage (newest_first (actions_to_open side log (local_uni side)) untaken) → OpensControl side log stage untaken (opened_if (not b) (local_uni side)) y true
+  pub opens_first : (x y : InboxState) (b : Bool) → b ≡ false → Refines side x log stage uncollected → is_open log ≡ true → (control_sent side log).opened ≡ b → (transport_view side log).may_open ≡ true
+      → Refines side y (with_actions (actions_to_open side log (local_uni side)) log) stage (newest_first (actions_to_open side log (local_uni side)) uncollected) → OpensControl side log stage uncollected (opened_if (not b) (local_uni side)) y true
   opens_first x y true e r o own may q = absurd cc
   opens_first x y false e r o own may q = record {
-    inbox = sent_acts side log stage untaken (actions_to_open side log (local_uni side)) (opened_if true (local_uni side)) y (control-opens side log (same-events x r o) o own may) q;
+    inbox = sent_acts side log stage uncollected (actions_to_open side log (local_uni side)) (opened_if true (local_uni side)) y (control-opens side log (same-events x r o) o own may) q;
     opened_is = refl;
   }
 
-  module _ (x : InboxState) (sent : ℕ) (r : Refines side x log stage untaken) (o : is_open log ≡ true) (own : control_sent side log ≡ record { opened = true; sent = sent }) (runs : ControlRuns side log) (may : (transport_view side log).may_open ≡ true) where
+  module _ (x : InboxState) (sent : ℕ) (r : Refines side x log stage uncollected) (o : is_open log ≡ true) (own : control_sent side log ≡ record { opened = true; sent = sent }) (runs : ControlRuns side log) (may : (transport_view side log).may_open ≡ true) where
     abbrev rest : List ℕ
     rest = drop sent (take (transport_view side log).credit local_control_bytes)
 
@@ -287,20 +287,20 @@ module _ (side : Side) (log : Log) (stage : ℕ → Stage) (untaken : List Actio
             true-false : true ≡ false → ⊥
             true-false e = cc
 
-    pub sends_nothing : may_send side log (local_uni side) ≡ false → SendsControl side log stage untaken (send_of (local_uni side) rest) x sent (sent + length rest)
+    pub sends_nothing : may_send side log (local_uni side) ≡ false → SendsControl side log stage uncollected (send_of (local_uni side) rest) x sent (sent + length rest)
     sends_nothing e =
         let none = nothing-left e in
         record {
-          inbox = subst (λ (xs : List ℕ). Refines side x (with_actions (send_of (local_uni side) xs) log) stage (newest_first (send_of (local_uni side) xs) untaken)) (sym none) r;
+          inbox = subst (λ (xs : List ℕ). Refines side x (with_actions (send_of (local_uni side) xs) log) stage (newest_first (send_of (local_uni side) xs) uncollected)) (sym none) r;
           sent_is = sym (ap (λ (xs : List ℕ). sent + length xs) none ∙ add-zero sent);
         }
 
     pub sends_rest : (y : InboxState) (count sum : ℕ) → count ≡ min (length (drop sent local_control_bytes)) (credit_left log (local_uni side)) → sum ≡ sent + count
-        → Refines side y (with_actions (actions_to_send log (local_uni side) (drop sent local_control_bytes)) log) stage (newest_first (actions_to_send log (local_uni side) (drop sent local_control_bytes)) untaken)
-        → SendsControl side log stage untaken (send_of (local_uni side) rest) y sum (sent + length rest)
+        → Refines side y (with_actions (actions_to_send log (local_uni side) (drop sent local_control_bytes)) log) stage (newest_first (actions_to_send log (local_uni side) (drop sent local_control_bytes)) uncollected)
+        → SendsControl side log stage uncollected (send_of (local_uni side) rest) y sum (sent + length rest)
     sends_rest y count sum c s q = record {
       inbox =
-          sent_acts side log stage untaken (actions_to_send log (local_uni side) (drop sent local_control_bytes)) (send_of (local_uni side) rest) y
+          sent_acts side log stage uncollected (actions_to_send log (local_uni side) (drop sent local_control_bytes)) (send_of (local_uni side) rest) y
           (subst (λ (n : ℕ). actions_to_send log (local_uni side) (drop n local_control_bytes) ≡ send_of (local_uni side) (drop n (take (transport_view side log).credit local_control_bytes))) sent-is (control-sends side log (same-events x r o) local_control_bytes)) q;
       sent_is =
           s ∙ ap (λ (n : ℕ). sent + n)
@@ -308,8 +308,8 @@ module _ (side : Side) (log : Log) (stage : ℕ → Stage) (untaken : List Actio
     }
 
     pub sends_by : (y : InboxState) (id count sum : ℕ) (bytes : List ℕ) → id ≡ local_uni side → bytes ≡ drop sent local_control_bytes → count ≡ min (length bytes) (credit_left log id) → sum ≡ sent + count
-        → Refines side y (with_actions (actions_to_send log id bytes) log) stage (newest_first (actions_to_send log id bytes) untaken) → SendsControl side log stage untaken (send_of (local_uni side) rest) y sum (sent + length rest)
+        → Refines side y (with_actions (actions_to_send log id bytes) log) stage (newest_first (actions_to_send log id bytes) uncollected) → SendsControl side log stage uncollected (send_of (local_uni side) rest) y sum (sent + length rest)
     sends_by y id count sum bytes i b c s q =
         sends_rest y count sum (c ∙ (λ j. min (length (b j)) (credit_left log (i j)))) s
-        (subst (λ (k : ℕ). Refines side y (with_actions (actions_to_send log k (drop sent local_control_bytes)) log) stage (newest_first (actions_to_send log k (drop sent local_control_bytes)) untaken)) i
-        (subst (λ (xs : List ℕ). Refines side y (with_actions (actions_to_send log id xs) log) stage (newest_first (actions_to_send log id xs) untaken)) b q))
+        (subst (λ (k : ℕ). Refines side y (with_actions (actions_to_send log k (drop sent local_control_bytes)) log) stage (newest_first (actions_to_send log k (drop sent local_control_bytes)) uncollected)) i
+        (subst (λ (xs : List ℕ). Refines side y (with_actions (actions_to_send log id xs) log) stage (newest_first (actions_to_send log id xs) uncollected)) b q))

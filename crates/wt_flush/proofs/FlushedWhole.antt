@@ -19,7 +19,7 @@ use Rattle.wt_turn.specs.declared.action.Action.TheVariants as actions
 use Rattle.wt_wire.specs.declared.side.Side.{Side}
 use Rattle.wt_wire.specs.declared.side.Side.TheVariants.{Client, Server}
 
-module _ (side : Side) (log : Log) (stage : ℕ → Stage) (untaken : List Action) where
+module _ (side : Side) (log : Log) (stage : ℕ → Stage) (uncollected : List Action) where
   abbrev id : ℕ
   id = local_uni side
 
@@ -32,10 +32,10 @@ module _ (side : Side) (log : Log) (stage : ℕ → Stage) (untaken : List Actio
   -- ---- the control stream: opened, then sent on
 
   -- no stream may be opened
-  pub control_waits : (x : InboxState) (o : Bool) (n : ℕ) → Refines side x log stage untaken → own ≡ record { opened = o; sent = n } → (transport_view side log).may_open ≡ false
-      → Flushes side log stage untaken (control_actions (transport_view side log).may_open id credit_now own) x (record { opened = o; sent = n })
+  pub control_waits : (x : InboxState) (o : Bool) (n : ℕ) → Refines side x log stage uncollected → own ≡ record { opened = o; sent = n } → (transport_view side log).may_open ≡ false
+      → Flushes side log stage uncollected (control_actions (transport_view side log).may_open id credit_now own) x (record { opened = o; sent = n })
   control_waits x o n r e may = record {
-    inbox = subst (λ (b : Bool). Refines side x (with_actions (control_actions b id credit_now own) log) stage (newest_first (control_actions b id credit_now own) untaken)) (sym may) r;
+    inbox = subst (λ (b : Bool). Refines side x (with_actions (control_actions b id credit_now own) log) stage (newest_first (control_actions b id credit_now own) uncollected)) (sym may) r;
     control_is = sym e ∙ sym (ap (λ (b : Bool). control_flushed b credit_now own) may);
   }
 
@@ -43,8 +43,8 @@ module _ (side : Side) (log : Log) (stage : ℕ → Stage) (untaken : List Actio
   abbrev pub opened_log : Bool → Log
   opened_log o = with_actions (opened_if (not o) id) log
 
-  abbrev pub opened_untaken : Bool → List Action
-  opened_untaken o = newest_first (opened_if (not o) id) untaken
+  abbrev pub opened_uncollected : Bool → List Action
+  opened_uncollected o = newest_first (opened_if (not o) id) uncollected
 
   opens-self : (side : Side) (s : ControlSent) → control_after (local_uni side) (actions.Opened (local_uni side)) s ≡ record { opened = true; sent = s.sent }
   opens-self Client s = ap (λ (n : ℕ). record { opened = true; sent = n }) (add-zero s.sent)
@@ -75,14 +75,14 @@ module _ (side : Side) (log : Log) (stage : ℕ → Stage) (untaken : List Actio
       some-none e = cc
 
   pub control_goes : (z : InboxState) (o opened : Bool) (n sum : ℕ) → own ≡ record { opened = o; sent = n } → (transport_view side log).may_open ≡ true → opened ≡ true
-      → SendsControl side (opened_log o) stage (opened_untaken o) (send_of id (drop n (take (transport_view side (opened_log o)).credit local_control_bytes))) z sum (n + length (drop n (take (transport_view side (opened_log o)).credit local_control_bytes)))
-      → Flushes side log stage untaken (control_actions (transport_view side log).may_open id credit_now own) z (record { opened = opened; sent = sum })
+      → SendsControl side (opened_log o) stage (opened_uncollected o) (send_of id (drop n (take (transport_view side (opened_log o)).credit local_control_bytes))) z sum (n + length (drop n (take (transport_view side (opened_log o)).credit local_control_bytes)))
+      → Flushes side log stage uncollected (control_actions (transport_view side log).may_open id credit_now own) z (record { opened = opened; sent = sum })
   control_goes z true opened n sum e may so s = record {
-    inbox = subst (λ (acts : List Action). Refines side z (with_actions acts log) stage (newest_first acts untaken)) (sym (λ i. control_actions (may i) id credit_now (e i))) s.inbox;
+    inbox = subst (λ (acts : List Action). Refines side z (with_actions acts log) stage (newest_first acts uncollected)) (sym (λ i. control_actions (may i) id credit_now (e i))) s.inbox;
     control_is = (λ i. record { opened = so i; sent = s.sent_is i }) ∙ sym (λ i. control_flushed (may i) credit_now (e i));
   }
   control_goes z false opened n sum e may so s = record {
-    inbox = subst (λ (acts : List Action). Refines side z (with_actions acts log) stage (newest_first acts untaken)) (sym (λ i. control_actions (may i) id credit_now (e i))) s.inbox;
+    inbox = subst (λ (acts : List Action). Refines side z (with_actions acts log) stage (newest_first acts uncollected)) (sym (λ i. control_actions (may i) id credit_now (e i))) s.inbox;
     control_is = (λ i. record { opened = so i; sent = s.sent_is i }) ∙ sym (λ i. control_flushed (may i) credit_now (e i));
   }
 
@@ -94,8 +94,8 @@ module _ (side : Side) (log : Log) (stage : ℕ → Stage) (untaken : List Actio
     abbrev pub log_sent : Log
     log_sent = with_actions control_part log
 
-    abbrev pub untaken_sent : List Action
-    untaken_sent = newest_first control_part untaken
+    abbrev pub uncollected_sent : List Action
+    uncollected_sent = newest_first control_part uncollected
 
     pub sent-open : is_open log_sent ≡ true
     sent-open = stays-open control_part log (control-none (transport_view side log).may_open id credit_now own) o
@@ -106,8 +106,8 @@ module _ (side : Side) (log : Log) (stage : ℕ → Stage) (untaken : List Actio
     abbrev pub log_stopped : Log
     log_stopped = with_actions (stop_actions p.stops) log_sent
 
-    abbrev pub untaken_stopped : List Action
-    untaken_stopped = newest_first (stop_actions p.stops) untaken_sent
+    abbrev pub uncollected_stopped : List Action
+    uncollected_stopped = newest_first (stop_actions p.stops) uncollected_sent
 
     pub stopped-open : is_open log_stopped ≡ true
     stopped-open = stays-open (stop_actions p.stops) log_sent (stops-none p.stops) sent-open
@@ -115,12 +115,12 @@ module _ (side : Side) (log : Log) (stage : ℕ → Stage) (untaken : List Actio
     pub stopped-reset : CanReset side log_stopped session p.ending
     stopped-reset = reset-after side (stop_actions p.stops) log_sent session p.ending (reset-after side control_part log session p.ending may.reset)
 
-    pub all-sent : (x y : InboxState) (state : ControlSent) → Flushes side log stage untaken control_part x state → Sends side log_stopped stage untaken_stopped (close_actions (session_id session) p.ending) y
-        → Flushes side log stage untaken (actions_after (transport_view side log) own session p) y state
+    pub all-sent : (x y : InboxState) (state : ControlSent) → Flushes side log stage uncollected control_part x state → Sends side log_stopped stage uncollected_stopped (close_actions (session_id session) p.ending) y
+        → Flushes side log stage uncollected (actions_after (transport_view side log) own session p) y state
     all-sent x y state f s = record {
       inbox =
-          then_sends side log stage untaken (control_part ++ stop_actions p.stops) (close_actions (session_id session) p.ending) y
-          (subst (λ (l : Log). Refines side y (with_actions (close_actions (session_id session) p.ending) l) stage (newest_first (close_actions (session_id session) p.ending) (newest_first (control_part ++ stop_actions p.stops) untaken))) (sym (with-both control_part (stop_actions p.stops) log))
-          (subst (λ (u : List Action). Refines side y (with_actions (close_actions (session_id session) p.ending) log_stopped) stage (newest_first (close_actions (session_id session) p.ending) u)) (sym (newest-both control_part (stop_actions p.stops) untaken)) s));
+          then_sends side log stage uncollected (control_part ++ stop_actions p.stops) (close_actions (session_id session) p.ending) y
+          (subst (λ (l : Log). Refines side y (with_actions (close_actions (session_id session) p.ending) l) stage (newest_first (close_actions (session_id session) p.ending) (newest_first (control_part ++ stop_actions p.stops) uncollected))) (sym (with-both control_part (stop_actions p.stops) log))
+          (subst (λ (u : List Action). Refines side y (with_actions (close_actions (session_id session) p.ending) log_stopped) stage (newest_first (close_actions (session_id session) p.ending) u)) (sym (newest-both control_part (stop_actions p.stops) uncollected)) s));
       control_is = f.control_is;
     }

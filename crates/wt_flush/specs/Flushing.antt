@@ -41,19 +41,19 @@ pub record MayFlush (side : Side) (log : Log) (session : Option (ℕ × ℕ)) (p
 
 -- these actions went out, the first of them the oldest
 abbrev pub Sends : Side → Log → (ℕ → Stage) → List Action → List Action → InboxState → Type 0
-Sends side log stage untaken acts x = Refines side x (with_actions acts log) stage (newest_first acts untaken)
+Sends side log stage uncollected acts x = Refines side x (with_actions acts log) stage (newest_first acts uncollected)
 
 -- the control stream was opened where it wasn't
-pub record OpensControl (side : Side) (log : Log) (stage : ℕ → Stage) (untaken : List Action) (acts : List Action) (x : InboxState) (opened : Bool) : Type 0 where
-  pub inbox : Refines side x (with_actions acts log) stage (newest_first acts untaken)
+pub record OpensControl (side : Side) (log : Log) (stage : ℕ → Stage) (uncollected : List Action) (acts : List Action) (x : InboxState) (opened : Bool) : Type 0 where
+  pub inbox : Refines side x (with_actions acts log) stage (newest_first acts uncollected)
   pub opened_is : opened ≡ true
 
 -- so many bytes more went out on the control stream
-pub record SendsControl (side : Side) (log : Log) (stage : ℕ → Stage) (untaken : List Action) (acts : List Action) (x : InboxState) (sent count : ℕ) : Type 0 where
-  pub inbox : Refines side x (with_actions acts log) stage (newest_first acts untaken)
+pub record SendsControl (side : Side) (log : Log) (stage : ℕ → Stage) (uncollected : List Action) (acts : List Action) (x : InboxState) (sent count : ℕ) : Type 0 where
+  pub inbox : Refines side x (with_actions acts log) stage (newest_first acts uncollected)
   pub sent_is : sent ≡ count
 
 -- What went out of a moment, and how far the control stream is then.
-pub record Flushes (side : Side) (log : Log) (stage : ℕ → Stage) (untaken : List Action) (acts : List Action) (x : InboxState) (own : ControlSent) : Type 0 where
-  pub inbox : Refines side x (with_actions acts log) stage (newest_first acts untaken)
+pub record Flushes (side : Side) (log : Log) (stage : ℕ → Stage) (uncollected : List Action) (acts : List Action) (x : InboxState) (own : ControlSent) : Type 0 where
+  pub inbox : Refines side x (with_actions acts log) stage (newest_first acts uncollected)
   pub control_is : own ≡ control_flushed (transport_view side log).may_open (transport_view side log).credit (control_sent side log)

@@ -19,8 +19,8 @@ use wt_wire::text::Text;
 use wt_wire::varint::VarInt;
 
 fn open(inbox: &mut Inbox, id: StreamId) -> Result<(), OutOfMemory>
-    ensures log { OfEachLog inbox.old (λ side log stage untaken. opened_id side log (local_kind side id) ≡ Some id
-        → OnOk result (Refines side inbox.new (Sent (actions.Opened id) ∷ log) stage (actions.Opened id ∷ untaken))) }
+    ensures log { OfEachLog inbox.old (λ side log stage uncollected. opened_id side log (local_kind side id) ≡ Some id
+        → OnOk result (Refines side inbox.new (Sent (actions.Opened id) ∷ log) stage (actions.Opened id ∷ uncollected))) }
 {
     if id.is_bidirectional() {
         let _opened = inbox.open_bi()?;
@@ -31,9 +31,9 @@ fn open(inbox: &mut Inbox, id: StreamId) -> Result<(), OutOfMemory>
 }
 
 fn send(inbox: &mut Inbox, id: StreamId, piece: &Piece) -> Result<(), OutOfMemory>
-    ensures log { OfEachLog inbox.old (λ side log stage untaken. may_send side log id ≡ true
+    ensures log { OfEachLog inbox.old (λ side log stage uncollected. may_send side log id ≡ true
         → actions_to_send log id piece.now ≡ actions.Send id piece.now ∷ []
-        → OnOk result (Refines side inbox.new (Sent (actions.Send id piece.now) ∷ log) stage (actions.Send id piece.now ∷ untaken))) }
+        → OnOk result (Refines side inbox.new (Sent (actions.Send id piece.now) ∷ log) stage (actions.Send id piece.now ∷ uncollected))) }
 {
     if inbox.may_send(id) {
         let _count = inbox.send(id, piece.as_slice())?;
@@ -42,8 +42,8 @@ fn send(inbox: &mut Inbox, id: StreamId, piece: &Piece) -> Result<(), OutOfMemor
 }
 
 fn finish(inbox: &mut Inbox, id: StreamId) -> Result<(), OutOfMemory>
-    ensures log { OfEachLog inbox.old (λ side log stage untaken. may_send side log id ≡ true
-        → OnOk result (Refines side inbox.new (Sent (actions.Finish id) ∷ log) stage (actions.Finish id ∷ untaken))) }
+    ensures log { OfEachLog inbox.old (λ side log stage uncollected. may_send side log id ≡ true
+        → OnOk result (Refines side inbox.new (Sent (actions.Finish id) ∷ log) stage (actions.Finish id ∷ uncollected))) }
 {
     if inbox.may_send(id) {
         inbox.finish(id)?;
@@ -53,10 +53,10 @@ fn finish(inbox: &mut Inbox, id: StreamId) -> Result<(), OutOfMemory>
 
 /// Resets a sending half, where there is one.
 pub fn reset(inbox: &mut Inbox, id: StreamId, code: VarInt) -> Result<(), OutOfMemory>
-    ensures log { OfEachLog inbox.old (λ side log stage untaken. is_open log ≡ true → can_send side log id ≡ true
-        → OnOk result (Refines side inbox.new (Sent (actions.ResetOut id code) ∷ log) stage (actions.ResetOut id code ∷ untaken))) }
-    ensures unsent { OfEachLog inbox.old (λ side log stage untaken. is_open log ≡ false → can_send side log id ≡ true
-        → OnOk result (Refines side inbox.new (Called (ResetUnsent id code) ∷ log) stage untaken)) }
+    ensures log { OfEachLog inbox.old (λ side log stage uncollected. is_open log ≡ true → can_send side log id ≡ true
+        → OnOk result (Refines side inbox.new (Sent (actions.ResetOut id code) ∷ log) stage (actions.ResetOut id code ∷ uncollected))) }
+    ensures unsent { OfEachLog inbox.old (λ side log stage uncollected. is_open log ≡ false → can_send side log id ≡ true
+        → OnOk result (Refines side inbox.new (Called (ResetUnsent id code) ∷ log) stage uncollected)) }
 {
     if inbox.can_send(id) {
         inbox.reset(id, code)?;
@@ -66,8 +66,8 @@ pub fn reset(inbox: &mut Inbox, id: StreamId, code: VarInt) -> Result<(), OutOfM
 
 /// Asks the peer to stop its half, where there is one.
 pub fn stop(inbox: &mut Inbox, id: StreamId, code: VarInt) -> Result<(), OutOfMemory>
-    ensures log { OfEachLog inbox.old (λ side log stage untaken. is_open log ≡ true → can_receive side log id ≡ true
-        → OnOk result (Refines side inbox.new (Sent (actions.StopOut id code) ∷ log) stage (actions.StopOut id code ∷ untaken))) }
+    ensures log { OfEachLog inbox.old (λ side log stage uncollected. is_open log ≡ true → can_receive side log id ≡ true
+        → OnOk result (Refines side inbox.new (Sent (actions.StopOut id code) ∷ log) stage (actions.StopOut id code ∷ uncollected))) }
 {
     if inbox.can_receive(id) {
         inbox.stop(id, code)?;
@@ -76,8 +76,8 @@ pub fn stop(inbox: &mut Inbox, id: StreamId, code: VarInt) -> Result<(), OutOfMe
 }
 
 fn dial(inbox: &mut Inbox, address: Addr, name: Text) -> Result<(), OutOfMemory>
-    ensures log { OfEachLog inbox.old (λ side log stage untaken. is_open log ≡ true
-        → OnOk result (Refines side inbox.new (Sent (actions.Dial address name) ∷ log) stage (actions.Dial address name ∷ untaken))) }
+    ensures log { OfEachLog inbox.old (λ side log stage uncollected. is_open log ≡ true
+        → OnOk result (Refines side inbox.new (Sent (actions.Dial address name) ∷ log) stage (actions.Dial address name ∷ uncollected))) }
 {
     if inbox.is_open() {
         inbox.dial(address, name)?;
@@ -86,8 +86,8 @@ fn dial(inbox: &mut Inbox, address: Addr, name: Text) -> Result<(), OutOfMemory>
 }
 
 fn datagram_out(inbox: &mut Inbox, piece: Piece) -> Result<(), OutOfMemory>
-    ensures log { OfEachLog inbox.old (λ side log stage untaken. is_open log ≡ true
-        → OnOk result (Refines side inbox.new (Sent (actions.DatagramOut piece) ∷ log) stage (actions.DatagramOut piece ∷ untaken))) }
+    ensures log { OfEachLog inbox.old (λ side log stage uncollected. is_open log ≡ true
+        → OnOk result (Refines side inbox.new (Sent (actions.DatagramOut piece) ∷ log) stage (actions.DatagramOut piece ∷ uncollected))) }
 {
     if inbox.is_open() {
         inbox.datagram_out(piece)?;
@@ -97,16 +97,16 @@ fn datagram_out(inbox: &mut Inbox, piece: Piece) -> Result<(), OutOfMemory>
 
 /// Closes the connection, where it is open.
 pub fn close(inbox: &mut Inbox, code: VarInt, reason: Piece) -> Result<(), OutOfMemory>
-    ensures log { OfEachLog inbox.old (λ side log stage untaken. is_open log ≡ true
-        → OnOk result (Refines side inbox.new (Sent (actions.Close code reason) ∷ log) stage (actions.Close code reason ∷ untaken))) }
+    ensures log { OfEachLog inbox.old (λ side log stage uncollected. is_open log ≡ true
+        → OnOk result (Refines side inbox.new (Sent (actions.Close code reason) ∷ log) stage (actions.Close code reason ∷ uncollected))) }
 {
     inbox.close(code, reason)
 }
 
 /// An action of a call goes out.
 pub fn act(inbox: &mut Inbox, action: Action) -> Result<(), OutOfMemory>
-    ensures log { OfEachLog inbox.old (λ side log stage untaken. MayAct side log action
-        → OnOk result (Refines side inbox.new (Sent action ∷ log) stage (action ∷ untaken))) }
+    ensures log { OfEachLog inbox.old (λ side log stage uncollected. MayAct side log action
+        → OnOk result (Refines side inbox.new (Sent action ∷ log) stage (action ∷ uncollected))) }
 {
     match action {
         Action::Dial { address, name } => dial(inbox, address, name),

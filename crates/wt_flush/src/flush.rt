@@ -29,11 +29,11 @@ use wt_wire::varint::VarInt;
 // ---- this end's control stream
 
 /// The bytes from this offset on; none past the end.
-fn bytes_after(bytes: &[u8], at: usize) -> &[u8]
-    ensures { result.now ≡ drop at bytes.now }
+fn bytes_after(bytes: &[u8], offset: usize) -> &[u8]
+    ensures { result.now ≡ drop offset bytes.now }
 {
-    if at < bytes.len() {
-        &bytes[at..]
+    if offset < bytes.len() {
+        &bytes[offset..]
     } else {
         &bytes[bytes.len()..]
     }
@@ -51,9 +51,9 @@ fn control_id(side: Side) -> StreamId
 
 /// Opens the control stream where it isn't.
 fn open_control(inbox: &mut Inbox, opened: &mut bool) -> Result<(), OutOfMemory>
-    ensures log { OfEachLog inbox.old (λ side log stage untaken. is_open log ≡ true → (control_sent side log).opened ≡ opened.old
+    ensures log { OfEachLog inbox.old (λ side log stage uncollected. is_open log ≡ true → (control_sent side log).opened ≡ opened.old
         → (transport_view side log).may_open ≡ true
-        → OnOk result (OpensControl side log stage untaken (opened_if (not opened.old) (local_uni side)) inbox.new opened.new)) }
+        → OnOk result (OpensControl side log stage uncollected (opened_if (not opened.old) (local_uni side)) inbox.new opened.new)) }
 {
     if !*opened {
         let _id = inbox.open_uni()?;
@@ -64,10 +64,10 @@ fn open_control(inbox: &mut Inbox, opened: &mut bool) -> Result<(), OutOfMemory>
 
 /// Sends the bytes of the control stream that are left, as far as credit goes.
 fn send_control(inbox: &mut Inbox, alloc: Global, sent: &mut usize) -> Result<(), OutOfMemory>
-    ensures log { OfEachLog inbox.old (λ side log stage untaken. is_open log ≡ true
+    ensures log { OfEachLog inbox.old (λ side log stage uncollected. is_open log ≡ true
         → control_sent side log ≡ record { opened = true; sent = sent.old } → ControlRuns side log
         → (transport_view side log).may_open ≡ true
-        → OnOk result (SendsControl side log stage untaken (send_of (local_uni side) (drop sent.old (take (transport_view side log).credit local_control_bytes))) inbox.new sent.new (sent.old + length (drop sent.old (take (transport_view side log).credit local_control_bytes))))) }
+        → OnOk result (SendsControl side log stage uncollected (send_of (local_uni side) (drop sent.old (take (transport_view side log).credit local_control_bytes))) inbox.new sent.new (sent.old + length (drop sent.old (take (transport_view side log).credit local_control_bytes))))) }
 {
     let id = control_id(inbox.side());
     if !inbox.may_send(id) {
@@ -91,9 +91,9 @@ fn flush_control(
     opened: &mut bool,
     sent: &mut usize,
 ) -> Result<(), OutOfMemory>
-    ensures log { OfEachLog inbox.old (λ side log stage untaken. is_open log ≡ true
+    ensures log { OfEachLog inbox.old (λ side log stage uncollected. is_open log ≡ true
         → control_sent side log ≡ record { opened = opened.old; sent = sent.old } → ControlRuns side log
-        → OnOk result (Flushes side log stage untaken (control_actions (transport_view side log).may_open (local_uni side) (transport_view side log).credit (control_sent side log)) inbox.new (record { opened = opened.new; sent = sent.new }))) }
+        → OnOk result (Flushes side log stage uncollected (control_actions (transport_view side log).may_open (local_uni side) (transport_view side log).credit (control_sent side log)) inbox.new (record { opened = opened.new; sent = sent.new }))) }
 {
     if inbox.may_open_uni() {
         open_control(inbox, opened)?;
@@ -105,20 +105,20 @@ fn flush_control(
 // ---- the stops
 
 fn stop_one(inbox: &mut Inbox, stopped: &Stopped) -> Result<(), OutOfMemory>
-    ensures log { OfEachLog inbox.old (λ side log stage untaken. is_open log ≡ true → can_receive side log stopped.now.id ≡ true
-        → OnOk result (Refines side inbox.new (Sent (actions.StopOut stopped.now.id (code_of stopped.now.code)) ∷ log) stage (actions.StopOut stopped.now.id (code_of stopped.now.code) ∷ untaken))) }
+    ensures log { OfEachLog inbox.old (λ side log stage uncollected. is_open log ≡ true → can_receive side log stopped.now.id ≡ true
+        → OnOk result (Refines side inbox.new (Sent (actions.StopOut stopped.now.id (code_of stopped.now.code)) ∷ log) stage (actions.StopOut stopped.now.id (code_of stopped.now.code) ∷ uncollected))) }
 {
     stop(inbox, stopped.id, stopped.code.to_code())
 }
 
 fn stop_all(inbox: &mut Inbox, stops: &[Stopped]) -> Result<(), OutOfMemory>
-    ensures log { OfEachLog inbox.old (λ side log stage untaken. is_open log ≡ true → CanStop side log stops.now
-        → OnOk result (Sends side log stage untaken (stop_actions stops.now) inbox.new)) }
+    ensures log { OfEachLog inbox.old (λ side log stage uncollected. is_open log ≡ true → CanStop side log stops.now
+        → OnOk result (Sends side log stage uncollected (stop_actions stops.now) inbox.new)) }
 {
-    let mut at = 0;
-    while at < stops.len() {
-        stop_one(inbox, &stops[at])?;
-        at += 1;
+    let mut index = 0;
+    while index < stops.len() {
+        stop_one(inbox, &stops[index])?;
+        index += 1;
     }
     Ok(())
 }
@@ -136,8 +136,8 @@ fn session_id(session: Option<(StreamId, usize)>) -> StreamId
 
 /// Resets the session's stream, where a capsule closed the session.
 fn reset_if(inbox: &mut Inbox, by_capsule: bool, id: StreamId) -> Result<(), OutOfMemory>
-    ensures log { OfEachLog inbox.old (λ side log stage untaken. is_open log ≡ true → (by_capsule ≡ true → can_send side log id ≡ true)
-        → OnOk result (Sends side log stage untaken (reset_if by_capsule id) inbox.new)) }
+    ensures log { OfEachLog inbox.old (λ side log stage uncollected. is_open log ≡ true → (by_capsule ≡ true → can_send side log id ≡ true)
+        → OnOk result (Sends side log stage uncollected (reset_if by_capsule id) inbox.new)) }
 {
     if by_capsule {
         reset(inbox, id, ErrorCode::NoError.to_code())?;
@@ -146,8 +146,8 @@ fn reset_if(inbox: &mut Inbox, by_capsule: bool, id: StreamId) -> Result<(), Out
 }
 
 fn close_with(inbox: &mut Inbox, alloc: Global, code: ErrorCode) -> Result<(), OutOfMemory>
-    ensures log { OfEachLog inbox.old (λ side log stage untaken. is_open log ≡ true
-        → OnOk result (Sends side log stage untaken (actions.Close (code_of code) [] ∷ []) inbox.new)) }
+    ensures log { OfEachLog inbox.old (λ side log stage uncollected. is_open log ≡ true
+        → OnOk result (Sends side log stage uncollected (actions.Close (code_of code) [] ∷ []) inbox.new)) }
 {
     close(inbox, code.to_code(), Piece::new(alloc))
 }
@@ -159,8 +159,8 @@ fn flush_ending(
     session: Option<(StreamId, usize)>,
     ending: Option<&Ending>,
 ) -> Result<(), OutOfMemory>
-    ensures log { OfEachLog inbox.old (λ side log stage untaken. is_open log ≡ true → CanReset side log session (option_copied ending.entry)
-        → OnOk result (Sends side log stage untaken (close_actions (session_id session) (option_copied ending.entry)) inbox.new)) }
+    ensures log { OfEachLog inbox.old (λ side log stage uncollected. is_open log ≡ true → CanReset side log session (option_copied ending.entry)
+        → OnOk result (Sends side log stage uncollected (close_actions (session_id session) (option_copied ending.entry)) inbox.new)) }
 {
     let Some(ending) = ending else {
         return Ok(());
@@ -189,9 +189,9 @@ pub fn flush(
     session: Option<(StreamId, usize)>,
     progress: &ConnectionProgress,
 ) -> Result<(), OutOfMemory>
-    ensures log { OfEachLog inbox.old (λ side log stage untaken. is_open log ≡ true
+    ensures log { OfEachLog inbox.old (λ side log stage uncollected. is_open log ≡ true
         → control_sent side log ≡ record { opened = opened.old; sent = sent.old } → MayFlush side log session progress.now
-        → OnOk result (Flushes side log stage untaken (actions_after (transport_view side log) (control_sent side log) session progress.now) inbox.new (record { opened = opened.new; sent = sent.new }))) }
+        → OnOk result (Flushes side log stage uncollected (actions_after (transport_view side log) (control_sent side log) session progress.now) inbox.new (record { opened = opened.new; sent = sent.new }))) }
 {
     flush_control(inbox, alloc, opened, sent)?;
     stop_all(inbox, progress.stops())?;

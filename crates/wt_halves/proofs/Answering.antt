@@ -13,11 +13,11 @@ whichever (Err e) P p = tt
 module _ (d : DriverValue) (Holds : Side → Log → Type 0) where
   -- what each log says where there is an answer, it says of the answer that is there
   pub if_of_each : {T E : Type 0} (result : Result T E) (Law : T → Side → Log → ℕ → Type 0)
-      → WhereStands d Holds (λ side log taken. IfOk result (λ x. Law x side log taken)) → IfOk result (λ x. WhereStands d Holds (Law x))
+      → WhereStands d Holds (λ side log collected. IfOk result (λ x. Law x side log collected)) → IfOk result (λ x. WhereStands d Holds (Law x))
   if_of_each (Ok x) Law l = l
   if_of_each (Err e) Law l = tt
 
   pub on_of_each : {T E : Type 0} (result : Result T E) (Law : Side → Log → ℕ → Type 0)
-      → WhereStands d Holds (λ side log taken. OnOk result (Law side log taken)) → OnOk result (WhereStands d Holds Law)
+      → WhereStands d Holds (λ side log collected. OnOk result (Law side log collected)) → OnOk result (WhereStands d Holds Law)
   on_of_each (Ok x) Law l = l
   on_of_each (Err e) Law l = tt

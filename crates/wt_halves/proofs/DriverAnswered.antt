@@ -2,7 +2,7 @@
 use Rattle.std.specs.Prelude.{◌≡◌, Err, Ok, OnOk, Result, true, ℕ}
 use Rattle.std.proofs.Common.{◌∙◌, ap, refl, subst, sym}
 use Rattle.wt_driver_state.specs.DriverValue.{DriverValue}
-use Rattle.wt_driver_state.specs.Tie.{Follows, untaken_since}
+use Rattle.wt_driver_state.specs.Tie.{Follows, uncollected_since}
 use Rattle.wt_laws.specs.Reachable.{IsReachable}
 use Rattle.wt_plan.proofs.FactsSame.{facts-same}
 use Rattle.wt_plan.specs.DriverAnswers.{answers_now}
@@ -23,20 +23,20 @@ use Rattle.wt_turn.specs.Log.{Log}
 use Rattle.wt_turn.specs.declared.call.Call.{Call}
 use Rattle.wt_wire.specs.declared.side.Side.{Side}
 
--- ---- what is told
+-- ---- what is reported
 
-module _ (side : Side) (d : DriverValue) (log : Log) (taken : ℕ) (f : Follows side d log taken) (r : IsReachable side log) where
+module _ (side : Side) (d : DriverValue) (log : Log) (collected : ℕ) (f : Follows side d log collected) (r : IsReachable side log) where
   -- what the driver answers; what it doesn't keep is the log's
   abbrev pub reported : DriverAnswers
   reported = answers_now d.inbox.transport d.state (is_first log) (driver_facts side log).request_end (driver_facts side log).response
 
   pub says : TellsFacts side log d.inbox.transport reported
-  says = drivers_tell_theorem side d log (untaken_since taken log) (is_first log) (driver_facts side log).request_end (driver_facts side log).response
+  says = drivers_tell_theorem side d log (uncollected_since collected log) (is_first log) (driver_facts side log).request_end (driver_facts side log).response
       f.refines refl (λ a. refl) (λ reserved head c. refl) r
 
   -- but for the unread bytes these are the facts of the log
-  pub facts_told : facts_now d.inbox.transport reported ≡ record (facts_of side log) { unread = unread_now d.inbox.transport }
-  facts_told = let x = says in facts-same side d.inbox.transport log x.position x.untaken x.refines reported x.answers x.lawful
+  pub facts_reported : facts_now d.inbox.transport reported ≡ record (facts_of side log) { unread = unread_now d.inbox.transport }
+  facts_reported = let x = says in facts-same side d.inbox.transport log x.position x.uncollected x.refines reported x.answers x.lawful
 
 -- ---- what a plan leads to
 
@@ -50,8 +50,8 @@ module _ (side : Side) (log : Log) (call : Call) (p : Plan) (e : p ≡ plan_of (
   may_perform r m = subst (MayPerform side log) (sym e) (performs_theorem side log call r m)
 
   -- what follows the log after the plan follows the log after the call
-  pub follows_call : (d : DriverValue) (taken : ℕ) → Follows side d (perform side log p).log taken → Follows side d (call_effect side log call).log taken
-  follows_call d taken f = subst (λ (x : Effect). Follows side d x.log taken) leads f
+  pub follows_call : (d : DriverValue) (collected : ℕ) → Follows side d (perform side log p).log collected → Follows side d (call_effect side log call).log collected
+  follows_call d collected f = subst (λ (x : Effect). Follows side d x.log collected) leads f
 
 -- what holds anyway holds where a call answers Ok
 pub always : {T E : Type 0} (r : Result T E) (P : Type 0) → P → OnOk r P

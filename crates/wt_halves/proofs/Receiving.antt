@@ -5,7 +5,7 @@ use Rattle.std.proofs.Math.ListN.{drop_of_length-le}
 use Rattle.std.proofs.Math.Seq.{take-append_seam, take-length}
 use Rattle.std.proofs.lemmas.Bool.{ltb-true}
 use Rattle.std.proofs.lemmas.List.{length-take-le}
-use Rattle.wt_halves.proofs.DriverAnswered.{facts_told, leads, says, reported}
+use Rattle.wt_halves.proofs.DriverAnswered.{facts_reported, leads, says, reported}
 use Rattle.wt_driver_state.specs.DriverValue.{DriverValue}
 use Rattle.wt_driver_state.specs.Tie.{Follows}
 use Rattle.wt_laws.specs.Reachable.{IsReachable}
@@ -60,12 +60,12 @@ none-read false ends.Running us bytes = refl
 
 read-front : (open_ : Bool) (e : StreamEnd) (us buffer rest : List ℕ) (size n : ℕ) → n ≡ min size (length us) → buffer ≡ take n us
     → reply_of_read (buffer ++ rest) (read_answer open_ (record { unread = length us; end = e }) size) ≡ reply_of_read us (read_answer open_ (record { unread = length us; end = e }) size)
-read-front open_ e us buffer rest size n en eb = at (size == 0) (length us == 0)
+read-front open_ e us buffer rest size n en eb = by (size == 0) (length us == 0)
   where
-    at : (a b : Bool) → let answer = if a then Ready (Ok (Some 0)) else (if b then nothing_unread open_ e else Ready (Ok (Some (min size (length us))))) in reply_of_read (buffer ++ rest) answer ≡ reply_of_read us answer
-    at true b = refl
-    at false true = none-read open_ e us (buffer ++ rest)
-    at false false =
+    by : (a b : Bool) → let answer = if a then Ready (Ok (Some 0)) else (if b then nothing_unread open_ e else Ready (Ok (Some (min size (length us))))) in reply_of_read (buffer ++ rest) answer ≡ reply_of_read us answer
+    by true b = refl
+    by false true = none-read open_ e us (buffer ++ rest)
+    by false false =
         let within : n ≤ length us = omega arith in
         ap (λ (bytes : List ℕ). replies.Read (Some bytes)) (ap (λ (k : ℕ). take k (buffer ++ rest)) (sym en) ∙ front-take n us buffer rest within eb ∙ ap (λ (k : ℕ). take k us) en)
 
@@ -90,11 +90,11 @@ few-within false ends.Running size n h = omega arith
 
 -- no more are read than were asked for
 pub exact_within : (open_ : Bool) (half : ReceivingHalf) (size : ℕ) → exactly_read size (read_exact_answer open_ half size) ≤ size
-exact_within open_ half size = at (nat_lt half.unread size) refl
+exact_within open_ half size = by (nat_lt half.unread size) refl
   where
-    at : (b : Bool) → nat_lt half.unread size ≡ b → exactly_read size (if b then too_few open_ half.end half.unread else Ready (Ok tt)) ≤ size
-    at true g = few-within open_ half.end size half.unread (let lt = ltb-true half.unread size g in omega arith)
-    at false g = omega arith
+    by : (b : Bool) → nat_lt half.unread size ≡ b → exactly_read size (if b then too_few open_ half.end half.unread else Ready (Ok tt)) ≤ size
+    by true g = few-within open_ half.end size half.unread (let lt = ltb-true half.unread size g in omega arith)
+    by false g = omega arith
 
 few-all : (open_ : Bool) (e : StreamEnd) (n count : ℕ) → too_few open_ e n ≡ Ready (Err (exacts.FinishedEarly count)) → count ≡ n
 few-all open_ ends.Fin n count g = cc
@@ -103,11 +103,11 @@ few-all true ends.Running n count g = absurd (cc)
 few-all false ends.Running n count g = absurd (cc)
 
 finished-all : (open_ : Bool) (half : ReceivingHalf) (size count : ℕ) → read_exact_answer open_ half size ≡ Ready (Err (exacts.FinishedEarly count)) → count ≡ half.unread
-finished-all open_ half size count = at (nat_lt half.unread size)
+finished-all open_ half size count = by (nat_lt half.unread size)
   where
-    at : (b : Bool) → (if b then too_few open_ half.end half.unread else Ready (Ok tt)) ≡ Ready (Err (exacts.FinishedEarly count)) → count ≡ half.unread
-    at true g = few-all open_ half.end half.unread count g
-    at false g = absurd (cc)
+    by : (b : Bool) → (if b then too_few open_ half.end half.unread else Ready (Ok tt)) ≡ Ready (Err (exacts.FinishedEarly count)) → count ≡ half.unread
+    by true g = few-all open_ half.end half.unread count g
+    by false g = absurd (cc)
 
 exact-front : (open_ : Bool) (e : StreamEnd) (us buffer old : List ℕ) (size : ℕ) → length old ≡ size → (a : Poll (Result (Unit {0}) StreamReadExactError))
     → a ≡ read_exact_answer open_ (record { unread = length us; end = e }) size → buffer ≡ take (exactly_read size a) us → exact_reply (buffer ++ drop (exactly_read size a) old) a ≡ exact_said size us a
@@ -124,21 +124,21 @@ exact-front open_ e us buffer old size l Pending ea eb = refl
 
 -- ---- a half that the application has
 
-module _ (side : Side) (d : DriverValue) (log : Log) (taken : ℕ) (f : Follows side d log taken) (r : IsReachable side log) (id : ℕ) (h : has_receiving_half side log id ≡ true) where
+module _ (side : Side) (d : DriverValue) (log : Log) (collected : ℕ) (f : Follows side d log collected) (r : IsReachable side log) (id : ℕ) (h : has_receiving_half side log id ≡ true) where
   abbrev now : CallFacts
-  now = facts_now d.inbox.transport (reported side d log taken f r)
+  now = facts_now d.inbox.transport (reported side d log collected f r)
 
   had : (p : Plan) → p ≡ with_receiving (facts_of side log) (session_state log) id p
   had p = sym (ap (λ b. with_half b p) (same-receiving side log id ∙ h))
 
   unread_is : unread_now d.inbox.transport id ≡ unread_body side log id
-  unread_is = plans.unread_had side log d.inbox.transport (reported side d log taken f r) (says side d log taken f r) id h
+  unread_is = plans.unread_had side log d.inbox.transport (reported side d log collected f r) (says side d log collected f r) id h
 
   pub read_by_log : (size : ℕ) → read_plan now id size ≡ plan_of (facts_of side log) (session_state log) (calls.Read id size)
   unfolding plan_of
   read_by_log size =
       let own = facts_of side log in
-      ap (λ (x : CallFacts). read_plan x id size) (facts_told side d log taken f r)
+      ap (λ (x : CallFacts). read_plan x id size) (facts_reported side d log collected f r)
       ∙ ap (λ us. Step [] (read_record id (read_count (record { unread = length us; end = own.end id }) size)) (reply_of_read us (read_answer own.is_open (record { unread = length us; end = own.end id }) size))) unread_is
       ∙ had (read_plan own id size)
 
@@ -146,18 +146,18 @@ module _ (side : Side) (d : DriverValue) (log : Log) (taken : ℕ) (f : Follows 
   unfolding plan_of
   exact_by_log size =
       let own = facts_of side log in
-      ap (λ (x : CallFacts). read_exact_plan x id size) (facts_told side d log taken f r)
+      ap (λ (x : CallFacts). read_exact_plan x id size) (facts_reported side d log collected f r)
       ∙ ap (λ us. exact_plan id size us (read_exact_answer own.is_open (record { unread = length us; end = own.end id }) size)) unread_is
       ∙ had (read_exact_plan own id size)
 
   pub stop_by_log : (code : ℕ) → stop_plan now id code ≡ plan_of (facts_of side log) (session_state log) (calls.StopRecv id code)
   unfolding plan_of
-  stop_by_log code = ap (λ (x : CallFacts). stop_plan x id code) (facts_told side d log taken f r) ∙ had (stop_plan (facts_of side log) id code)
+  stop_by_log code = ap (λ (x : CallFacts). stop_plan x id code) (facts_reported side d log collected f r) ∙ had (stop_plan (facts_of side log) id code)
 
   pub stop_planned : (v : ℕ) (t : TransportState) → t ≡ d.inbox.transport → (p : planning.Plan) → ((x : DriverAnswers) → defined_plan p ≡ stop_plan (facts_now t x) id v)
       → defined_plan p ≡ plan_of (facts_of side log) (session_state log) (calls.StopRecv id v)
   stop_planned v t same p e =
-      e (reported side d log taken f r) ∙ ap (λ (u : TransportState). stop_plan (facts_now u (reported side d log taken f r)) id v) same ∙ stop_by_log v
+      e (reported side d log collected f r) ∙ ap (λ (u : TransportState). stop_plan (facts_now u (reported side d log collected f r)) id v) same ∙ stop_by_log v
 
   pub stop_replies : (v : ℕ) → replies.Done ≡ (call_effect side log (calls.StopRecv id v)).reply
   stop_replies v = ap (λ (x : Effect). x.reply) (leads side log (calls.StopRecv id v) (stop_plan now id v) (stop_by_log v))
@@ -169,10 +169,10 @@ module _ (side : Side) (d : DriverValue) (log : Log) (taken : ℕ) (f : Follows 
       (em ∙ ap (read_record id) (en ∙ ap (λ (u : TransportState). min size (length (unread_now u id))) same))
       ∙ read_by_log size
 
-  pub read_told : (size : ℕ) (t : TransportState) → t ≡ d.inbox.transport → (a : Poll (Result (Option ℕ) StreamReadError)) → a ≡ read_answer t.is_open (receiving_half_now t id) size
+  pub read_reported : (size : ℕ) (t : TransportState) → t ≡ d.inbox.transport → (a : Poll (Result (Option ℕ) StreamReadError)) → a ≡ read_answer t.is_open (receiving_half_now t id) size
       → (n : ℕ) → n ≡ min size (length (unread_now t id)) → (buffer rest : List ℕ) → buffer ≡ take n (unread_now t id)
       → reply_of_read (buffer ++ rest) a ≡ (call_effect side log (calls.Read id size)).reply
-  read_told size t same a ea n en buffer rest eb =
+  read_reported size t same a ea n en buffer rest eb =
       ap (reply_of_read (buffer ++ rest)) ea
       ∙ read-front t.is_open (end_now t id) (unread_now t id) buffer rest size n en eb
       ∙ ap (λ (u : TransportState). reply_of_read (unread_now u id) (read_answer u.is_open (receiving_half_now u id) size)) same
@@ -186,10 +186,10 @@ module _ (side : Side) (d : DriverValue) (log : Log) (taken : ℕ) (f : Follows 
       ∙ ap (exact_plan id size (now.unread id)) (ea ∙ ap (λ (u : TransportState). read_exact_answer u.is_open (receiving_half_now u id) size) same)
       ∙ exact_by_log size
 
-  pub exact_told : (size : ℕ) (t : TransportState) → t ≡ d.inbox.transport → (a : Poll (Result (Unit {0}) StreamReadExactError)) → a ≡ read_exact_answer t.is_open (receiving_half_now t id) size
+  pub exact_reported : (size : ℕ) (t : TransportState) → t ≡ d.inbox.transport → (a : Poll (Result (Unit {0}) StreamReadExactError)) → a ≡ read_exact_answer t.is_open (receiving_half_now t id) size
       → (buffer old : List ℕ) → length old ≡ size → buffer ≡ take (exactly_read size a) (unread_now t id)
       → exact_reply (buffer ++ drop (exactly_read size a) old) a ≡ (call_effect side log (calls.ReadExact id size)).reply
-  exact_told size t same a ea buffer old l eb =
+  exact_reported size t same a ea buffer old l eb =
       exact-front t.is_open (end_now t id) (unread_now t id) buffer old size l a ea eb
       ∙ ap (λ (u : TransportState). exact_said size (unread_now u id) a) same
       ∙ ap (λ (x : Effect). x.reply) (leads side log (calls.ReadExact id size) (Step [] (records_exact id size a) (exact_said size (now.unread id) a)) (exact_planned size t same a ea (records_exact id size a) refl))

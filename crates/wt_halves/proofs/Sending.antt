@@ -2,7 +2,7 @@
 use Rattle.std.specs.Prelude.{[], ◌∷◌, ◌≡◌, Bool, Err, List, Ok, Result, false, if◌then◌else◌, true, ℕ, ℤ}
 use Rattle.std.proofs.Common.{◌∙◌, ap, refl, sym}
 use Rattle.wt_halves.specs.Replies.{reset_reply}
-use Rattle.wt_halves.proofs.DriverAnswered.{facts_told, leads, says, reported}
+use Rattle.wt_halves.proofs.DriverAnswered.{facts_reported, leads, says, reported}
 use Rattle.wt_driver_state.specs.DriverValue.{DriverValue}
 use Rattle.wt_driver_state.specs.Tie.{Follows}
 use Rattle.wt_laws.specs.Reachable.{IsReachable}
@@ -42,33 +42,33 @@ may_use side (e ∷ log) id h = refl
 
 -- a priority is set without a word
 set-reply : (side : Side) (log : Log) (x : CallFacts) (id : ℕ) (p : ℤ) → replies.Done ≡ (perform side log (set_priority_plan x id p)).reply
-set-reply side log x id p = at (is_closed (x.sending id))
+set-reply side log x id p = by (is_closed (x.sending id))
   where
-    at : (closed : Bool) → replies.Done ≡ (perform side log (if closed then only_reply replies.Done else Step [] (PrioritySet id p) replies.Done)).reply
-    at true = refl
-    at false = refl
+    by : (closed : Bool) → replies.Done ≡ (perform side log (if closed then only_reply replies.Done else Step [] (PrioritySet id p) replies.Done)).reply
+    by true = refl
+    by false = refl
 
 set-step : (id : ℕ) (p : ℤ) (b : Bool) → Step [] (if b then Polled else PrioritySet id p) replies.Done ≡ (if b then only_reply replies.Done else Step [] (PrioritySet id p) replies.Done)
 set-step id p true = refl
 set-step id p false = refl
 
--- a reset is told by whether the half was closed
+-- a reset is reported by whether the half was closed
 reset-reply : (side : Side) (log : Log) (x : CallFacts) (id code : ℕ) → reset_reply (reset_answer (x.sending id)) ≡ (perform side log (reset_plan x id code)).reply
-reset-reply side log x id code = at (is_closed (x.sending id)) x.is_open
+reset-reply side log x id code = by (is_closed (x.sending id)) x.is_open
   where
-    at : (closed open_ : Bool) → reset_reply (if closed then Err (record {}) else Ok tt)
+    by : (closed open_ : Bool) → reset_reply (if closed then Err (record {}) else Ok tt)
         ≡ (perform side log (if closed then only_reply replies.ClosedStream else (if open_ then send_and_reply (actions.ResetOut id code ∷ []) replies.Done else Step [] (ResetUnsent id code) replies.Done))).reply
-    at true open_ = refl
-    at false true = refl
-    at false false = refl
+    by true open_ = refl
+    by false true = refl
+    by false false = refl
 
-module _ (side : Side) (d : DriverValue) (log : Log) (taken : ℕ) (f : Follows side d log taken) (r : IsReachable side log) (id : ℕ) (h : has_sending_half side log id ≡ true) where
+module _ (side : Side) (d : DriverValue) (log : Log) (collected : ℕ) (f : Follows side d log collected) (r : IsReachable side log) (id : ℕ) (h : has_sending_half side log id ≡ true) where
   -- its stream is there
   pub is_there : can_send_now d.inbox.transport id ≡ true
-  is_there = plans.sending_there side log d.inbox.transport (reported side d log taken f r) (says side d log taken f r) id h
+  is_there = plans.sending_there side log d.inbox.transport (reported side d log collected f r) (says side d log collected f r) id h
 
   abbrev now : CallFacts
-  now = facts_now d.inbox.transport (reported side d log taken f r)
+  now = facts_now d.inbox.transport (reported side d log collected f r)
 
   had : (p : Plan) → p ≡ with_sending (facts_of side log) (session_state log) id p
   had p = sym (ap (λ b. with_half b p) (same-sending side log id ∙ h))
@@ -85,88 +85,88 @@ module _ (side : Side) (d : DriverValue) (log : Log) (taken : ℕ) (f : Follows 
 
   pub write_by_log : (bytes : List ℕ) → planned_by (calls.Write id bytes) (write_plan now id bytes)
   unfolding plan_of
-  write_by_log bytes = ap (λ (x : CallFacts). write_plan x id bytes) (facts_told side d log taken f r) ∙ had (write_plan (facts_of side log) id bytes)
+  write_by_log bytes = ap (λ (x : CallFacts). write_plan x id bytes) (facts_reported side d log collected f r) ∙ had (write_plan (facts_of side log) id bytes)
 
   pub write_planned : (bytes : List ℕ) → (t : TransportState) → t ≡ d.inbox.transport → (p : planning.Plan) → ((x : DriverAnswers) → defined_plan p ≡ write_plan (facts_now t x) id bytes) → planned_by (calls.Write id bytes) (defined_plan p)
   write_planned bytes t same p e =
-      e (reported side d log taken f r) ∙ ap (λ (u : TransportState). write_plan (facts_now u (reported side d log taken f r)) id bytes) same ∙ write_by_log bytes
+      e (reported side d log collected f r) ∙ ap (λ (u : TransportState). write_plan (facts_now u (reported side d log collected f r)) id bytes) same ∙ write_by_log bytes
 
-  pub write_told : (bytes : List ℕ) → (t : TransportState) → t ≡ d.inbox.transport → (a : Poll (Result ℕ StreamWriteError)) → a ≡ write_answer t.is_open (sending_half_now t id) bytes → write_reply a ≡ (call_effect side log (calls.Write id bytes)).reply
-  write_told bytes t same a e =
+  pub write_reported : (bytes : List ℕ) → (t : TransportState) → t ≡ d.inbox.transport → (a : Poll (Result ℕ StreamWriteError)) → a ≡ write_answer t.is_open (sending_half_now t id) bytes → write_reply a ≡ (call_effect side log (calls.Write id bytes)).reply
+  write_reported bytes t same a e =
       ap write_reply e ∙ ap (λ (u : TransportState). write_reply (write_answer u.is_open (sending_half_now u id) bytes)) same
       ∙ ap (λ (x : SendingHalf). write_reply (write_answer d.inbox.transport.is_open x bytes)) (sym kept)
       ∙ ap (λ (x : Effect). x.reply) (leads side log (calls.Write id bytes) (write_plan now id bytes) (write_by_log bytes))
 
   pub write_all_by_log : (bytes : List ℕ) → planned_by (calls.WriteAll id bytes) (write_all_plan now id bytes)
   unfolding plan_of
-  write_all_by_log bytes = ap (λ (x : CallFacts). write_all_plan x id bytes) (facts_told side d log taken f r) ∙ had (write_all_plan (facts_of side log) id bytes)
+  write_all_by_log bytes = ap (λ (x : CallFacts). write_all_plan x id bytes) (facts_reported side d log collected f r) ∙ had (write_all_plan (facts_of side log) id bytes)
 
   pub write_all_planned : (bytes : List ℕ) → (t : TransportState) → t ≡ d.inbox.transport → (p : planning.Plan) → ((x : DriverAnswers) → defined_plan p ≡ write_all_plan (facts_now t x) id bytes) → planned_by (calls.WriteAll id bytes) (defined_plan p)
   write_all_planned bytes t same p e =
-      e (reported side d log taken f r) ∙ ap (λ (u : TransportState). write_all_plan (facts_now u (reported side d log taken f r)) id bytes) same ∙ write_all_by_log bytes
+      e (reported side d log collected f r) ∙ ap (λ (u : TransportState). write_all_plan (facts_now u (reported side d log collected f r)) id bytes) same ∙ write_all_by_log bytes
 
-  pub write_all_told : (bytes : List ℕ) → (t : TransportState) → t ≡ d.inbox.transport → (a : Result WriteAll StreamWriteError) → a ≡ write_all_answer t.is_open (sending_half_now t id) bytes → write_all_reply a ≡ (call_effect side log (calls.WriteAll id bytes)).reply
-  write_all_told bytes t same a e =
+  pub write_all_reported : (bytes : List ℕ) → (t : TransportState) → t ≡ d.inbox.transport → (a : Result WriteAll StreamWriteError) → a ≡ write_all_answer t.is_open (sending_half_now t id) bytes → write_all_reply a ≡ (call_effect side log (calls.WriteAll id bytes)).reply
+  write_all_reported bytes t same a e =
       ap write_all_reply e ∙ ap (λ (u : TransportState). write_all_reply (write_all_answer u.is_open (sending_half_now u id) bytes)) same
       ∙ ap (λ (x : SendingHalf). write_all_reply (write_all_answer d.inbox.transport.is_open x bytes)) (sym kept)
       ∙ ap (λ (x : Effect). x.reply) (leads side log (calls.WriteAll id bytes) (write_all_plan now id bytes) (write_all_by_log bytes))
 
   pub finish_by_log : planned_by (calls.Finish id) (finish_plan now id)
   unfolding plan_of
-  finish_by_log = ap (λ (x : CallFacts). finish_plan x id) (facts_told side d log taken f r) ∙ had (finish_plan (facts_of side log) id)
+  finish_by_log = ap (λ (x : CallFacts). finish_plan x id) (facts_reported side d log collected f r) ∙ had (finish_plan (facts_of side log) id)
 
   pub finish_planned : (t : TransportState) → t ≡ d.inbox.transport → (p : planning.Plan) → ((x : DriverAnswers) → defined_plan p ≡ finish_plan (facts_now t x) id) → planned_by (calls.Finish id) (defined_plan p)
   finish_planned t same p e =
-      e (reported side d log taken f r) ∙ ap (λ (u : TransportState). finish_plan (facts_now u (reported side d log taken f r)) id) same ∙ finish_by_log
+      e (reported side d log collected f r) ∙ ap (λ (u : TransportState). finish_plan (facts_now u (reported side d log collected f r)) id) same ∙ finish_by_log
 
-  pub finish_told : (t : TransportState) → t ≡ d.inbox.transport → (a : Poll (Result (Unit {0}) StreamWriteError)) → a ≡ finish_answer t.is_open (sending_half_now t id) → finish_reply a ≡ (call_effect side log (calls.Finish id)).reply
-  finish_told t same a e =
+  pub finish_reported : (t : TransportState) → t ≡ d.inbox.transport → (a : Poll (Result (Unit {0}) StreamWriteError)) → a ≡ finish_answer t.is_open (sending_half_now t id) → finish_reply a ≡ (call_effect side log (calls.Finish id)).reply
+  finish_reported t same a e =
       ap finish_reply e ∙ ap (λ (u : TransportState). finish_reply (finish_answer u.is_open (sending_half_now u id))) same
       ∙ ap (λ (x : SendingHalf). finish_reply (finish_answer d.inbox.transport.is_open x)) (sym kept)
       ∙ ap (λ (x : Effect). x.reply) (leads side log (calls.Finish id) (finish_plan now id) finish_by_log)
 
   pub stopped_by_log : planned_by (calls.Stopped id) (stopped_plan now id)
   unfolding plan_of
-  stopped_by_log = ap (λ (x : CallFacts). stopped_plan x id) (facts_told side d log taken f r) ∙ had (stopped_plan (facts_of side log) id)
+  stopped_by_log = ap (λ (x : CallFacts). stopped_plan x id) (facts_reported side d log collected f r) ∙ had (stopped_plan (facts_of side log) id)
 
   pub stopped_planned : (t : TransportState) → t ≡ d.inbox.transport → (p : planning.Plan) → ((x : DriverAnswers) → defined_plan p ≡ stopped_plan (facts_now t x) id) → planned_by (calls.Stopped id) (defined_plan p)
   stopped_planned t same p e =
-      e (reported side d log taken f r) ∙ ap (λ (u : TransportState). stopped_plan (facts_now u (reported side d log taken f r)) id) same ∙ stopped_by_log
+      e (reported side d log collected f r) ∙ ap (λ (u : TransportState). stopped_plan (facts_now u (reported side d log collected f r)) id) same ∙ stopped_by_log
 
-  pub stopped_told : (t : TransportState) → t ≡ d.inbox.transport → (a : Poll StreamWriteError) → a ≡ stopped_answer t.is_open (sending_half_now t id) → stopped_by a ≡ (call_effect side log (calls.Stopped id)).reply
-  stopped_told t same a e =
+  pub stopped_reported : (t : TransportState) → t ≡ d.inbox.transport → (a : Poll StreamWriteError) → a ≡ stopped_answer t.is_open (sending_half_now t id) → stopped_by a ≡ (call_effect side log (calls.Stopped id)).reply
+  stopped_reported t same a e =
       ap stopped_by e ∙ ap (λ (u : TransportState). stopped_by (stopped_answer u.is_open (sending_half_now u id))) same
       ∙ ap (λ (x : SendingHalf). stopped_by (stopped_answer d.inbox.transport.is_open x)) (sym kept)
       ∙ ap (λ (x : Effect). x.reply) (leads side log (calls.Stopped id) (stopped_plan now id) stopped_by_log)
 
   pub priority_by_log : planned_by (calls.Priority id) (priority_plan now id)
   unfolding plan_of
-  priority_by_log = ap (λ (x : CallFacts). priority_plan x id) (facts_told side d log taken f r) ∙ had (priority_plan (facts_of side log) id)
+  priority_by_log = ap (λ (x : CallFacts). priority_plan x id) (facts_reported side d log collected f r) ∙ had (priority_plan (facts_of side log) id)
 
   pub priority_planned : (t : TransportState) → t ≡ d.inbox.transport → (p : planning.Plan) → ((x : DriverAnswers) → defined_plan p ≡ priority_plan (facts_now t x) id) → planned_by (calls.Priority id) (defined_plan p)
   priority_planned t same p e =
-      e (reported side d log taken f r) ∙ ap (λ (u : TransportState). priority_plan (facts_now u (reported side d log taken f r)) id) same ∙ priority_by_log
+      e (reported side d log collected f r) ∙ ap (λ (u : TransportState). priority_plan (facts_now u (reported side d log collected f r)) id) same ∙ priority_by_log
 
-  pub priority_told : (t : TransportState) → t ≡ d.inbox.transport → (a : Result ℤ ClosedStream) → a ≡ priority_answer (sending_half_now t id) → priority_reply a ≡ (call_effect side log (calls.Priority id)).reply
-  priority_told t same a e =
+  pub priority_reported : (t : TransportState) → t ≡ d.inbox.transport → (a : Result ℤ ClosedStream) → a ≡ priority_answer (sending_half_now t id) → priority_reply a ≡ (call_effect side log (calls.Priority id)).reply
+  priority_reported t same a e =
       ap priority_reply e ∙ ap (λ (u : TransportState). priority_reply (priority_answer (sending_half_now u id))) same
       ∙ ap (λ (x : SendingHalf). priority_reply (priority_answer x)) (sym kept)
       ∙ ap (λ (x : Effect). x.reply) (leads side log (calls.Priority id) (priority_plan now id) priority_by_log)
 
   pub reset_by_log : (code : ℕ) → planned_by (calls.ResetSend id code) (reset_plan now id code)
   unfolding plan_of
-  reset_by_log code = ap (λ (x : CallFacts). reset_plan x id code) (facts_told side d log taken f r) ∙ had (reset_plan (facts_of side log) id code)
+  reset_by_log code = ap (λ (x : CallFacts). reset_plan x id code) (facts_reported side d log collected f r) ∙ had (reset_plan (facts_of side log) id code)
 
   pub reset_planned : (code : ℕ) → (t : TransportState) → t ≡ d.inbox.transport → (p : planning.Plan) → ((x : DriverAnswers) → defined_plan p ≡ reset_plan (facts_now t x) id code) → planned_by (calls.ResetSend id code) (defined_plan p)
   reset_planned code t same p e =
-      e (reported side d log taken f r) ∙ ap (λ (u : TransportState). reset_plan (facts_now u (reported side d log taken f r)) id code) same ∙ reset_by_log code
+      e (reported side d log collected f r) ∙ ap (λ (u : TransportState). reset_plan (facts_now u (reported side d log collected f r)) id code) same ∙ reset_by_log code
 
   pub set_by_log : (p : ℤ) → planned_by (calls.SetPriority id p) (set_priority_plan now id p)
   unfolding plan_of
-  set_by_log p = ap (λ (x : CallFacts). set_priority_plan x id p) (facts_told side d log taken f r) ∙ had (set_priority_plan (facts_of side log) id p)
+  set_by_log p = ap (λ (x : CallFacts). set_priority_plan x id p) (facts_reported side d log collected f r) ∙ had (set_priority_plan (facts_of side log) id p)
 
-  pub set_told : (p : ℤ) → replies.Done ≡ (call_effect side log (calls.SetPriority id p)).reply
-  set_told p = set-reply side log now id p ∙ ap (λ (x : Effect). x.reply) (leads side log (calls.SetPriority id p) (set_priority_plan now id p) (set_by_log p))
+  pub set_reported : (p : ℤ) → replies.Done ≡ (call_effect side log (calls.SetPriority id p)).reply
+  set_reported p = set-reply side log now id p ∙ ap (λ (x : Effect). x.reply) (leads side log (calls.SetPriority id p) (set_priority_plan now id p) (set_by_log p))
 
   closed_kept : (t : TransportState) → t ≡ d.inbox.transport → is_closed (sending_half_now t id) ≡ is_closed (now.sending id)
   closed_kept t same = ap (λ (u : TransportState). is_closed (sending_half_now u id)) same ∙ ap (λ (x : SendingHalf). is_closed x) (sym kept)
@@ -177,9 +177,9 @@ module _ (side : Side) (d : DriverValue) (log : Log) (taken : ℕ) (f : Follows 
       ap (λ (x : CallRecord). Step [] x replies.Done) m ∙ set-step id p b
       ∙ ap (λ (x : Bool). if x then only_reply replies.Done else Step [] (PrioritySet id p) replies.Done) (e ∙ closed_kept t same) ∙ set_by_log p
 
-  pub reset_told : (code : ℕ) (t : TransportState) → t ≡ d.inbox.transport → (b : Bool) → b ≡ is_closed (sending_half_now t id) → (a : Result (Unit {0}) ClosedStream) → a ≡ (if b then Err (record {}) else Ok tt)
+  pub reset_reported : (code : ℕ) (t : TransportState) → t ≡ d.inbox.transport → (b : Bool) → b ≡ is_closed (sending_half_now t id) → (a : Result (Unit {0}) ClosedStream) → a ≡ (if b then Err (record {}) else Ok tt)
       → reset_reply a ≡ (call_effect side log (calls.ResetSend id code)).reply
-  reset_told code t same b e a g =
+  reset_reported code t same b e a g =
       ap reset_reply (g ∙ ap (λ (x : Bool). if x then Err (record {}) else Ok tt) (e ∙ closed_kept t same))
       ∙ reset-reply side log now id code
       ∙ ap (λ (x : Effect). x.reply) (leads side log (calls.ResetSend id code) (reset_plan now id code) (reset_by_log code))

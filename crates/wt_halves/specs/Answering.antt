@@ -30,16 +30,16 @@ MayCall call side log = may_call side log call ≡ true
 
 -- the law holds of each log of lawful turns that the driver follows, where the value stands for something of it
 abbrev pub WhereStands : DriverValue → (Side → Log → Type 0) → (Side → Log → ℕ → Type 0) → Type 0
-WhereStands d Holds Law = OfEachLog d (λ side log taken. IsReachable side log → Holds side log → Law side log taken)
+WhereStands d Holds Law = OfEachLog d (λ side log collected. IsReachable side log → Holds side log → Law side log collected)
 
 -- the answer tells the reply that the definitions give to this call
 abbrev pub RepliesTo : {T : Type 0} → DriverValue → (Side → Log → Type 0) → Call → (T → Reply) → T → Type 0
-RepliesTo d Holds call reply answer = WhereStands d Holds (λ side log taken. reply answer ≡ (call_effect side log call).reply)
+RepliesTo d Holds call reply answer = WhereStands d Holds (λ side log collected. reply answer ≡ (call_effect side log call).reply)
 
 -- the driver then follows the log after this call
 abbrev pub LeadsOn : DriverValue → (Side → Log → Type 0) → Call → DriverValue → Type 0
-LeadsOn d Holds call later = WhereStands d Holds (λ side log taken. Follows side later (call_effect side log call).log taken)
+LeadsOn d Holds call later = WhereStands d Holds (λ side log collected. Follows side later (call_effect side log call).log collected)
 
 -- this stands for the log after this call
-abbrev pub StandsBehind : DriverValue → (Side → Log → Type 0) → Call → (Side → Log → Type 0) → Type 0
-StandsBehind d Holds call StandsThen = WhereStands d Holds (λ side log taken. StandsThen side (call_effect side log call).log)
+abbrev pub StandsAfter : DriverValue → (Side → Log → Type 0) → Call → (Side → Log → Type 0) → Type 0
+StandsAfter d Holds call StandsThen = WhereStands d Holds (λ side log collected. StandsThen side (call_effect side log call).log)

@@ -33,21 +33,21 @@ pub fn transport(d: &Driver) -> &Transport
 
 /// Performs the plan of a call that may come, and tells its reply.
 pub fn perform(alloc: Global, d: &mut Driver, plan: Plan) -> Result<Reply, OutOfMemory>
-    ensures reply { (side : Side) (log : Log) (taken : ℕ) (call : Call) → Follows side d.old log taken
+    ensures reply { (side : Side) (log : Log) (collected : ℕ) (call : Call) → Follows side d.old log collected
         → defined_plan plan ≡ plan_of (facts_of side log) (session_state log) call
         → IfOk result (λ reply. reply ≡ (call_effect side log call).reply) }
-    ensures log { (side : Side) (log : Log) (taken : ℕ) (call : Call) → Follows side d.old log taken → IsReachable side log
+    ensures log { (side : Side) (log : Log) (collected : ℕ) (call : Call) → Follows side d.old log collected → IsReachable side log
         → may_call side log call ≡ true → defined_plan plan ≡ plan_of (facts_of side log) (session_state log) call
-        → OnOk result (Follows side d.new (call_effect side log call).log taken) }
+        → OnOk result (Follows side d.new (call_effect side log call).log collected) }
 {
     acting::perform(alloc, d, plan)
 }
 
 /// Performs the plan of a call that may come, whose reply its answer tells.
 pub fn carry_out(alloc: Global, d: &mut Driver, plan: Plan) -> Result<(), OutOfMemory>
-    ensures log { (side : Side) (log : Log) (taken : ℕ) (call : Call) → Follows side d.old log taken → IsReachable side log
+    ensures log { (side : Side) (log : Log) (collected : ℕ) (call : Call) → Follows side d.old log collected → IsReachable side log
         → may_call side log call ≡ true → defined_plan plan ≡ plan_of (facts_of side log) (session_state log) call
-        → OnOk result (Follows side d.new (call_effect side log call).log taken) }
+        → OnOk result (Follows side d.new (call_effect side log call).log collected) }
 {
     let _reply = perform(alloc, d, plan)?;
     Ok(())
@@ -56,9 +56,9 @@ pub fn carry_out(alloc: Global, d: &mut Driver, plan: Plan) -> Result<(), OutOfM
 /// A call that may come, sends nothing and leaves a driver at rest recorded this. It takes no memory.
 pub fn record(d: &mut Driver, made: &Record)
     requires { leaves_at_rest (record_of made.now) ≡ true }
-    ensures log { (side : Side) (log : Log) (taken : ℕ) (call : Call) (reply : Reply) → Follows side d.old log taken → IsReachable side log
+    ensures log { (side : Side) (log : Log) (collected : ℕ) (call : Call) (reply : Reply) → Follows side d.old log collected → IsReachable side log
         → may_call side log call ≡ true → session.Step [] (record_of made.now) reply ≡ plan_of (facts_of side log) (session_state log) call
-        → Follows side d.new (call_effect side log call).log taken }
+        → Follows side d.new (call_effect side log call).log collected }
 {
     d.note_at_rest(made);
 }

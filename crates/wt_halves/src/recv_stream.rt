@@ -144,7 +144,7 @@ impl RecvStream {
         answer
     }
 
-    /// Gives the half up: the peer is told this code, where the connection is open.
+    /// Gives the half up: the peer gets this code, where the connection is open.
     ///
     /// # Errors
     ///

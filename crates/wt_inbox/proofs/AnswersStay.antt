@@ -23,7 +23,7 @@ use Rattle.wt_seam.specs.Step.{end_now, unread_now}
 use Rattle.wt_inbox.specs.Quiet.{quiet}
 use Rattle.wt_inbox.specs.KeptReaders.{KeptReader, outcome_after, outcome_now, reading_of}
 use Rattle.wt_inbox.specs.State.{InboxState, SameAt, bi_verdict_now, control_now, is_over_by_bytes, response_now, session_now, uni_verdict_now, with_transport}
-use Rattle.wt_inbox.specs.Moves.{BiPulled, BiTaken, ControlPulled, PulledIn, ResponsePulled, ResponseTaken, SameReaders, SessionPulled, SessionTaken, TakenIn, UniPulled, UniTaken}
+use Rattle.wt_inbox.specs.Moves.{BiPulled, BiRemoved, ControlPulled, PulledIn, ResponsePulled, ResponseRemoved, SameReaders, SessionPulled, SessionRemoved, TakenIn, UniPulled, UniRemoved}
 use Rattle.wt_inbox.proofs.QuietLaws.{same_end}
 use Rattle.wt_inbox.proofs.Reaching.{answered, asked-by, asked-read, asked-same}
 
@@ -141,10 +141,10 @@ module _ (x y : InboxState) (id : ℕ) (p : UniPulled x y id) where
   pub uni-read : is_final (uni_verdict_now x id) ≡ false → unread_now y.transport id ≡ []
   uni-read = pulled-read uni_lawful uni-kind p (λ s b. refl)
 
-  pub uni-released-quiet : (z : InboxState) → UniTaken y z id → quiet z.transport ≡ quiet x.transport
+  pub uni-released-quiet : (z : InboxState) → UniRemoved y z id → quiet z.transport ≡ quiet x.transport
   uni-released-quiet z q = released-quiet uni_lawful uni-kind p q
 
-  pub uni-released-others : (z : InboxState) → UniTaken y z id → (k : ℕ) → (id == k) ≡ false → SameAt x z k
+  pub uni-released-others : (z : InboxState) → UniRemoved y z id → (k : ℕ) → (id == k) ≡ false → SameAt x z k
   uni-released-others z q = released-others uni_lawful uni-kind p q
 
 module _ (x y : InboxState) (id : ℕ) (p : BiPulled x y id) where
@@ -163,10 +163,10 @@ module _ (x y : InboxState) (id : ℕ) (p : BiPulled x y id) where
   pub bi-read : is_final (bi_verdict_now x id) ≡ false → unread_now y.transport id ≡ []
   bi-read = pulled-read bi_lawful bi-kind p (λ s b. refl)
 
-  pub bi-released-quiet : (z : InboxState) → BiTaken y z id → quiet z.transport ≡ quiet x.transport
+  pub bi-released-quiet : (z : InboxState) → BiRemoved y z id → quiet z.transport ≡ quiet x.transport
   bi-released-quiet z q = released-quiet bi_lawful bi-kind p q
 
-  pub bi-released-others : (z : InboxState) → BiTaken y z id → (k : ℕ) → (id == k) ≡ false → SameAt x z k
+  pub bi-released-others : (z : InboxState) → BiRemoved y z id → (k : ℕ) → (id == k) ≡ false → SameAt x z k
   bi-released-others z q = released-others bi_lawful bi-kind p q
 
 module _ (x y : InboxState) (id : ℕ) (p : ResponsePulled x y id) where
@@ -185,10 +185,10 @@ module _ (x y : InboxState) (id : ℕ) (p : ResponsePulled x y id) where
   pub response-read : is_answered (response_now x id) ≡ false → unread_now y.transport id ≡ []
   response-read e = pulled-read response_lawful response-kind p (λ s b. refl) (waits (response_now x id) e)
 
-  pub response-released-quiet : (z : InboxState) → ResponseTaken y z id → quiet z.transport ≡ quiet x.transport
+  pub response-released-quiet : (z : InboxState) → ResponseRemoved y z id → quiet z.transport ≡ quiet x.transport
   response-released-quiet z q = released-quiet response_lawful response-kind p q
 
-  pub response-released-others : (z : InboxState) → ResponseTaken y z id → (k : ℕ) → (id == k) ≡ false → SameAt x z k
+  pub response-released-others : (z : InboxState) → ResponseRemoved y z id → (k : ℕ) → (id == k) ≡ false → SameAt x z k
   response-released-others z q = released-others response_lawful response-kind p q
 
 module _ (x y : InboxState) (id : ℕ) (p : ControlPulled x y id) where
@@ -223,8 +223,8 @@ module _ (x y : InboxState) (id : ℕ) (p : SessionPulled x y id) where
   pub session-over : (k : ℕ) → is_over_by_bytes y k ≡ is_over_by_bytes x k
   session-over k = ap is_over (asked-by tt session_decides session_lawful.steady session_unfinished is_over session_walk_of session_lawful.reaches x.sessions y.sessions x.transport y.transport id p.pulled k Running)
 
-  pub session-released-quiet : (z : InboxState) → SessionTaken y z id → quiet z.transport ≡ quiet x.transport
+  pub session-released-quiet : (z : InboxState) → SessionRemoved y z id → quiet z.transport ≡ quiet x.transport
   session-released-quiet z q = released-quiet session_lawful session-kind p q
 
-  pub session-released-others : (z : InboxState) → SessionTaken y z id → (k : ℕ) → (id == k) ≡ false → SameAt x z k
+  pub session-released-others : (z : InboxState) → SessionRemoved y z id → (k : ℕ) → (id == k) ≡ false → SameAt x z k
   session-released-others z q = released-others session_lawful session-kind p q

@@ -36,7 +36,7 @@ module _ (t : TransportState) (id n : ℕ) where
     here = here-if (has_stream t.streams id) refl;
     others = others-if (has_stream t.streams id) refl;
     quiet = quiet-if (has_stream t.streams id);
-    refines = λ side log position untaken r. consume_refines side t log position untaken r id n l;
+    refines = λ side log position uncollected r. consume_refines side t log position uncollected r id n l;
   }
 
 -- ---- one call after another
@@ -60,7 +60,7 @@ consumes-twice t u v id m n a b =
       here = b.here ∙ (ap (λ xs. drop n xs) a.here ∙ drop-drop n m (unread_now t id));
       others = λ k d. b.others k d ∙ a.others k d;
       quiet = b.quiet ∙ a.quiet;
-      refines = λ side log position untaken r.
-          subst (λ (p : ℕ → ReadPosition). Refines side v log p untaken) (consumed-twice position id m n)
-          (b.refines side log (position_after position id m) untaken (a.refines side log position untaken r));
+      refines = λ side log position uncollected r.
+          subst (λ (p : ℕ → ReadPosition). Refines side v log p uncollected) (consumed-twice position id m n)
+          (b.refines side log (position_after position id m) uncollected (a.refines side log position uncollected r));
     }

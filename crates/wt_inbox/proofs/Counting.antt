@@ -7,7 +7,7 @@ use Rattle.std.proofs.lemmas.List.Edits.{length-remove}
 use Rattle.std.proofs.lemmas.List.{get_or_read}
 use Rattle.wt_inbox.specs.KeptReaders.{HasOneEach, KeptReader, StandsAt, is_kept, no_kept}
 use Rattle.wt_inbox.proofs.Shelves.{found-at, none-passes}
-use Rattle.wt_inbox.specs.Moves.{BiPulled, BiTaken, ControlPulled, ResponsePulled, ResponseTaken, SessionPulled, SessionTaken, UniPulled, UniTaken}
+use Rattle.wt_inbox.specs.Moves.{BiPulled, BiRemoved, ControlPulled, ResponsePulled, ResponseRemoved, SessionPulled, SessionRemoved, UniPulled, UniRemoved}
 use Rattle.wt_inbox.specs.State.{InboxState, readers_now}
 
 -- ---- tests
@@ -161,25 +161,25 @@ module _ (x y : InboxState) (id : ℕ) where
   session-readers p = let r = ap readers_now p.rest in more-by (is_kept x.sessions id) (length x.sessions) (length y.sessions) (readers_now x) (readers_now y) p.pulled.count (omega (arith, r))
 
   module _ (z : InboxState) where
-    pub uni-released-readers : UniPulled x y id → UniTaken y z id → readers_now z ≡ (if is_kept x.unis id then readers_now x - 1 else readers_now x)
+    pub uni-released-readers : UniPulled x y id → UniRemoved y z id → readers_now z ≡ (if is_kept x.unis id then readers_now x - 1 else readers_now x)
     uni-released-readers p q =
         let r = ap readers_now p.rest in
         let s = ap readers_now q.rest in
         less-by (is_kept x.unis id) (length x.unis) (length y.unis) (length z.unis) (readers_now x) (readers_now z) p.pulled.count (q.count ∙ by-kept (is_kept y.unis id) (length y.unis) p.pulled.kept) (omega (arith, r, s)) (kept-some x.unis id)
 
-    pub bi-released-readers : BiPulled x y id → BiTaken y z id → readers_now z ≡ (if is_kept x.bis id then readers_now x - 1 else readers_now x)
+    pub bi-released-readers : BiPulled x y id → BiRemoved y z id → readers_now z ≡ (if is_kept x.bis id then readers_now x - 1 else readers_now x)
     bi-released-readers p q =
         let r = ap readers_now p.rest in
         let s = ap readers_now q.rest in
         less-by (is_kept x.bis id) (length x.bis) (length y.bis) (length z.bis) (readers_now x) (readers_now z) p.pulled.count (q.count ∙ by-kept (is_kept y.bis id) (length y.bis) p.pulled.kept) (omega (arith, r, s)) (kept-some x.bis id)
 
-    pub response-released-readers : ResponsePulled x y id → ResponseTaken y z id → readers_now z ≡ (if is_kept x.responses id then readers_now x - 1 else readers_now x)
+    pub response-released-readers : ResponsePulled x y id → ResponseRemoved y z id → readers_now z ≡ (if is_kept x.responses id then readers_now x - 1 else readers_now x)
     response-released-readers p q =
         let r = ap readers_now p.rest in
         let s = ap readers_now q.rest in
         less-by (is_kept x.responses id) (length x.responses) (length y.responses) (length z.responses) (readers_now x) (readers_now z) p.pulled.count (q.count ∙ by-kept (is_kept y.responses id) (length y.responses) p.pulled.kept) (omega (arith, r, s)) (kept-some x.responses id)
 
-    pub session-released-readers : SessionPulled x y id → SessionTaken y z id → readers_now z ≡ (if is_kept x.sessions id then readers_now x - 1 else readers_now x)
+    pub session-released-readers : SessionPulled x y id → SessionRemoved y z id → readers_now z ≡ (if is_kept x.sessions id then readers_now x - 1 else readers_now x)
     session-released-readers p q =
         let r = ap readers_now p.rest in
         let s = ap readers_now q.rest in

@@ -36,8 +36,8 @@ use Rattle.wt_proto.specs.ResponseWalk.{response_offset}
 
 -- an outcome with an offset: it is within the bytes, and the bytes up to it make the outcome final
 pub record IsOffset {O : Type 0} (final : O → Bool) (outcome_of : List ℕ → StreamEnd → O) (offset : O → Option ℕ) : Type 0 where
-  pub within : (bytes : List ℕ) (end : StreamEnd) (at : ℕ) → offset (outcome_of bytes end) ≡ Some at → at ≤ length bytes
-  pub decides : (bytes : List ℕ) (end : StreamEnd) (at : ℕ) → offset (outcome_of bytes end) ≡ Some at → final (outcome_of (take at bytes) Running) ≡ true
+  pub within : (bytes : List ℕ) (end : StreamEnd) (start : ℕ) → offset (outcome_of bytes end) ≡ Some start → start ≤ length bytes
+  pub decides : (bytes : List ℕ) (end : StreamEnd) (start : ℕ) → offset (outcome_of bytes end) ≡ Some start → final (outcome_of (take start bytes) Running) ≡ true
 
 module _ {S O : Type 0} (decide : S → List ℕ → Step S O) (steady : IsSteady decide) (place_of : S → ℕ) (offset : O → Option ℕ)
     (goes : (s : S) (xs : List ℕ) (t : S) (n : ℕ) → decide s xs ≡ Goes t n → place_of t ≡ place_of s + n)
@@ -65,7 +65,7 @@ module _ {S O : Type 0} (decide : S → List ℕ → Step S O) (steady : IsStead
       let p = again t None (n - 1) f in
       let some : 1 ≤ n = steady.some s (b ∷ xs) n (ap (λ x. size_of_step x) e) in
       let same_step : decide s (b ∷ take p.count xs) ≡ Goes t n = front-same s b xs p.count n (Goes t n) e refl (omega (arith, p.far)) p.within in
-      let next : place_of t ≡ place_of s + n = goes s (b ∷ xs) t n e in
+      let following : place_of t ≡ place_of s + n = goes s (b ∷ xs) t n e in
       record {
         count = suc p.count;
         within = omega (arith, p.within);
@@ -108,7 +108,7 @@ module _ {S O : Type 0} (decide : S → List ℕ → Step S O) (steady : IsStead
 
   module _ (start : S) (unfinished : StreamEnd → S → Bool → O) (final : O → Bool) (outcome_of : List ℕ → StreamEnd → O)
       (reaches : (bytes : List ℕ) (end : StreamEnd) → outcome_of bytes end ≡ outcome_at unfinished end (whole_walk decide start bytes))
-      (first : place_of start ≡ 0) (none : (end : StreamEnd) (s : S) (b : Bool) → offset (unfinished end s b) ≡ None) (told_final : (o : O) (g : ℕ) → offset o ≡ Some g → final o ≡ true) where
+      (first : place_of start ≡ 0) (none : (end : StreamEnd) (s : S) (b : Bool) → offset (unfinished end s b) ≡ None) (reported_final : (o : O) (g : ℕ) → offset o ≡ Some g → final o ≡ true) where
     -- the walk stopped with what tells an offset
     stopped-with : (end : StreamEnd) (g : ℕ) (r : Reached S O) → offset (outcome_at unfinished end r) ≡ Some g → (o : O) × (r.stop ≡ Some o) × (offset o ≡ Some g)
     stopped-with end g r e = by r.stop refl
@@ -120,16 +120,16 @@ module _ {S O : Type 0} (decide : S → List ℕ → Step S O) (steady : IsStead
 
     pub is_offset : IsOffset final outcome_of offset
     is_offset = record {
-      within = λ bytes end at e. (let s = stopped-with end at (whole_walk decide start bytes) (ap offset (sym (reaches bytes end)) ∙ e) in
+      within = λ bytes end from_offset e. (let s = stopped-with end from_offset (whole_walk decide start bytes) (ap offset (sym (reaches bytes end)) ∙ e) in
           let p = early-at bytes start None 0 s.0 s.1 in
-          let reported = p.reported at s.2 refl in omega (arith, p.within));
-      decides = λ bytes end at e. (let s = stopped-with end at (whole_walk decide start bytes) (ap offset (sym (reaches bytes end)) ∙ e) in
+          let reported = p.reported from_offset s.2 refl in omega (arith, p.within));
+      decides = λ bytes end from_offset e. (let s = stopped-with end from_offset (whole_walk decide start bytes) (ap offset (sym (reaches bytes end)) ∙ e) in
           let p = early-at bytes start None 0 s.0 s.1 in
-          let reported = p.reported at s.2 refl in
-          let same : p.count ≡ at = omega arith in
-          ap final (reaches (take at bytes) Running
-          ∙ ap (λ (stop : Option O). unwrap_or stop (unfinished Running (whole_walk decide start (take at bytes)).state (whole_walk decide start (take at bytes)).between)) (ap (λ i. (whole_walk decide start (take i bytes)).stop) (sym same) ∙ p.early))
-          ∙ told_final s.0 at s.2);
+          let reported = p.reported from_offset s.2 refl in
+          let same : p.count ≡ from_offset = omega arith in
+          ap final (reaches (take from_offset bytes) Running
+          ∙ ap (λ (stop : Option O). unwrap_or stop (unfinished Running (whole_walk decide start (take from_offset bytes)).state (whole_walk decide start (take from_offset bytes)).between)) (ap (λ i. (whole_walk decide start (take i bytes)).stop) (sym same) ∙ p.early))
+          ∙ reported_final s.0 from_offset s.2);
     }
 
 -- ---- verdicts
@@ -143,10 +143,10 @@ end-none Running = refl
 end-none Fin = refl
 end-none (Reset code) = refl
 
-session-told : (id at g : ℕ) → verdict_offset (session_verdict id at) ≡ Some g → g ≡ at
-session-told id at g = by (id % 4 == 0)
+session-reported : (id offset g : ℕ) → verdict_offset (session_verdict id offset) ≡ Some g → g ≡ offset
+session-reported id offset g = by (id % 4 == 0)
   where
-    by : (b : Bool) → verdict_offset (if b then verdicts.WebTransport id at else verdicts.Fault Id) ≡ Some g → g ≡ at
+    by : (b : Bool) → verdict_offset (if b then verdicts.WebTransport id offset else verdicts.Fault Id) ≡ Some g → g ≡ offset
     by true e = cc
     by false e = absurd cc
 
@@ -154,22 +154,22 @@ session-told id at g = by (id % 4 == 0)
 abbrev Tells : Verdict × ℕ → Type 0
 Tells p = (g : ℕ) → verdict_offset p.0 ≡ Some g → g ≡ p.1
 
-plain-tells : (v : Verdict) (at : ℕ) (p : Verdict × ℕ) → ((g : ℕ) → verdict_offset v ≡ Some g → g ≡ at) → Some (v, at) ≡ Some p → Tells p
-plain-tells v at p f e = subst (λ (q : Verdict × ℕ). Tells q) (some-is e) f
+plain-tells : (v : Verdict) (offset : ℕ) (p : Verdict × ℕ) → ((g : ℕ) → verdict_offset v ≡ Some g → g ≡ offset) → Some (v, offset) ≡ Some p → Tells p
+plain-tells v offset p f e = subst (λ (q : Verdict × ℕ). Tells q) (some-is e) f
   where
     some-is : {A : Type 0} {x y : A} → Some x ≡ Some y → x ≡ y
     some-is h = cc
 
-session-header-tells : (at : ℕ) (s : Option (ℕ × ℕ)) (p : Verdict × ℕ) → session_header_at at s ≡ Some p → Tells p
-session-header-tells at None p e = absurd cc
-session-header-tells at (Some s) p e = plain-tells (session_verdict s.0 (at + s.1)) (at + s.1) p (λ g. session-told s.0 (at + s.1) g) e
+session-header-tells : (offset : ℕ) (s : Option (ℕ × ℕ)) (p : Verdict × ℕ) → session_header_at offset s ≡ Some p → Tells p
+session-header-tells offset None p e = absurd cc
+session-header-tells offset (Some s) p e = plain-tells (session_verdict s.0 (offset + s.1)) (offset + s.1) p (λ g. session-reported s.0 (offset + s.1) g) e
 
-by_type-tells : (kind at : ℕ) (x : Option (Verdict × ℕ)) (p : Verdict × ℕ) → header_by_type kind at x ≡ Some p → (x ≡ Some p → Tells p) → Tells p
-by_type-tells kind at x p e f =
-    chosen_by (kind == 0x00) _ _ _ e (plain-tells (verdicts.Control at) at p (λ g h. cc)) (λ e2.
-    chosen_by (kind == 0x02) _ _ _ e2 (plain-tells (verdicts.Encoder at) at p (λ g h. cc)) (λ e3.
-    chosen_by (kind == 0x03) _ _ _ e3 (plain-tells (verdicts.Decoder at) at p (λ g h. cc)) (λ e4.
-    chosen_by (kind == 0x54) _ _ _ e4 f (plain-tells verdicts.Dropped at p (λ g h. absurd cc)))))
+by_type-tells : (kind offset : ℕ) (x : Option (Verdict × ℕ)) (p : Verdict × ℕ) → header_by_type kind offset x ≡ Some p → (x ≡ Some p → Tells p) → Tells p
+by_type-tells kind offset x p e f =
+    chosen_by (kind == 0x00) _ _ _ e (plain-tells (verdicts.Control offset) offset p (λ g h. cc)) (λ e2.
+    chosen_by (kind == 0x02) _ _ _ e2 (plain-tells (verdicts.Encoder offset) offset p (λ g h. cc)) (λ e3.
+    chosen_by (kind == 0x03) _ _ _ e3 (plain-tells (verdicts.Decoder offset) offset p (λ g h. cc)) (λ e4.
+    chosen_by (kind == 0x54) _ _ _ e4 f (plain-tells verdicts.Dropped offset p (λ g h. absurd cc)))))
 
 header-tells : (bytes : List ℕ) (t : Option (ℕ × ℕ)) (p : Verdict × ℕ) → typed_header_at bytes t ≡ Some p → Tells p
 header-tells bytes None p e = absurd cc
@@ -200,77 +200,77 @@ uni_offset = is_offset uni_decides uni_lawful.steady (λ s. 0) verdict_offset un
 
 -- ---- bidirectional streams
 
-bi-goes-by : (at : ℕ) (h : Option (frames.Frame × ℕ)) (t n : ℕ) → step_of_item (bi_effect at) h ≡ Goes t n → t ≡ at + n
-bi-goes-by at (Some (frames.Skipped kind, m)) t n e = cc
-bi-goes-by at _ t n e = absurd cc
+bi-goes-by : (offset : ℕ) (h : Option (frames.Frame × ℕ)) (t n : ℕ) → step_of_item (bi_effect offset) h ≡ Goes t n → t ≡ offset + n
+bi-goes-by offset (Some (frames.Skipped kind, m)) t n e = cc
+bi-goes-by offset _ t n e = absurd cc
 
-bi-goes : (at : ℕ) (xs : List ℕ) (t n : ℕ) → bi_decides at xs ≡ Goes t n → t ≡ at + n
+bi-goes : (offset : ℕ) (xs : List ℕ) (t n : ℕ) → bi_decides offset xs ≡ Goes t n → t ≡ offset + n
 unfolding bi_decides
-bi-goes at xs t n e = bi-goes-by at (frames.frame_at varint_at xs) t n e
+bi-goes offset xs t n e = bi-goes-by offset (frames.frame_at varint_at xs) t n e
 
-parsed-told : (at : ℕ) (r : Result Fields HeadersParseError) (g : ℕ) → verdict_offset (parsed_verdict at r) ≡ Some g → g ≡ at
-parsed-told at (Ok request) g e = cc
-parsed-told at (Err MethodNotConnect) g e = absurd cc
-parsed-told at (Err Other) g e = absurd cc
+parsed-reported : (offset : ℕ) (r : Result Fields HeadersParseError) (g : ℕ) → verdict_offset (parsed_verdict offset r) ≡ Some g → g ≡ offset
+parsed-reported offset (Ok request) g e = cc
+parsed-reported offset (Err MethodNotConnect) g e = absurd cc
+parsed-reported offset (Err Other) g e = absurd cc
 
-headers-told : (at : ℕ) (r : Result Fields ErrorCode) (g : ℕ) → verdict_offset (headers_verdict at r) ≡ Some g → g ≡ at
-headers-told at (Ok fields) g e = parsed-told at (request_of fields) g e
-headers-told at (Err fault) g e = absurd cc
+headers-reported : (offset : ℕ) (r : Result Fields ErrorCode) (g : ℕ) → verdict_offset (headers_verdict offset r) ≡ Some g → g ≡ offset
+headers-reported offset (Ok fields) g e = parsed-reported offset (request_of fields) g e
+headers-reported offset (Err fault) g e = absurd cc
 
 -- an outcome that stops a walk tells where the item ends, or nothing
-told-there : {S O : Type 0} (offset : O → Option ℕ) (at m : ℕ) (v o : O) (n g : ℕ) → ((k : ℕ) → offset v ≡ Some k → k ≡ at + m) → (step : Step S O) → step ≡ Stops v m → step ≡ Stops o n → offset o ≡ Some g → g ≡ at + n
-told-there offset at m v o n g f step is e t =
+reported-there : {S O : Type 0} (offset : O → Option ℕ) (start m : ℕ) (v o : O) (n g : ℕ) → ((k : ℕ) → offset v ≡ Some k → k ≡ start + m) → (step : Step S O) → step ≡ Stops v m → step ≡ Stops o n → offset o ≡ Some g → g ≡ start + n
+reported-there offset start m v o n g f step is e t =
     let same : v ≡ o = cc in
     let size : m ≡ n = cc in
-    let reported : g ≡ at + m = f g (ap offset same ∙ t) in
+    let reported : g ≡ start + m = f g (ap offset same ∙ t) in
     omega arith
 
-bi-stops-by : (at : ℕ) (h : Option (frames.Frame × ℕ)) (o : Verdict) (n g : ℕ) → step_of_item (bi_effect at) h ≡ Stops o n → verdict_offset o ≡ Some g → g ≡ at + n
-bi-stops-by at None o n g e t = absurd cc
-bi-stops-by at (Some (frames.Skipped kind, m)) o n g e t = absurd cc
-bi-stops-by at (Some (frames.Signal id, m)) o n g e t = told-there verdict_offset at m _ o n g (λ k. session-told id (at + m) k) (bi_effect at m (frames.Signal id)) refl e t
-bi-stops-by at (Some (frames.Headers payload, m)) o n g e t = told-there verdict_offset at m _ o n g (λ k. headers-told (at + m) (headers_of payload) k) (bi_effect at m (frames.Headers payload)) refl e t
-bi-stops-by at (Some (frames.TooLong, m)) o n g e t = told-there verdict_offset at m _ o n g (λ k h. absurd cc) (bi_effect at m (frames.TooLong)) refl e t
-bi-stops-by at (Some (frames.Data payload, m)) o n g e t = told-there verdict_offset at m _ o n g (λ k h. absurd cc) (bi_effect at m (frames.Data payload)) refl e t
-bi-stops-by at (Some (frames.Settings payload, m)) o n g e t = told-there verdict_offset at m _ o n g (λ k h. absurd cc) (bi_effect at m (frames.Settings payload)) refl e t
+bi-stops-by : (offset : ℕ) (h : Option (frames.Frame × ℕ)) (o : Verdict) (n g : ℕ) → step_of_item (bi_effect offset) h ≡ Stops o n → verdict_offset o ≡ Some g → g ≡ offset + n
+bi-stops-by offset None o n g e t = absurd cc
+bi-stops-by offset (Some (frames.Skipped kind, m)) o n g e t = absurd cc
+bi-stops-by offset (Some (frames.Signal id, m)) o n g e t = reported-there verdict_offset offset m _ o n g (λ k. session-reported id (offset + m) k) (bi_effect offset m (frames.Signal id)) refl e t
+bi-stops-by offset (Some (frames.Headers payload, m)) o n g e t = reported-there verdict_offset offset m _ o n g (λ k. headers-reported (offset + m) (headers_of payload) k) (bi_effect offset m (frames.Headers payload)) refl e t
+bi-stops-by offset (Some (frames.TooLong, m)) o n g e t = reported-there verdict_offset offset m _ o n g (λ k h. absurd cc) (bi_effect offset m (frames.TooLong)) refl e t
+bi-stops-by offset (Some (frames.Data payload, m)) o n g e t = reported-there verdict_offset offset m _ o n g (λ k h. absurd cc) (bi_effect offset m (frames.Data payload)) refl e t
+bi-stops-by offset (Some (frames.Settings payload, m)) o n g e t = reported-there verdict_offset offset m _ o n g (λ k h. absurd cc) (bi_effect offset m (frames.Settings payload)) refl e t
 
-bi-stops : (at : ℕ) (xs : List ℕ) (o : Verdict) (n g : ℕ) → bi_decides at xs ≡ Stops o n → verdict_offset o ≡ Some g → g ≡ at + n
+bi-stops : (offset : ℕ) (xs : List ℕ) (o : Verdict) (n g : ℕ) → bi_decides offset xs ≡ Stops o n → verdict_offset o ≡ Some g → g ≡ offset + n
 unfolding bi_decides
-bi-stops at xs o n g e t = bi-stops-by at (frames.frame_at varint_at xs) o n g e t
+bi-stops offset xs o n g e t = bi-stops-by offset (frames.frame_at varint_at xs) o n g e t
 
 pub bi_offset : IsOffset is_final bi_verdict_of verdict_offset
-bi_offset = is_offset bi_decides bi_lawful.steady (λ at. at) verdict_offset bi-goes bi-stops 0 bi_unfinished is_final bi_verdict_of bi_lawful.reaches refl (λ end s b. end-none end) verdict-final
+bi_offset = is_offset bi_decides bi_lawful.steady (λ offset. offset) verdict_offset bi-goes bi-stops 0 bi_unfinished is_final bi_verdict_of bi_lawful.reaches refl (λ end s b. end-none end) verdict-final
 
 -- ---- responses
 
-response-goes-by : (at : ℕ) (h : Option (frames.Frame × ℕ)) (t n : ℕ) → step_of_item (response_effect at) h ≡ Goes t n → t ≡ at + n
-response-goes-by at (Some (frames.Skipped kind, m)) t n e = cc
-response-goes-by at _ t n e = absurd cc
+response-goes-by : (offset : ℕ) (h : Option (frames.Frame × ℕ)) (t n : ℕ) → step_of_item (response_effect offset) h ≡ Goes t n → t ≡ offset + n
+response-goes-by offset (Some (frames.Skipped kind, m)) t n e = cc
+response-goes-by offset _ t n e = absurd cc
 
-response-goes : (at : ℕ) (xs : List ℕ) (t n : ℕ) → response_decides at xs ≡ Goes t n → t ≡ at + n
+response-goes : (offset : ℕ) (xs : List ℕ) (t n : ℕ) → response_decides offset xs ≡ Goes t n → t ≡ offset + n
 unfolding response_decides
-response-goes at xs t n e = response-goes-by at (frames.frame_at frames.session_id_ignored xs) t n e
+response-goes offset xs t n e = response-goes-by offset (frames.frame_at frames.session_id_ignored xs) t n e
 
-parsed-response-told : (at : ℕ) (r : Result Fields BadStatus) (g : ℕ) → response_offset (parsed_response at r) ≡ Some g → g ≡ at
-parsed-response-told at (Ok response) g e = cc
-parsed-response-told at (Err bad) g e = absurd cc
+parsed-response-reported : (offset : ℕ) (r : Result Fields BadStatus) (g : ℕ) → response_offset (parsed_response offset r) ≡ Some g → g ≡ offset
+parsed-response-reported offset (Ok response) g e = cc
+parsed-response-reported offset (Err bad) g e = absurd cc
 
-response-told : (at : ℕ) (r : Result Fields ErrorCode) (g : ℕ) → response_offset (headers_response at r) ≡ Some g → g ≡ at
-response-told at (Ok fields) g e = parsed-response-told at (response_of fields) g e
-response-told at (Err fault) g e = absurd cc
+response-reported : (offset : ℕ) (r : Result Fields ErrorCode) (g : ℕ) → response_offset (headers_response offset r) ≡ Some g → g ≡ offset
+response-reported offset (Ok fields) g e = parsed-response-reported offset (response_of fields) g e
+response-reported offset (Err fault) g e = absurd cc
 
-response-stops-by : (at : ℕ) (h : Option (frames.Frame × ℕ)) (o : ResponseWalk) (n g : ℕ) → step_of_item (response_effect at) h ≡ Stops o n → response_offset o ≡ Some g → g ≡ at + n
-response-stops-by at None o n g e t = absurd cc
-response-stops-by at (Some (frames.Skipped kind, m)) o n g e t = absurd cc
-response-stops-by at (Some (frames.Signal id, m)) o n g e t = told-there response_offset at m _ o n g (λ k h. absurd cc) (response_effect at m (frames.Signal id)) refl e t
-response-stops-by at (Some (frames.Headers payload, m)) o n g e t = told-there response_offset at m _ o n g (λ k. response-told (at + m) (headers_of payload) k) (response_effect at m (frames.Headers payload)) refl e t
-response-stops-by at (Some (frames.TooLong, m)) o n g e t = told-there response_offset at m _ o n g (λ k h. absurd cc) (response_effect at m (frames.TooLong)) refl e t
-response-stops-by at (Some (frames.Data payload, m)) o n g e t = told-there response_offset at m _ o n g (λ k h. absurd cc) (response_effect at m (frames.Data payload)) refl e t
-response-stops-by at (Some (frames.Settings payload, m)) o n g e t = told-there response_offset at m _ o n g (λ k h. absurd cc) (response_effect at m (frames.Settings payload)) refl e t
+response-stops-by : (offset : ℕ) (h : Option (frames.Frame × ℕ)) (o : ResponseWalk) (n g : ℕ) → step_of_item (response_effect offset) h ≡ Stops o n → response_offset o ≡ Some g → g ≡ offset + n
+response-stops-by offset None o n g e t = absurd cc
+response-stops-by offset (Some (frames.Skipped kind, m)) o n g e t = absurd cc
+response-stops-by offset (Some (frames.Signal id, m)) o n g e t = reported-there response_offset offset m _ o n g (λ k h. absurd cc) (response_effect offset m (frames.Signal id)) refl e t
+response-stops-by offset (Some (frames.Headers payload, m)) o n g e t = reported-there response_offset offset m _ o n g (λ k. response-reported (offset + m) (headers_of payload) k) (response_effect offset m (frames.Headers payload)) refl e t
+response-stops-by offset (Some (frames.TooLong, m)) o n g e t = reported-there response_offset offset m _ o n g (λ k h. absurd cc) (response_effect offset m (frames.TooLong)) refl e t
+response-stops-by offset (Some (frames.Data payload, m)) o n g e t = reported-there response_offset offset m _ o n g (λ k h. absurd cc) (response_effect offset m (frames.Data payload)) refl e t
+response-stops-by offset (Some (frames.Settings payload, m)) o n g e t = reported-there response_offset offset m _ o n g (λ k h. absurd cc) (response_effect offset m (frames.Settings payload)) refl e t
 
-response-stops : (at : ℕ) (xs : List ℕ) (o : ResponseWalk) (n g : ℕ) → response_decides at xs ≡ Stops o n → response_offset o ≡ Some g → g ≡ at + n
+response-stops : (offset : ℕ) (xs : List ℕ) (o : ResponseWalk) (n g : ℕ) → response_decides offset xs ≡ Stops o n → response_offset o ≡ Some g → g ≡ offset + n
 unfolding response_decides
-response-stops at xs o n g e t = response-stops-by at (frames.frame_at frames.session_id_ignored xs) o n g e t
+response-stops offset xs o n g e t = response-stops-by offset (frames.frame_at frames.session_id_ignored xs) o n g e t
 
 response-none : (end : StreamEnd) (s : ℕ) (b : Bool) → response_offset (response_unfinished end s b) ≡ None
 response-none Running s b = refl
@@ -279,9 +279,9 @@ response-none (Reset code) s b = refl
 
 response-final : (o : ResponseWalk) (g : ℕ) → response_offset o ≡ Some g → is_response_final o ≡ true
 response-final responses.Incomplete g e = absurd cc
-response-final (responses.Response response at) g e = refl
+response-final (responses.Response response offset) g e = refl
 response-final responses.Ended g e = absurd cc
 response-final (responses.Fault code) g e = refl
 
 pub response_offset_is : IsOffset is_response_final response_walk_of response_offset
-response_offset_is = is_offset response_decides response_lawful.steady (λ at. at) response_offset response-goes response-stops 0 response_unfinished is_response_final response_walk_of response_lawful.reaches refl response-none response-final
+response_offset_is = is_offset response_decides response_lawful.steady (λ offset. offset) response_offset response-goes response-stops 0 response_unfinished is_response_final response_walk_of response_lawful.reaches refl response-none response-final

@@ -49,13 +49,13 @@ use Rattle.wt_inbox.specs.Stage.{Stage, Untouched, UniHeader, BiHeader, Response
 -- ---- more bytes
 
 -- what a reader has read stays read under more bytes
-reached-more : {S O : Type 0} (start : S) (decide : S → List ℕ → Step S O) (final : O → Bool) (outcome_of : List ℕ → StreamEnd → O) (r : Reading S O) (at : ℕ) (bytes more : List ℕ) (position : ReadPosition)
-    → HasReached start decide final outcome_of r at bytes position → HasReached start decide final outcome_of r at (bytes ++ more) position
-reached-more start decide final outcome_of r at bytes more position h =
-    let inside : at ≤ length bytes = omega (arith, h.within) in
-    let split : drop at (bytes ++ more) ≡ drop at bytes ++ more = drop-append-le at bytes more inside in
-    let front : (n : ℕ) → n ≤ h.count → take n (drop at (bytes ++ more)) ≡ take n (drop at bytes) =
-    λ n l. ap (λ xs. take n xs) split ∙ take-append-le n (drop at bytes) more (omega (arith, h.within, length-drop at bytes)) in
+reached-more : {S O : Type 0} (start : S) (decide : S → List ℕ → Step S O) (final : O → Bool) (outcome_of : List ℕ → StreamEnd → O) (r : Reading S O) (offset : ℕ) (bytes more : List ℕ) (position : ReadPosition)
+    → HasReached start decide final outcome_of r offset bytes position → HasReached start decide final outcome_of r offset (bytes ++ more) position
+reached-more start decide final outcome_of r offset bytes more position h =
+    let inside : offset ≤ length bytes = omega (arith, h.within) in
+    let split : drop offset (bytes ++ more) ≡ drop offset bytes ++ more = drop-append-le offset bytes more inside in
+    let front : (n : ℕ) → n ≤ h.count → take n (drop offset (bytes ++ more)) ≡ take n (drop offset bytes) =
+    λ n l. ap (λ xs. take n xs) split ∙ take-append-le n (drop offset bytes) more (omega (arith, h.within, length-drop offset bytes)) in
     record {
       count = h.count;
       at_offset = h.at_offset;
@@ -74,8 +74,8 @@ module _ (x : InboxState) (t : TransportState) (k : ℕ) (bytes more : List ℕ)
   is-at-more BiHeader h = (reached-more 0 bi_decides is_final bi_verdict_of (reading_of 0 x.bis k) 0 bytes more position h.0, no-walk-still h.1)
   is-at-more ResponseHead h = (reached-more 0 response_decides is_response_final response_walk_of (reading_of 0 x.responses k) 0 bytes more position h.0, no-walk-still h.1)
   is-at-more (Body n) h = (h.0, no-walk-still h.1)
-  is-at-more (ControlBody at) h = reached-more None control_decides (λ (w : ControlWalk). is_some w.fault) control_walk_of (reading_of None x.controls k) at bytes more position h
-  is-at-more (SessionBody at) h = reached-more tt session_decides is_over session_walk_of (reading_of tt x.sessions k) at bytes more position h
+  is-at-more (ControlBody offset) h = reached-more None control_decides (λ (w : ControlWalk). is_some w.fault) control_walk_of (reading_of None x.controls k) offset bytes more position h
+  is-at-more (SessionBody offset) h = reached-more tt session_decides is_over session_walk_of (reading_of tt x.sessions k) offset bytes more position h
   is-at-more GivenUp h = h
   is-at-more Anywhere h = tt
 
@@ -86,9 +86,9 @@ pub record GoesOn (side : Side) (log later : Log) : Type 0 where
   pub no_bi : local_count (actions_of later) (peer_bi side) ≡ local_count (actions_of log) (peer_bi side)
 
 -- a call of the transport that leaves the readers' positions leaves the stages
-pub passes : (side : Side) (x : InboxState) (log : Log) (stage : ℕ → Stage) (untaken : List Action) (r : Refines side x log stage untaken) (t : TransportState) (later : Log) (then_untaken : List Action)
-    → GoesOn side log later → seam.Refines side t later r.position then_untaken → Refines side (with_transport x t) later stage then_untaken
-passes side x log stage untaken r t later then_untaken g s = record {
+pub passes : (side : Side) (x : InboxState) (log : Log) (stage : ℕ → Stage) (uncollected : List Action) (r : Refines side x log stage uncollected) (t : TransportState) (later : Log) (then_uncollected : List Action)
+    → GoesOn side log later → seam.Refines side t later r.position then_uncollected → Refines side (with_transport x t) later stage then_uncollected
+passes side x log stage uncollected r t later then_uncollected g s = record {
   position = r.position;
   transport = s;
   no_uni = g.no_uni ∙ r.no_uni;
@@ -213,14 +213,14 @@ goes-turn side log _ = goes-event side log _ (is_open log)
 plus-none : (n m : ℕ) → m ≡ 0 → n + m ≡ n
 plus-none n m e = omega arith
 
-module _ (side : Side) (x : InboxState) (log : Log) (stage : ℕ → Stage) (untaken : List Action) (r : Refines side x log stage untaken) (o : is_open log ≡ true) where
+module _ (side : Side) (x : InboxState) (log : Log) (stage : ℕ → Stage) (uncollected : List Action) (r : Refines side x log stage uncollected) (o : is_open log ≡ true) where
   pub peer-unis-are : stream_count side log (peer_uni side) ≡ peer_count side (events_of log) (peer_uni side)
   peer-unis-are = plus-none (peer_count side (all_events_of log) (peer_uni side)) (local_count (actions_of log) (peer_uni side)) r.no_uni
-      ∙ ap (λ es. peer_count side es (peer_uni side)) (sym (open_events side x.transport log r.position untaken r.transport o))
+      ∙ ap (λ es. peer_count side es (peer_uni side)) (sym (open_events side x.transport log r.position uncollected r.transport o))
 
   pub peer-bis-are : stream_count side log (peer_bi side) ≡ peer_count side (events_of log) (peer_bi side)
   peer-bis-are = plus-none (peer_count side (all_events_of log) (peer_bi side)) (local_count (actions_of log) (peer_bi side)) r.no_bi
-      ∙ ap (λ es. peer_count side es (peer_bi side)) (sym (open_events side x.transport log r.position untaken r.transport o))
+      ∙ ap (λ es. peer_count side es (peer_bi side)) (sym (open_events side x.transport log r.position uncollected r.transport o))
 
 -- ---- reading and giving up
 
@@ -240,9 +240,9 @@ given-here position id = (let yes_ : (id == id) ≡ true = grind (arith, nat_tes
 given-other : (position : ℕ → ReadPosition) (id k : ℕ) → (id == k) ≡ false → given_up position id k ≡ position k
 given-other position id k e = rw e refl
 
-module _ (side : Side) (x : InboxState) (log : Log) (stage : ℕ → Stage) (untaken : List Action) (r : Refines side x log stage untaken) where
+module _ (side : Side) (x : InboxState) (log : Log) (stage : ℕ → Stage) (uncollected : List Action) (r : Refines side x log stage uncollected) where
   -- a stream is given up
-  pub gives-up : (t : TransportState) (id : ℕ) → seam.Refines side t log (given_up r.position id) untaken → Refines side (with_transport x t) log (with_stage stage id GivenUp) untaken
+  pub gives-up : (t : TransportState) (id : ℕ) → seam.Refines side t log (given_up r.position id) uncollected → Refines side (with_transport x t) log (with_stage stage id GivenUp) uncollected
   gives-up t id s = record {
     position = given_up r.position id;
     transport = s;
@@ -261,7 +261,7 @@ module _ (side : Side) (x : InboxState) (log : Log) (stage : ℕ → Stage) (unt
     body-unread = ap (λ (p : ReadPosition). from_position p (contents log id)) body-place
 
     -- bytes of a stream are read
-    pub reads-body : (t : TransportState) (count : ℕ) → seam.Refines side t log (position_after r.position id count) untaken → Refines side (with_transport x t) log (with_stage stage id (Body (offset + count))) untaken
+    pub reads-body : (t : TransportState) (count : ℕ) → seam.Refines side t log (position_after r.position id count) uncollected → Refines side (with_transport x t) log (with_stage stage id (Body (offset + count))) uncollected
     reads-body t count s = record {
       position = position_after r.position id count;
       transport = s;
@@ -308,9 +308,9 @@ module _ (x w : InboxState) (t : TransportState) (id : ℕ) (v : x ≡ w) where
 
 -- ---- stages, as a layer above may see them
 
-module _ (side : Side) (x : InboxState) (log : Log) (stage : ℕ → Stage) (untaken : List Action) (r : Refines side x log stage untaken) where
+module _ (side : Side) (x : InboxState) (log : Log) (stage : ℕ → Stage) (uncollected : List Action) (r : Refines side x log stage uncollected) where
   -- stages that are the same one by one
-  pub same_stages : (other : ℕ → Stage) → ((k : ℕ) → other k ≡ stage k) → Refines side x log other untaken
+  pub same_stages : (other : ℕ → Stage) → ((k : ℕ) → other k ≡ stage k) → Refines side x log other uncollected
   same_stages other e = record {
     position = r.position;
     transport = r.transport;
@@ -320,7 +320,7 @@ module _ (side : Side) (x : InboxState) (log : Log) (stage : ℕ → Stage) (unt
   }
 
   -- nothing more is said of a stream
-  pub forgets : (id : ℕ) → Refines side x log (with_stage stage id Anywhere) untaken
+  pub forgets : (id : ℕ) → Refines side x log (with_stage stage id Anywhere) uncollected
   forgets id = record {
     position = r.position;
     transport = r.transport;
@@ -330,7 +330,7 @@ module _ (side : Side) (x : InboxState) (log : Log) (stage : ℕ → Stage) (unt
   }
 
   -- a stream that no walk reads and of which so many bytes were read
-  pub as_body : (id offset : ℕ) → body_offset (stage id) ≡ Some offset → Refines side x log (with_stage stage id (Body offset)) untaken
+  pub as_body : (id offset : ℕ) → body_offset (stage id) ≡ Some offset → Refines side x log (with_stage stage id (Body offset)) uncollected
   as_body id offset a = record {
     position = r.position;
     transport = r.transport;

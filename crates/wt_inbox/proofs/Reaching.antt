@@ -36,7 +36,7 @@ module _ {S O : Type 0} (start : S) (decide : S → List ℕ → Step S O) (stea
 
   pulls-same : (old new : Reading S O) (t u : TransportState) (id : ℕ) → Pulls start decide unfinished final outcome_of old new t u id → progress_after decide new.progress (unread_now u id) ≡ progress_after decide old.progress (unread_now t id)
   pulls-same old new t u id p =
-      ap (λ (q : WalkProgress S O). progress_after decide q (unread_now u id)) p.taken
+      ap (λ (q : WalkProgress S O). progress_after decide q (unread_now u id)) p.fed
       ∙ (fed-fed decide steady old.progress (take p.count (unread_now t id)) (unread_now u id)
       ∙ ap (λ (xs : List ℕ). progress_after decide old.progress xs) (ap (λ (ys : List ℕ). take p.count (unread_now t id) ++ ys) p.consumes.here ∙ take-append-drop p.count (unread_now t id)))
 
@@ -75,43 +75,43 @@ module _ {S O : Type 0} (start : S) (decide : S → List ℕ → Step S O) (stea
 
   -- ---- by the contents
 
-  module _ (r : Reading S O) (at : ℕ) (c : List ℕ) (position : ReadPosition) (h : HasReached start decide final outcome_of r at c position) where
-    rest-is : from_position position c ≡ drop h.count (drop at c)
-    rest-is = ap (λ (q : ReadPosition). from_position q c) h.at_offset ∙ sym (drop-drop h.count at c)
+  module _ (r : Reading S O) (from_offset : ℕ) (c : List ℕ) (position : ReadPosition) (h : HasReached start decide final outcome_of r from_offset c position) where
+    rest-is : from_position position c ≡ drop h.count (drop from_offset c)
+    rest-is = ap (λ (q : ReadPosition). from_position q c) h.at_offset ∙ sym (drop-drop h.count from_offset c)
 
-    all-is : (unread : List ℕ) → unread ≡ from_position position c → progress_after decide r.progress unread ≡ read_over (drop at c)
+    all-is : (unread : List ℕ) → unread ≡ from_position position c → progress_after decide r.progress unread ≡ read_over (drop from_offset c)
     all-is unread e =
         ap (λ (xs : List ℕ). progress_after decide r.progress xs) (e ∙ rest-is)
-        ∙ (ap (λ (q : WalkProgress S O). progress_after decide q (drop h.count (drop at c))) h.read
-        ∙ (fed-append decide steady (take h.count (drop at c)) (drop h.count (drop at c)) start None 0
-        ∙ ap (λ (xs : List ℕ). read_over xs) (take-append-drop h.count (drop at c))))
+        ∙ (ap (λ (q : WalkProgress S O). progress_after decide q (drop h.count (drop from_offset c))) h.read
+        ∙ (fed-append decide steady (take h.count (drop from_offset c)) (drop h.count (drop from_offset c)) start None 0
+        ∙ ap (λ (xs : List ℕ). read_over xs) (take-append-drop h.count (drop from_offset c))))
 
-    pub outcome-is : (unread : List ℕ) (end : StreamEnd) → unread ≡ from_position position c → outcome_after decide unfinished r unread end ≡ outcome_of (drop at c) end
-    outcome-is unread end e = read-outcome decide start unfinished outcome_of reaches (read_on decide r unread end) (drop at c) end (λ i. record { progress = all-is unread e i; end = end })
+    pub outcome-is : (unread : List ℕ) (end : StreamEnd) → unread ≡ from_position position c → outcome_after decide unfinished r unread end ≡ outcome_of (drop from_offset c) end
+    outcome-is unread end e = read-outcome decide start unfinished outcome_of reaches (read_on decide r unread end) (drop from_offset c) end (λ i. record { progress = all-is unread e i; end = end })
 
     module _ (new : Reading S O) (t u : TransportState) (id : ℕ) (p : Pulls start decide unfinished final outcome_of r new t u id) (e : unread_now t id ≡ from_position position c) where
-      few : h.count + p.count ≤ length c - at
+      few : h.count + p.count ≤ length c - from_offset
       few =
-          let size : length (unread_now t id) ≡ length (drop h.count (drop at c)) = ap length (e ∙ rest-is) in
-          omega (arith, h.within, p.consumes.within, size, length-drop h.count (drop at c), length-drop at c)
+          let size : length (unread_now t id) ≡ length (drop h.count (drop from_offset c)) = ap length (e ∙ rest-is) in
+          omega (arith, h.within, p.consumes.within, size, length-drop h.count (drop from_offset c), length-drop from_offset c)
 
-      bytes-are : (n : ℕ) → take h.count (drop at c) ++ take n (unread_now t id) ≡ take (h.count + n) (drop at c)
-      bytes-are n = ap (λ (xs : List ℕ). take h.count (drop at c) ++ take n xs) (e ∙ rest-is) ∙ sym (take-add h.count n (drop at c))
+      bytes-are : (n : ℕ) → take h.count (drop from_offset c) ++ take n (unread_now t id) ≡ take (h.count + n) (drop from_offset c)
+      bytes-are n = ap (λ (xs : List ℕ). take h.count (drop from_offset c) ++ take n xs) (e ∙ rest-is) ∙ sym (take-add h.count n (drop from_offset c))
 
-      read-is : new.progress ≡ read_over (take (h.count + p.count) (drop at c))
-      read-is = p.taken
+      read-is : new.progress ≡ read_over (take (h.count + p.count) (drop from_offset c))
+      read-is = p.fed
           ∙ (ap (λ (q : WalkProgress S O). progress_after decide q (take p.count (unread_now t id))) h.read
-          ∙ (fed-append decide steady (take h.count (drop at c)) (take p.count (unread_now t id)) start None 0 ∙ ap (λ (xs : List ℕ). read_over xs) (bytes-are p.count)))
+          ∙ (fed-append decide steady (take h.count (drop from_offset c)) (take p.count (unread_now t id)) start None 0 ∙ ap (λ (xs : List ℕ). read_over xs) (bytes-are p.count)))
 
-      goes : (m : ℕ) → m < h.count + p.count → final (outcome_of (take m (drop at c)) Running) ≡ false
+      goes : (m : ℕ) → m < h.count + p.count → final (outcome_of (take m (drop from_offset c)) Running) ≡ false
       goes m l = elim (cases_lt m h.count) [
         | inl lt ↦ h.running m lt
         | inr le ↦ (let split : h.count + (m - h.count) ≡ m = omega arith in
-            ap (λ (xs : List ℕ). final (outcome_of xs Running)) (ap (λ i. take i (drop at c)) (sym split) ∙ sym (bytes-are (m - h.count)))
-            ∙ p.running (take h.count (drop at c)) h.read (m - h.count) (omega arith))
+            ap (λ (xs : List ℕ). final (outcome_of xs Running)) (ap (λ i. take i (drop from_offset c)) (sym split) ∙ sym (bytes-are (m - h.count)))
+            ∙ p.running (take h.count (drop from_offset c)) h.read (m - h.count) (omega arith))
       ]
 
-      pub reached-on : HasReached start decide final outcome_of new at c (advance p.count position)
+      pub reached-on : HasReached start decide final outcome_of new from_offset c (advance p.count position)
       reached-on = record {
         count = h.count + p.count;
         at_offset = ap (advance p.count) h.at_offset ∙ ap AtOffset (omega arith);
@@ -120,7 +120,7 @@ module _ {S O : Type 0} (start : S) (decide : S → List ℕ → Step S O) (stea
         running = goes;
       }
 
-      pub read-all : new.progress ≡ read_over (drop at c)
+      pub read-all : new.progress ≡ read_over (drop from_offset c)
       read-all = ap (λ (x : Reading S O). x.progress) p.all ∙ all-is (unread_now t id) e
 
   -- ---- where it stops

@@ -30,9 +30,9 @@ module _ (t u : TransportState) (id n : ℕ) (piece : List ℕ) (is : piece ≡ 
 
   pub front-takes_ : {S O : Type 0} (start : S) (decide : S → List ℕ → Step S O) (final : O → Bool) (outcome_of : List ℕ → StreamEnd → O) (old new : Reading S O) → new ≡ fed_reading decide old (take n piece) → ((bytes : List ℕ) (end : StreamEnd) (k : ℕ) → HasRead decide start old bytes end → k < n → final (outcome_of (bytes ++ take k piece) end) ≡ false)
       → u ≡ after_consume t id n → Takes start decide final outcome_of old new t u id n
-  front-takes_ start decide final outcome_of old new taken running after = record {
+  front-takes_ start decide final outcome_of old new fed running after = record {
     consumes = subst (λ (v : TransportState). Consumes t v id n) (sym after) (consume-consumes t id n below);
-    taken = taken ∙ ap (λ (xs : List ℕ). fed_reading decide old xs) (front n within);
+    fed = fed ∙ ap (λ (xs : List ℕ). fed_reading decide old xs) (front n within);
     running = λ bytes end has m l. ap (λ (xs : List ℕ). final (outcome_of (bytes ++ xs) end)) (sym (front m (omega arith))) ∙ running bytes end m has l;
   }
 
@@ -57,7 +57,7 @@ pub front-takes : {S O : Type 0} (start : S) (decide : S → List ℕ → Step S
     → piece ≡ first_piece (pieces_now t id) → n ≤ length piece → new ≡ fed_reading decide old (take n piece)
     → ((bytes : List ℕ) (end : StreamEnd) (k : ℕ) → HasRead decide start old bytes end → k < n → final (outcome_of (bytes ++ take k piece) end) ≡ false)
     → u ≡ after_consume t id n → Takes start decide final outcome_of old new t u id n
-front-takes start decide final outcome_of old new t u id n piece is within taken running after = front-takes_ t u id n piece is within start decide final outcome_of old new taken running after
+front-takes start decide final outcome_of old new t u id n piece is within fed running after = front-takes_ t u id n piece is within start decide final outcome_of old new fed running after
 
 -- ---- one piece after another
 
@@ -67,33 +67,33 @@ module _ {S O : Type 0} (start : S) (decide : S → List ℕ → Step S O) (stea
     joined = ap (λ (ys : List ℕ). take m (unread_now t id) ++ take n ys) a.consumes.here ∙ sym (take-add m n (unread_now t id))
 
     taken-twice : new ≡ fed_reading decide old (take (m + n) (unread_now t id))
-    taken-twice = b.taken ∙ (ap (λ (r : Reading S O). fed_reading decide r (take n (unread_now u id))) a.taken
+    taken-twice = b.fed ∙ (ap (λ (r : Reading S O). fed_reading decide r (take n (unread_now u id))) a.fed
         ∙ ap (λ (p : WalkProgress S O). record { progress = p; end = old.end }) (fed-fed decide steady old.progress (take m (unread_now t id)) (take n (unread_now u id)) ∙ ap (λ (ys : List ℕ). progress_after decide old.progress ys) joined))
 
     running-twice : (bytes : List ℕ) (end : StreamEnd) → HasRead decide start old bytes end → (k : ℕ) → k < m + n → final (outcome_of (bytes ++ take k (unread_now t id)) end) ≡ false
     running-twice bytes end has k l = elim (cases_lt k m) [
       | inl lt ↦ a.running bytes end has k lt
       | inr le ↦
-          let read : HasRead decide start mid (bytes ++ take m (unread_now t id)) end = a.taken ∙ fed-read decide start steady old bytes (take m (unread_now t id)) end has in
-          let at : m + (k - m) ≡ k = omega arith in
+          let read : HasRead decide start mid (bytes ++ take m (unread_now t id)) end = a.fed ∙ fed-read decide start steady old bytes (take m (unread_now t id)) end has in
+          let offset : m + (k - m) ≡ k = omega arith in
           let split : take k (unread_now t id) ≡ take m (unread_now t id) ++ take (k - m) (unread_now u id) =
-          ap (λ i. take i (unread_now t id)) (sym at) ∙ (take-add m (k - m) (unread_now t id) ∙ ap (λ (ys : List ℕ). take m (unread_now t id) ++ take (k - m) ys) (sym a.consumes.here)) in
+          ap (λ i. take i (unread_now t id)) (sym offset) ∙ (take-add m (k - m) (unread_now t id) ∙ ap (λ (ys : List ℕ). take m (unread_now t id) ++ take (k - m) ys) (sym a.consumes.here)) in
           ap (λ (ys : List ℕ). final (outcome_of ys end)) (ap (λ (ys : List ℕ). bytes ++ ys) split ∙ sym (append_assoc bytes (take m (unread_now t id)) (take (k - m) (unread_now u id))))
           ∙ b.running (bytes ++ take m (unread_now t id)) end read (k - m) (omega arith)
     ]
 
     pub takes-twice : Takes start decide final outcome_of old new t v id (m + n)
-    takes-twice = record { consumes = consumes-twice t u v id m n a.consumes b.consumes; taken = taken-twice; running = running-twice }
+    takes-twice = record { consumes = consumes-twice t u v id m n a.consumes b.consumes; fed = taken-twice; running = running-twice }
 
   -- ---- all of it
 
   module _ (unfinished : StreamEnd → S → Bool → O) (still_going : (s : S) (b : Bool) → final (unfinished Running s b) ≡ false) where
     module _ (old new : Reading S O) (t u : TransportState) (id n : ℕ) (a : Takes start decide final outcome_of old new t u id n) (runs : old.end ≡ Running) where
       took-front : new.progress ≡ progress_after decide old.progress (take n (unread_now t id))
-      took-front = ap (λ (r : Reading S O). r.progress) a.taken
+      took-front = ap (λ (r : Reading S O). r.progress) a.fed
 
       all-if : (final (outcome_in unfinished new) ≡ true) ⊎ (unread_now u id ≡ []) → progress_after decide new.progress (unread_now u id) ≡ new.progress
-      all-if (inl f) = stays decide final unfinished still_going new (unread_now u id) (ap (λ (r : Reading S O). r.end) a.taken ∙ runs) f
+      all-if (inl f) = stays decide final unfinished still_going new (unread_now u id) (ap (λ (r : Reading S O). r.end) a.fed ∙ runs) f
       all-if (inr none) = ap (λ (xs : List ℕ). progress_after decide new.progress xs) none
           ∙ (ap (λ (p : WalkProgress S O). progress_after decide p []) took-front
           ∙ (fed-fed decide steady old.progress (take n (unread_now t id)) []
@@ -112,7 +112,7 @@ module _ {S O : Type 0} (start : S) (decide : S → List ℕ → Step S O) (stea
           → final (outcome_in unfinished new) ≡ final (outcome_after decide unfinished first (unread_now t id) Running)
       decided-all first same done =
           let progress : new.progress ≡ progress_after decide first.progress (unread_now t id) = took-all done ∙ ap (λ (p : WalkProgress S O). progress_after decide p (unread_now t id)) same in
-          let end : new.end ≡ Running = ap (λ (r : Reading S O). r.end) a.taken ∙ runs in
+          let end : new.end ≡ Running = ap (λ (r : Reading S O). r.end) a.fed ∙ runs in
           λ i. final (outcome_at unfinished (end i) (reached_in (progress i)))
 
       -- unless the bytes alone made the outcome final, none is left
@@ -129,7 +129,7 @@ module _ {S O : Type 0} (start : S) (decide : S → List ℕ → Step S O) (stea
             count = n;
             consumes = a.consumes;
             all = λ i. record { progress = progress i; end = end i };
-            taken = reported ∙ (took-front ∙ ap (λ (p : WalkProgress S O). progress_after decide p (take n (unread_now t id))) same);
+            fed = reported ∙ (took-front ∙ ap (λ (p : WalkProgress S O). progress_after decide p (take n (unread_now t id))) same);
             running = λ bytes e. a.running bytes Running (λ i. record { progress = (same ∙ e) i; end = runs i });
             read = λ undecided. left-none done (decided-all first same done ∙ undecided);
           }

@@ -29,7 +29,7 @@ use Rattle.wt_seam.specs.Step.{unread_now}
 use Rattle.wt_seam.proofs.Refining.{refined_end, refined_unread}
 use Rattle.wt_inbox.specs.KeptReaders.{KeptReader, no_reading, outcome_by, outcome_now, reading_of}
 use Rattle.wt_inbox.specs.State.{InboxState, bi_verdict_now, control_now, response_now, session_now, uni_verdict_now, with_transport}
-use Rattle.wt_inbox.specs.Moves.{BiPulled, BiTaken, ControlPulled, PulledIn, ResponsePulled, ResponseTaken, SameReaders, SessionPulled, SessionTaken, TakenIn, UniPulled, UniTaken}
+use Rattle.wt_inbox.specs.Moves.{BiPulled, BiRemoved, ControlPulled, PulledIn, ResponsePulled, ResponseRemoved, SameReaders, SessionPulled, SessionRemoved, TakenIn, UniPulled, UniRemoved}
 use Rattle.wt_inbox.specs.Stage.{Stage, Untouched, UniHeader, BiHeader, ResponseHead, Body, ControlBody, SessionBody, GivenUp, Anywhere, HasNoWalk, HasReached, IsAt, Refines, awaits_bi, awaits_response, awaits_uni, control_offset, session_offset, stage_from, verdict_offset, with_stage}
 use Rattle.wt_inbox.proofs.Offsets.{IsOffset, bi_offset, response_offset_is, uni_offset}
 use Rattle.wt_inbox.proofs.AnswersStay.{IsKind, bi-kind, control-kind, pulled-readers, released-readers, released-rest, response-kind, session-kind, uni-kind}
@@ -57,8 +57,8 @@ module _ (x y : InboxState) (k : ℕ) (r : SameReaders x y k) (bytes : List ℕ)
   is-at-same BiHeader h = (subst (λ (q : _). HasReached 0 bi_decides is_final bi_verdict_of q 0 bytes position) (sym r.bi) h.0, no-walk-same h.1)
   is-at-same ResponseHead h = (subst (λ (q : _). HasReached 0 response_decides is_response_final response_walk_of q 0 bytes position) (sym r.response) h.0, no-walk-same h.1)
   is-at-same (Body n) h = (h.0, no-walk-same h.1)
-  is-at-same (ControlBody at) h = subst (λ (q : _). HasReached None control_decides (λ (w : ControlWalk). is_some w.fault) control_walk_of q at bytes position) (sym r.control) h
-  is-at-same (SessionBody at) h = subst (λ (q : _). HasReached tt session_decides is_over session_walk_of q at bytes position) (sym r.session) h
+  is-at-same (ControlBody offset) h = subst (λ (q : _). HasReached None control_decides (λ (w : ControlWalk). is_some w.fault) control_walk_of q offset bytes position) (sym r.control) h
+  is-at-same (SessionBody offset) h = subst (λ (q : _). HasReached tt session_decides is_over session_walk_of q offset bytes position) (sym r.session) h
   is-at-same GivenUp h = h
   is-at-same Anywhere h = tt
 
@@ -72,11 +72,11 @@ staged-at x log position stage id to here others k = by (id == k) refl
     by false e = others k e
 
 -- nothing was read yet from this offset on
-reached-none : {S O : Type 0} {start : S} {decide : S → List ℕ → Step S O} {final : O → Bool} {outcome_of : List ℕ → StreamEnd → O} {r : Reading S O} {at : ℕ} {bytes : List ℕ} {position : ReadPosition}
-    → r ≡ no_reading start → position ≡ AtOffset at → IsWithin position bytes → HasReached start decide final outcome_of r at bytes position
-reached-none {at} {bytes} none at_offset within =
-    let few : at ≤ length bytes = subst (λ (p : ReadPosition). IsWithin p bytes) at_offset within in
-    let same : at ≡ at + 0 = omega arith in
+reached-none : {S O : Type 0} {start : S} {decide : S → List ℕ → Step S O} {final : O → Bool} {outcome_of : List ℕ → StreamEnd → O} {r : Reading S O} {offset : ℕ} {bytes : List ℕ} {position : ReadPosition}
+    → r ≡ no_reading start → position ≡ AtOffset offset → IsWithin position bytes → HasReached start decide final outcome_of r offset bytes position
+reached-none {offset} {bytes} none at_offset within =
+    let few : offset ≤ length bytes = subst (λ (p : ReadPosition). IsWithin p bytes) at_offset within in
+    let same : offset ≡ offset + 0 = omega arith in
     record {
       count = 0;
       at_offset = at_offset ∙ ap AtOffset same;
@@ -87,29 +87,29 @@ reached-none {at} {bytes} none at_offset within =
 
 -- ---- which walk may begin
 
-module _ {side : Side} {x : InboxState} {log : Log} {stage : ℕ → Stage} {untaken : List Action} (r : Refines side x log stage untaken) (k : ℕ) where
-  uni-opens : (at : Stage) → awaits_uni at ≡ true → IsAt x k (contents log k) (r.position k) at → HasReached tt uni_decides is_final uni_verdict_of (reading_of tt x.unis k) 0 (contents log k) (r.position k) × HasNoWalk x k
+module _ {side : Side} {x : InboxState} {log : Log} {stage : ℕ → Stage} {uncollected : List Action} (r : Refines side x log stage uncollected) (k : ℕ) where
+  uni-opens : (offset : Stage) → awaits_uni offset ≡ true → IsAt x k (contents log k) (r.position k) offset → HasReached tt uni_decides is_final uni_verdict_of (reading_of tt x.unis k) 0 (contents log k) (r.position k) × HasNoWalk x k
   uni-opens Untouched a h = (reached-none h.1.uni h.0 (r.transport.holds k).within, h.1.walk)
   uni-opens UniHeader a h = h
   uni-opens _ a h = absurd cc
 
-  bi-opens : (at : Stage) → awaits_bi at ≡ true → IsAt x k (contents log k) (r.position k) at → HasReached 0 bi_decides is_final bi_verdict_of (reading_of 0 x.bis k) 0 (contents log k) (r.position k) × HasNoWalk x k
+  bi-opens : (offset : Stage) → awaits_bi offset ≡ true → IsAt x k (contents log k) (r.position k) offset → HasReached 0 bi_decides is_final bi_verdict_of (reading_of 0 x.bis k) 0 (contents log k) (r.position k) × HasNoWalk x k
   bi-opens Untouched a h = (reached-none h.1.bi h.0 (r.transport.holds k).within, h.1.walk)
   bi-opens BiHeader a h = h
   bi-opens _ a h = absurd cc
 
-  response-opens : (at : Stage) → awaits_response at ≡ true → IsAt x k (contents log k) (r.position k) at → HasReached 0 response_decides is_response_final response_walk_of (reading_of 0 x.responses k) 0 (contents log k) (r.position k) × HasNoWalk x k
+  response-opens : (offset : Stage) → awaits_response offset ≡ true → IsAt x k (contents log k) (r.position k) offset → HasReached 0 response_decides is_response_final response_walk_of (reading_of 0 x.responses k) 0 (contents log k) (r.position k) × HasNoWalk x k
   response-opens Untouched a h = (reached-none h.1.response h.0 (r.transport.holds k).within, h.1.walk)
   response-opens ResponseHead a h = h
   response-opens _ a h = absurd cc
 
-  control-opens : (at : Stage) (from : ℕ) → control_offset at ≡ Some from → IsAt x k (contents log k) (r.position k) at → HasReached None control_decides (λ (w : ControlWalk). is_some w.fault) control_walk_of (reading_of None x.controls k) from (contents log k) (r.position k)
+  control-opens : (offset : Stage) (from : ℕ) → control_offset offset ≡ Some from → IsAt x k (contents log k) (r.position k) offset → HasReached None control_decides (λ (w : ControlWalk). is_some w.fault) control_walk_of (reading_of None x.controls k) from (contents log k) (r.position k)
   control-opens Untouched from a h = (let same : 0 ≡ from = cc in reached-none h.1.walk.control (h.0 ∙ ap AtOffset same) (r.transport.holds k).within)
   control-opens (Body n) from a h = (let same : n ≡ from = cc in reached-none h.1.control (h.0 ∙ ap AtOffset same) (r.transport.holds k).within)
   control-opens (ControlBody n) from a h = (let same : n ≡ from = cc in subst (λ (i : ℕ). HasReached None control_decides (λ (w : ControlWalk). is_some w.fault) control_walk_of (reading_of None x.controls k) i (contents log k) (r.position k)) same h)
   control-opens _ from a h = absurd cc
 
-  session-opens : (at : Stage) (from : ℕ) → session_offset at ≡ Some from → IsAt x k (contents log k) (r.position k) at → HasReached tt session_decides is_over session_walk_of (reading_of tt x.sessions k) from (contents log k) (r.position k)
+  session-opens : (offset : Stage) (from : ℕ) → session_offset offset ≡ Some from → IsAt x k (contents log k) (r.position k) offset → HasReached tt session_decides is_over session_walk_of (reading_of tt x.sessions k) from (contents log k) (r.position k)
   session-opens Untouched from a h = (let same : 0 ≡ from = cc in reached-none h.1.walk.session (h.0 ∙ ap AtOffset same) (r.transport.holds k).within)
   session-opens (Body n) from a h = (let same : n ≡ from = cc in reached-none h.1.session (h.0 ∙ ap AtOffset same) (r.transport.holds k).within)
   session-opens (SessionBody n) from a h = (let same : n ≡ from = cc in subst (λ (i : ℕ). HasReached tt session_decides is_over session_walk_of (reading_of tt x.sessions k) i (contents log k) (r.position k)) same h)
@@ -133,9 +133,9 @@ response-header = record { walks = λ x l t k n. record { control = n.control; s
 
 module _ {S O : Type 0} {start : S} {decide : S → List ℕ → Step S O} {wants : List ℕ → ℕ} {unfinished : StreamEnd → S → Bool → O} {final : O → Bool} {outcome_of : List ℕ → StreamEnd → O}
     {kept : InboxState → List (KeptReader S O)} {with_kept : InboxState → List (KeptReader S O) → InboxState} (law : IsLawful start decide wants unfinished final outcome_of) (kind : IsKind start kept with_kept)
-    {side : Side} {x : InboxState} {log : Log} {stage : ℕ → Stage} {untaken : List Action} (r : Refines side x log stage untaken) (id : ℕ) where
+    {side : Side} {x : InboxState} {log : Log} {stage : ℕ → Stage} {uncollected : List Action} (r : Refines side x log stage uncollected) (id : ℕ) where
   unread-is : unread_now x.transport id ≡ from_position (r.position id) (contents log id)
-  unread-is = refined_unread side x.transport log r.position untaken r.transport id
+  unread-is = refined_unread side x.transport log r.position uncollected r.transport id
 
   module _ (from : ℕ) (h : HasReached start decide final outcome_of (reading_of start (kept x) id) from (contents log id) (r.position id)) where
     -- it says what the log says
@@ -143,7 +143,7 @@ module _ {S O : Type 0} {start : S} {decide : S → List ℕ → Step S O} {want
     kept-says-by end = outcome-is start decide law.steady unfinished final outcome_of law.reaches (reading_of start (kept x) id) from (contents log id) (r.position id) h (unread_now x.transport id) end unread-is
 
     kept-says : outcome_now decide start unfinished (kept x) x.transport id ≡ outcome_of (drop from (contents log id)) (end_of (events_of log) id)
-    kept-says = ap (λ (e : StreamEnd). outcome_by decide start unfinished (kept x) x.transport id e) (refined_end side x.transport log r.position untaken r.transport id) ∙ kept-says-by (end_of (events_of log) id)
+    kept-says = ap (λ (e : StreamEnd). outcome_by decide start unfinished (kept x) x.transport id e) (refined_end side x.transport log r.position uncollected r.transport id) ∙ kept-says-by (end_of (events_of log) id)
 
     module _ {y : InboxState} (p : PulledIn start decide unfinished final outcome_of kept with_kept x y id) where
       -- it read on: it stands further on
@@ -153,10 +153,10 @@ module _ {S O : Type 0} {start : S} {decide : S → List ℕ → Step S O} {want
 
       -- an inbox with that transport and the other streams' readers refines the log, its own stream at any stage that fits
       refines-then : (z : InboxState) → z.transport ≡ y.transport → ((k : ℕ) → (id == k) ≡ false → SameReaders x z k) → (to : Stage) → IsAt z id (contents log id) (position_after r.position id p.pulled.pulls.count id) to
-          → Refines side z log (with_stage stage id to) untaken
+          → Refines side z log (with_stage stage id to) uncollected
       refines-then z same readers to here = record {
         position = position_after r.position id p.pulled.pulls.count;
-        transport = subst (λ (t : TransportState). seam.Refines side t log (position_after r.position id p.pulled.pulls.count) untaken) (sym same) (p.pulled.pulls.consumes.refines side log r.position untaken r.transport);
+        transport = subst (λ (t : TransportState). seam.Refines side t log (position_after r.position id p.pulled.pulls.count) uncollected) (sym same) (p.pulled.pulls.consumes.refines side log r.position uncollected r.transport);
         no_uni = r.no_uni;
         no_bi = r.no_bi;
         staged = staged-at z log (position_after r.position id p.pulled.pulls.count) stage id to here
@@ -165,11 +165,11 @@ module _ {S O : Type 0} {start : S} {decide : S → List ℕ → Step S O} {want
       }
 
       -- with it kept
-      kept-read : (to : Stage) → IsAt y id (contents log id) (position_after r.position id p.pulled.pulls.count id) to → Refines side y log (with_stage stage id to) untaken
+      kept-read : (to : Stage) → IsAt y id (contents log id) (position_after r.position id p.pulled.pulls.count id) to → Refines side y log (with_stage stage id to) uncollected
       kept-read = refines-then y refl (pulled-readers law kind p)
 
       -- with it let go
-      kept-released : {z : InboxState} → TakenIn start kept with_kept y z id → (to : Stage) → IsAt z id (contents log id) (position_after r.position id p.pulled.pulls.count id) to → Refines side z log (with_stage stage id to) untaken
+      kept-released : {z : InboxState} → TakenIn start kept with_kept y z id → (to : Stage) → IsAt z id (contents log id) (position_after r.position id p.pulled.pulls.count id) to → Refines side z log (with_stage stage id to) uncollected
       kept-released {z} q = refines-then z (ap (λ (w : InboxState). w.transport) (released-rest law kind p q)) (released-readers law kind p q)
 
   -- a reader in front of the walks
@@ -180,31 +180,31 @@ module _ {S O : Type 0} {start : S} {decide : S → List ℕ → Step S O} {want
     header-then = (reached-then 0 h.0 p, subst (λ (w : InboxState). HasNoWalk w id) (sym p.rest) (header.walks x (kept y) y.transport id h.1))
 
     -- it was let go then: its stream stands where its outcome tells
-    body-then : {z : InboxState} → TakenIn start kept with_kept y z id → (at : Option ℕ) → offset (outcome_of (contents log id) (end_of (events_of log) id)) ≡ at
-        → IsAt z id (contents log id) (position_after r.position id p.pulled.pulls.count id) (stage_from at)
+    body-then : {z : InboxState} → TakenIn start kept with_kept y z id → (from_offset : Option ℕ) → offset (outcome_of (contents log id) (end_of (events_of log) id)) ≡ from_offset
+        → IsAt z id (contents log id) (position_after r.position id p.pulled.pulls.count id) (stage_from from_offset)
     body-then q None e = tt
-    body-then {z} q (Some at) e = (
+    body-then {z} q (Some from_offset) e = (
       stands-at start decide law.steady unfinished final outcome_of law.reaches offset header.says (reading_of start (kept y) id) (contents log id) (position_after r.position id p.pulled.pulls.count id) header-then.0
           (read-all start decide law.steady unfinished final outcome_of law.reaches (reading_of start (kept x) id) 0 (contents log id) (r.position id) h.0 (reading_of start (kept y) id) x.transport y.transport id p.pulled.pulls unread-is)
-          (end_of (events_of log) id) at e,
+          (end_of (events_of log) id) from_offset e,
       subst (λ (w : InboxState). HasNoWalk w id) (sym (released-rest law kind p q)) (header.walks y (kept z) y.transport id header-then.1),
     )
 
-    header-released : {z : InboxState} → TakenIn start kept with_kept y z id → Refines side z log (with_stage stage id (stage_from (offset (outcome_of (contents log id) (end_of (events_of log) id))))) untaken
+    header-released : {z : InboxState} → TakenIn start kept with_kept y z id → Refines side z log (with_stage stage id (stage_from (offset (outcome_of (contents log id) (end_of (events_of log) id))))) uncollected
     header-released q = kept-released 0 h.0 p q (stage_from (offset (outcome_of (contents log id) (end_of (events_of log) id)))) (body-then q _ refl)
 
 -- ---- what an inbox says that refines a log, and the log that it refines once a reader read on
 
-module _ (side : Side) (x : InboxState) (log : Log) (stage : ℕ → Stage) (untaken : List Action) (r : Refines side x log stage untaken) where
+module _ (side : Side) (x : InboxState) (log : Log) (stage : ℕ → Stage) (uncollected : List Action) (r : Refines side x log stage uncollected) where
   module _ (id : ℕ) (a : awaits_uni (stage id) ≡ true) where
     pub uni-says : uni_verdict_now x id ≡ uni_verdict_of (contents log id) (end_of (events_of log) id)
     uni-says = kept-says uni_lawful uni-kind r id 0 (uni-opens r id (stage id) a (r.staged id)).0
 
     module _ (y : InboxState) (p : UniPulled x y id) where
-      pub uni_read_refines : Refines side y log (with_stage stage id UniHeader) untaken
+      pub uni_read_refines : Refines side y log (with_stage stage id UniHeader) uncollected
       uni_read_refines = (let h = uni-opens r id (stage id) a (r.staged id) in kept-read uni_lawful uni-kind r id 0 h.0 p UniHeader (header-then uni_lawful uni-kind r id uni-header h p))
 
-      pub uni_released_refines : (z : InboxState) → UniTaken y z id → Refines side z log (with_stage stage id (stage_from (verdict_offset (uni_verdict_of (contents log id) (end_of (events_of log) id))))) untaken
+      pub uni_released_refines : (z : InboxState) → UniRemoved y z id → Refines side z log (with_stage stage id (stage_from (verdict_offset (uni_verdict_of (contents log id) (end_of (events_of log) id))))) uncollected
       uni_released_refines z q = header-released uni_lawful uni-kind r id uni-header (uni-opens r id (stage id) a (r.staged id)) p q
 
   module _ (id : ℕ) (a : awaits_bi (stage id) ≡ true) where
@@ -212,10 +212,10 @@ module _ (side : Side) (x : InboxState) (log : Log) (stage : ℕ → Stage) (unt
     bi-says = kept-says bi_lawful bi-kind r id 0 (bi-opens r id (stage id) a (r.staged id)).0
 
     module _ (y : InboxState) (p : BiPulled x y id) where
-      pub bi_read_refines : Refines side y log (with_stage stage id BiHeader) untaken
+      pub bi_read_refines : Refines side y log (with_stage stage id BiHeader) uncollected
       bi_read_refines = (let h = bi-opens r id (stage id) a (r.staged id) in kept-read bi_lawful bi-kind r id 0 h.0 p BiHeader (header-then bi_lawful bi-kind r id bi-header h p))
 
-      pub bi_released_refines : (z : InboxState) → BiTaken y z id → Refines side z log (with_stage stage id (stage_from (verdict_offset (bi_verdict_of (contents log id) (end_of (events_of log) id))))) untaken
+      pub bi_released_refines : (z : InboxState) → BiRemoved y z id → Refines side z log (with_stage stage id (stage_from (verdict_offset (bi_verdict_of (contents log id) (end_of (events_of log) id))))) uncollected
       bi_released_refines z q = header-released bi_lawful bi-kind r id bi-header (bi-opens r id (stage id) a (r.staged id)) p q
 
   module _ (id : ℕ) (a : awaits_response (stage id) ≡ true) where
@@ -223,10 +223,10 @@ module _ (side : Side) (x : InboxState) (log : Log) (stage : ℕ → Stage) (unt
     response-says = kept-says response_lawful response-kind r id 0 (response-opens r id (stage id) a (r.staged id)).0
 
     module _ (y : InboxState) (p : ResponsePulled x y id) where
-      pub response_read_refines : Refines side y log (with_stage stage id ResponseHead) untaken
+      pub response_read_refines : Refines side y log (with_stage stage id ResponseHead) uncollected
       response_read_refines = (let h = response-opens r id (stage id) a (r.staged id) in kept-read response_lawful response-kind r id 0 h.0 p ResponseHead (header-then response_lawful response-kind r id response-header h p))
 
-      pub response_released_refines : (z : InboxState) → ResponseTaken y z id → Refines side z log (with_stage stage id (stage_from (response_offset (response_walk_of (contents log id) (end_of (events_of log) id))))) untaken
+      pub response_released_refines : (z : InboxState) → ResponseRemoved y z id → Refines side z log (with_stage stage id (stage_from (response_offset (response_walk_of (contents log id) (end_of (events_of log) id))))) uncollected
       response_released_refines z q = header-released response_lawful response-kind r id response-header (response-opens r id (stage id) a (r.staged id)) p q
 
   module _ (id from : ℕ) (a : control_offset (stage id) ≡ Some from) where
@@ -234,7 +234,7 @@ module _ (side : Side) (x : InboxState) (log : Log) (stage : ℕ → Stage) (unt
     control-says = kept-says control_lawful control-kind r id from (control-opens r id (stage id) from a (r.staged id))
 
     module _ (y : InboxState) (p : ControlPulled x y id) where
-      pub control_read_refines : Refines side y log (with_stage stage id (ControlBody from)) untaken
+      pub control_read_refines : Refines side y log (with_stage stage id (ControlBody from)) uncollected
       control_read_refines = (let h = control-opens r id (stage id) from a (r.staged id) in kept-read control_lawful control-kind r id from h p (ControlBody from) (reached-then control_lawful control-kind r id from h p))
 
   module _ (id from : ℕ) (a : session_offset (stage id) ≡ Some from) where
@@ -245,8 +245,8 @@ module _ (side : Side) (x : InboxState) (log : Log) (stage : ℕ → Stage) (unt
     session-says = kept-says session_lawful session-kind r id from (session-opens r id (stage id) from a (r.staged id))
 
     module _ (y : InboxState) (p : SessionPulled x y id) where
-      pub session_read_refines : Refines side y log (with_stage stage id (SessionBody from)) untaken
+      pub session_read_refines : Refines side y log (with_stage stage id (SessionBody from)) uncollected
       session_read_refines = (let h = session-opens r id (stage id) from a (r.staged id) in kept-read session_lawful session-kind r id from h p (SessionBody from) (reached-then session_lawful session-kind r id from h p))
 
-      pub session_released_refines : (z : InboxState) → SessionTaken y z id → Refines side z log (with_stage stage id Anywhere) untaken
+      pub session_released_refines : (z : InboxState) → SessionRemoved y z id → Refines side z log (with_stage stage id Anywhere) uncollected
       session_released_refines z q = kept-released session_lawful session-kind r id from (session-opens r id (stage id) from a (r.staged id)) p q Anywhere tt

@@ -47,7 +47,7 @@ pub record StandsAt {S O : Type 0} (start : S) (kept : List (KeptReader S O)) (i
   pub here : ((slice_index_or kept index (no_kept start)).id == id) ≡ true
   pub first : (k : ℕ) → k < index → ((slice_index_or kept k (no_kept start)).id == id) ≡ false
 
--- the outcome of a reader once it took these bytes and was told the end
+-- the outcome of a reader once it took these bytes and learned the end
 abbrev pub outcome_after : {S O : Type 0} → (S → List ℕ → Step S O) → (StreamEnd → S → Bool → O) → Reading S O → List ℕ → StreamEnd → O
 outcome_after decide unfinished r bytes end = outcome_in unfinished (read_on decide r bytes end)
 
@@ -66,18 +66,18 @@ pub record Consumes (before after : TransportState) (id count : ℕ) : Type 0 wh
   pub here : unread_now after id ≡ drop count (unread_now before id)
   pub others : (k : ℕ) → (id == k) ≡ false → unread_now after k ≡ unread_now before k
   pub quiet : quiet after ≡ quiet before
-  pub refines : (side : Side) (log : Log) (position : ℕ → ReadPosition) (untaken : List Action) → Refines side before log position untaken
-      → Refines side after log (position_after position id count) untaken
+  pub refines : (side : Side) (log : Log) (position : ℕ → ReadPosition) (uncollected : List Action) → Refines side before log position uncollected
+      → Refines side after log (position_after position id count) uncollected
 
 -- a reader took so many unread bytes, which are consumed; in front of the last one its outcome wasn't final
 pub record Takes {S O : Type 0} (start : S) (decide : S → List ℕ → Step S O) (final : O → Bool) (outcome_of : List ℕ → StreamEnd → O)
     (old new : Reading S O) (before after : TransportState) (id count : ℕ) : Type 0 where
   pub consumes : Consumes before after id count
-  pub taken : new ≡ fed_reading decide old (take count (unread_now before id))
+  pub fed : new ≡ fed_reading decide old (take count (unread_now before id))
   pub running : (bytes : List ℕ) (end : StreamEnd) → HasRead decide start old bytes end → (m : ℕ) → m < count
       → final (outcome_of (bytes ++ take m (unread_now before id)) end) ≡ false
 
--- The reader of a stream read on: it stands as if it had taken all that is unread, and was told the end. It took so many
+-- The reader of a stream read on: it stands as if it had taken all that is unread, and learned the end. It took so many
 -- bytes, which are consumed, and in front of the last one its outcome wasn't final. Unless the bytes alone made it final,
 -- none is left unread.
 pub record Pulls {S O : Type 0} (start : S) (decide : S → List ℕ → Step S O) (unfinished : StreamEnd → S → Bool → O) (final : O
@@ -86,7 +86,7 @@ pub record Pulls {S O : Type 0} (start : S) (decide : S → List ℕ → Step S 
   pub count : ℕ
   pub consumes : Consumes before after id count
   pub all : new ≡ read_on decide old (unread_now before id) (end_now before id)
-  pub taken : new.progress ≡ progress_after decide old.progress (take count (unread_now before id))
+  pub fed : new.progress ≡ progress_after decide old.progress (take count (unread_now before id))
   pub running : (bytes : List ℕ) → old.progress ≡ progress_over decide start None 0 bytes → (m : ℕ) → m < count
       → final (outcome_of (bytes ++ take m (unread_now before id)) Running) ≡ false
   pub read : final (outcome_after decide unfinished old (unread_now before id) Running) ≡ false → unread_now after id ≡ []

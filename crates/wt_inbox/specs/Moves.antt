@@ -37,24 +37,24 @@ abbrev pub UniPulled : InboxState → InboxState → ℕ → Type 0
 UniPulled x y id = PulledIn tt uni_decides uni_unfinished is_final uni_verdict_of (λ (x : InboxState). x.unis) (λ (x : InboxState) kept. record x { unis = kept }) x y id
 
 -- the reader of the header of a unidirectional stream was let go
-abbrev pub UniTaken : InboxState → InboxState → ℕ → Type 0
-UniTaken x y id = TakenIn tt (λ (x : InboxState). x.unis) (λ (x : InboxState) kept. record x { unis = kept }) x y id
+abbrev pub UniRemoved : InboxState → InboxState → ℕ → Type 0
+UniRemoved x y id = TakenIn tt (λ (x : InboxState). x.unis) (λ (x : InboxState) kept. record x { unis = kept }) x y id
 
 -- the reader of the header of a bidirectional stream read on
 abbrev pub BiPulled : InboxState → InboxState → ℕ → Type 0
 BiPulled x y id = PulledIn 0 bi_decides bi_unfinished is_final bi_verdict_of (λ (x : InboxState). x.bis) (λ (x : InboxState) kept. record x { bis = kept }) x y id
 
 -- the reader of the header of a bidirectional stream was let go
-abbrev pub BiTaken : InboxState → InboxState → ℕ → Type 0
-BiTaken x y id = TakenIn 0 (λ (x : InboxState). x.bis) (λ (x : InboxState) kept. record x { bis = kept }) x y id
+abbrev pub BiRemoved : InboxState → InboxState → ℕ → Type 0
+BiRemoved x y id = TakenIn 0 (λ (x : InboxState). x.bis) (λ (x : InboxState) kept. record x { bis = kept }) x y id
 
 -- the reader of a response read on
 abbrev pub ResponsePulled : InboxState → InboxState → ℕ → Type 0
 ResponsePulled x y id = PulledIn 0 response_decides response_unfinished is_response_final response_walk_of (λ (x : InboxState). x.responses) (λ (x : InboxState) kept. record x { responses = kept }) x y id
 
 -- the reader of a response was let go
-abbrev pub ResponseTaken : InboxState → InboxState → ℕ → Type 0
-ResponseTaken x y id = TakenIn 0 (λ (x : InboxState). x.responses) (λ (x : InboxState) kept. record x { responses = kept }) x y id
+abbrev pub ResponseRemoved : InboxState → InboxState → ℕ → Type 0
+ResponseRemoved x y id = TakenIn 0 (λ (x : InboxState). x.responses) (λ (x : InboxState) kept. record x { responses = kept }) x y id
 
 -- the reader of the control stream read on
 abbrev pub ControlPulled : InboxState → InboxState → ℕ → Type 0
@@ -65,5 +65,5 @@ abbrev pub SessionPulled : InboxState → InboxState → ℕ → Type 0
 SessionPulled x y id = PulledIn tt session_decides session_unfinished is_over session_walk_of (λ (x : InboxState). x.sessions) (λ (x : InboxState) kept. record x { sessions = kept }) x y id
 
 -- the reader of a session's stream was let go
-abbrev pub SessionTaken : InboxState → InboxState → ℕ → Type 0
-SessionTaken x y id = TakenIn tt (λ (x : InboxState). x.sessions) (λ (x : InboxState) kept. record x { sessions = kept }) x y id
+abbrev pub SessionRemoved : InboxState → InboxState → ℕ → Type 0
+SessionRemoved x y id = TakenIn tt (λ (x : InboxState). x.sessions) (λ (x : InboxState) kept. record x { sessions = kept }) x y id

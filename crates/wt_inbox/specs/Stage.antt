@@ -30,8 +30,8 @@ pub data Stage : Type 0 where
   BiHeader : Stage  -- its header is being read, as a bidirectional stream's
   ResponseHead : Stage  -- the response is being read
   Body : (offset : ℕ) → Stage  -- so many bytes were read
-  ControlBody : (at : ℕ) → Stage  -- the walk over the control stream reads it from this offset on
-  SessionBody : (at : ℕ) → Stage  -- the walk over a session's stream reads it from this offset on
+  ControlBody : (start : ℕ) → Stage  -- the walk over the control stream reads it from this offset on
+  SessionBody : (start : ℕ) → Stage  -- the walk over a session's stream reads it from this offset on
   GivenUp : Stage  -- nothing of it is read any more
   Anywhere : Stage  -- nothing is known of it
 
@@ -69,38 +69,38 @@ body_offset _ = None
 
 -- the offset from which the walk over the control stream can read it
 abbrev pub control_offset : Stage → Option ℕ
-control_offset (ControlBody at) = Some at
+control_offset (ControlBody offset) = Some offset
 control_offset stage = body_offset stage
 
 -- the offset from which the walk over a session's stream can read it
 abbrev pub session_offset : Stage → Option ℕ
-session_offset (SessionBody at) = Some at
+session_offset (SessionBody offset) = Some offset
 session_offset stage = body_offset stage
 
 -- the offset after the header, where the stream goes on after it
 abbrev pub verdict_offset : Verdict → Option ℕ
-verdict_offset (verdicts.WebTransport session at) = Some at
-verdict_offset (verdicts.Control at) = Some at
-verdict_offset (verdicts.Encoder at) = Some at
-verdict_offset (verdicts.Decoder at) = Some at
-verdict_offset (verdicts.Request request at) = Some at
+verdict_offset (verdicts.WebTransport session offset) = Some offset
+verdict_offset (verdicts.Control offset) = Some offset
+verdict_offset (verdicts.Encoder offset) = Some offset
+verdict_offset (verdicts.Decoder offset) = Some offset
+verdict_offset (verdicts.Request request offset) = Some offset
 verdict_offset _ = None
 
 -- a stream is read from this offset on, where there is one
 abbrev pub stage_from : Option ℕ → Stage
 stage_from None = Anywhere
-stage_from (Some at) = Body at
+stage_from (Some offset) = Body offset
 
 -- ---- what a stage says
 
 -- a reader read the stream from an offset on: it took so many bytes, and in front of the last its outcome wasn't final
 pub record HasReached {S O : Type 0} (start : S) (decide : S → List ℕ → Step S O) (final : O → Bool) (outcome_of : List ℕ → StreamEnd → O)
-    (r : Reading S O) (at : ℕ) (bytes : List ℕ) (position : ReadPosition) : Type 0 where
+    (r : Reading S O) (offset : ℕ) (bytes : List ℕ) (position : ReadPosition) : Type 0 where
   pub count : ℕ
-  pub at_offset : position ≡ AtOffset (at + count)
-  pub within : at + count ≤ length bytes
-  pub read : r.progress ≡ progress_over decide start None 0 (take count (drop at bytes))
-  pub running : (m : ℕ) → m < count → final (outcome_of (take m (drop at bytes)) Running) ≡ false
+  pub at_offset : position ≡ AtOffset (offset + count)
+  pub within : offset + count ≤ length bytes
+  pub read : r.progress ≡ progress_over decide start None 0 (take count (drop offset bytes))
+  pub running : (m : ℕ) → m < count → final (outcome_of (take m (drop offset bytes)) Running) ≡ false
 
 -- no walk after a header has read the stream
 pub record HasNoWalk (x : InboxState) (k : ℕ) : Type 0 where
@@ -122,15 +122,15 @@ IsAt x k bytes position BiHeader = HasReached 0 bi_decides is_final bi_verdict_o
 IsAt x k bytes position ResponseHead = HasReached 0 response_decides is_response_final response_walk_of (reading_of 0 x.responses k) 0 bytes position
     × HasNoWalk x k
 IsAt x k bytes position (Body n) = (position ≡ AtOffset n) × HasNoWalk x k
-IsAt x k bytes position (ControlBody at) = HasReached None control_decides (λ w. is_some w.fault) control_walk_of (reading_of None x.controls k) at bytes position
-IsAt x k bytes position (SessionBody at) = HasReached tt session_decides is_over session_walk_of (reading_of tt x.sessions k) at bytes position
+IsAt x k bytes position (ControlBody offset) = HasReached None control_decides (λ w. is_some w.fault) control_walk_of (reading_of None x.controls k) offset bytes position
+IsAt x k bytes position (SessionBody offset) = HasReached tt session_decides is_over session_walk_of (reading_of tt x.sessions k) offset bytes position
 IsAt x k bytes position GivenUp = position ≡ positions.GivenUp
 IsAt x k bytes position Anywhere = Unit {0}
 
--- An inbox refines a log, of whose streams each is at this stage, with these actions not taken yet, the newest first.
-pub record Refines (side : Side) (x : InboxState) (log : Log) (stage : ℕ → Stage) (untaken : List Action) : Type 0 where
+-- An inbox refines a log, of whose streams each is at this stage, with these actions not collected yet, the newest first.
+pub record Refines (side : Side) (x : InboxState) (log : Log) (stage : ℕ → Stage) (uncollected : List Action) : Type 0 where
   pub position : ℕ → ReadPosition
-  pub transport : seam.Refines side x.transport log position untaken
+  pub transport : seam.Refines side x.transport log position uncollected
   pub no_uni : local_count (actions_of log) (peer_uni side) ≡ 0  -- this end opened no stream of the peer's kinds
   pub no_bi : local_count (actions_of log) (peer_bi side) ≡ 0
   pub staged : (k : ℕ) → IsAt x k (contents log k) (position k) (stage k)

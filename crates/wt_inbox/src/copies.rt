@@ -34,9 +34,9 @@ pub(crate) fn copy_walk(alloc: Global, walk: &ResponseWalk) -> Result<ResponseWa
 {
     match walk {
         ResponseWalk::Incomplete => Ok(ResponseWalk::Incomplete),
-        ResponseWalk::Response(response, at) => {
+        ResponseWalk::Response(response, offset) => {
             let response = copy_response(alloc, response)?;
-            Ok(ResponseWalk::Response(response, *at))
+            Ok(ResponseWalk::Response(response, *offset))
         }
         ResponseWalk::Ended => Ok(ResponseWalk::Ended),
         ResponseWalk::Fault(code) => Ok(ResponseWalk::Fault(*code)),

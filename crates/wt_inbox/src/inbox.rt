@@ -59,7 +59,7 @@ impl Model for Inbox {
 }
 
 impl Inbox {
-    /// The inbox of a connection of which nothing was told yet.
+    /// The inbox of a connection of which nothing was reported yet.
     #[tactic(auto, using(crate::proofs::Passing::new_inbox_refines))]
     pub fn new(alloc: Global, side: Side) -> Inbox
         ensures now { result ≡ nothing_read side }

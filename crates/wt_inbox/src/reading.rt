@@ -28,7 +28,7 @@ fn feed_counted<W: Walk, L: Ledger>(
     requires parts { blank.parts ≡ L.parts }
     requires some { 0 < L.parts }
     ensures within { IfOk result (λ n. n ≤ length piece.now) }
-    ensures taken { IfOk result (λ n. reader.new ≡ fed_reading W.decides reader.old (take n piece.now)) }
+    ensures fed { IfOk result (λ n. reader.new ≡ fed_reading W.decides reader.old (take n piece.now)) }
     ensures running { (bytes : List ℕ) (end : StreamEnd) (k : ℕ) → HasRead W.decides W.start_state reader.old bytes end
         → IfOk result (λ n. k < n → W.is_final_outcome (W.outcome_of (bytes ++ take k piece.now) end) ≡ false) }
     ensures stops_short { IfOk result (λ n. n < length piece.now → W.is_final_outcome (outcome_in W.unfinished_at reader.new) ≡ true) }
@@ -40,7 +40,7 @@ fn feed_counted<W: Walk, L: Ledger>(
 /// The same, where nobody counts.
 fn feed<W: Walk>(reader: &mut StreamReader<W>, piece: &[u8]) -> Result<usize, OutOfMemory>
     ensures within { IfOk result (λ n. n ≤ length piece.now) }
-    ensures taken { IfOk result (λ n. reader.new ≡ fed_reading W.decides reader.old (take n piece.now)) }
+    ensures fed { IfOk result (λ n. reader.new ≡ fed_reading W.decides reader.old (take n piece.now)) }
     ensures running { (bytes : List ℕ) (end : StreamEnd) (k : ℕ) → HasRead W.decides W.start_state reader.old bytes end
         → IfOk result (λ n. k < n → W.is_final_outcome (W.outcome_of (bytes ++ take k piece.now) end) ≡ false) }
     ensures stops_short { IfOk result (λ n. n < length piece.now → W.is_final_outcome (outcome_in W.unfinished_at reader.new) ≡ true) }
@@ -54,7 +54,7 @@ fn read_piece<W: Walk>(
     id: StreamId,
     reader: &mut StreamReader<W>,
 ) -> Result<bool, OutOfMemory>
-    ensures bytes_taken { IfOk result (λ more. (count : ℕ)
+    ensures bytes_consumed { IfOk result (λ more. (count : ℕ)
         × Takes W.start_state W.decides W.is_final_outcome W.outcome_of reader.old reader.new transport.old transport.new id count) }
     ensures more { IfOk result (λ more. more ≡ true → length (unread_now transport.new id) < length (unread_now transport.old id)) }
     ensures done { IfOk result (λ more. more ≡ false
@@ -62,9 +62,9 @@ fn read_piece<W: Walk>(
 {
     let piece = transport.peek(id);
     let size = piece.len();
-    let taken = feed(reader, piece)?;
-    transport.consume(id, taken);
-    Ok(0 < taken && taken == size)
+    let consumed = feed(reader, piece)?;
+    transport.consume(id, consumed);
+    Ok(0 < consumed && consumed == size)
 }
 
 /// Feeds a reader what is unread, up to the byte with which its outcome is final.
@@ -74,7 +74,7 @@ fn read_pieces<W: Walk>(
     reader: &mut StreamReader<W>,
 ) -> Result<(), OutOfMemory>
     requires { IsSteady W.decides }
-    ensures bytes_taken { IfOk result (λ _. (count : ℕ)
+    ensures bytes_consumed { IfOk result (λ _. (count : ℕ)
         × Takes W.start_state W.decides W.is_final_outcome W.outcome_of reader.old reader.new transport.old transport.new id count) }
     ensures done { IfOk result (λ _. (W.is_final_outcome (outcome_in W.unfinished_at reader.new) ≡ true) ⊎ (unread_now transport.new id ≡ [])) }
 {

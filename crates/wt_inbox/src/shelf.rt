@@ -108,7 +108,7 @@ impl<W: Walk> Shelf<W> {
     /// Where the reader of a stream stands; the fresh one is kept where there was none.
     fn index_for(&mut self, id: StreamId, fresh: StreamReader<W>) -> Result<usize, OutOfMemory>
         requires { fresh ≡ no_reading W.start_state }
-        ensures at { IfOk result (λ index. StandsAt W.start_state self.new id index) }
+        ensures index_is { IfOk result (λ index. StandsAt W.start_state self.new id index) }
         ensures same { OnOk result ((k : ℕ) → reading_of W.start_state self.new k ≡ reading_of W.start_state self.old k) }
         ensures count { OnOk result (length self.new ≡ (if is_kept self.old id then length self.old else length self.old + 1)) }
     {

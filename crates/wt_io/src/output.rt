@@ -129,10 +129,10 @@ pub fn write_all<K: Sink>(sink: &mut K, text: &[u8]) -> Result<(), CutShort>
     ensures cause { IfErr result (λ failure. failure ≡ cuts.SinkFailed) }
     ensures fault { IsErr result → Rose (K.faults sink.old) (K.faults sink.new) }
 {
-    let mut at = 0;
-    while at < text.len() {
-        match sink.write(&text[at..]) {
-            Ok(count) => at += count,
+    let mut offset = 0;
+    while offset < text.len() {
+        match sink.write(&text[offset..]) {
+            Ok(count) => offset += count,
             Err(_) => return Err(CutShort::SinkFailed),
         }
     }

@@ -41,12 +41,12 @@ appended (a ∷ as_) bs log = appended as_ bs (Sent a ∷ log)
 
 flush-ends : (side : Side) (e : Entry) (log : Log) → NothingAfterEnd (e ∷ log) → NothingAfterEnd (log_and_flush side log e)
 unfolding flush before-close
-flush-ends side e log p = at (is_moment e) (is_open (e ∷ log)) refl
+flush-ends side e log p = by (is_moment e) (is_open (e ∷ log)) refl
   where
-    at : (m b : Bool) → is_open (e ∷ log) ≡ b → NothingAfterEnd (apply_if (m && b) (with_actions (pending_actions side (e ∷ log))) (e ∷ log))
-    at false b o = p
-    at true false o = p
-    at true true o =
+    by : (m b : Bool) → is_open (e ∷ log) ≡ b → NothingAfterEnd (apply_if (m && b) (with_actions (pending_actions side (e ∷ log))) (e ∷ log))
+    by false b o = p
+    by true false o = p
+    by true true o =
         subst NothingAfterEnd (sym (appended (before-close side (e ∷ log)) (close_actions (session_id (established_session (calls_of (e ∷ log)))) (stream_table side (e ∷ log)).progress.ending) (e ∷ log)))
         (ending-last (session_id (established_session (calls_of (e ∷ log)))) (stream_table side (e ∷ log)).progress.ending (with_actions (before-close side (e ∷ log)) (e ∷ log))
         (keep-open (before-close side (e ∷ log)) (e ∷ log) (before-closes side (e ∷ log)) o) (while-open (before-close side (e ∷ log)) (e ∷ log) (before-closes side (e ∷ log)) o p))

@@ -20,12 +20,12 @@ use Rattle.wt_spec.specs.Answers.{answer_to, is_lawful, log_after}
 use Rattle.wt_spec.specs.Driver.{established_session}
 use Rattle.wt_spec.specs.Halves.{has_sending_half, is_accepted}
 
--- the frame of the session's stream is settled: no later call begins it
-record Settled (side : Side) (frame : Option (List ℕ)) (log : Log) (turn : Turn) : Type 0 where
+-- the frame of the session's stream is in the log: no later call begins it
+record FrameLogged (side : Side) (frame : Option (List ℕ)) (log : Log) (turn : Turn) : Type 0 where
   pub before : Both side frame log
   pub after : Both side frame (log_after side log turn)
 
-none-begun : (side : Side) (log : Log) (turn : Turn) → IsReachable side log → is_lawful side log turn ≡ true → (Begins side log turn → ⊥) → (frame : Option (List ℕ)) × Settled side frame log turn
+none-begun : (side : Side) (log : Log) (turn : Turn) → IsReachable side log → is_lawful side log turn ≡ true → (Begins side log turn → ⊥) → (frame : Option (List ℕ)) × FrameLogged side frame log turn
 none-begun side log turn r l n =
     let s = so-far-reached side log r in
     let b = s.1.both in
@@ -33,16 +33,16 @@ none-begun side log turn r l n =
 
 -- ---- an established session's stream
 
-begun-before : (side : Side) (log : Log) (turn : Turn) (s at : ℕ) → IsReachable side log → established_session (calls_of log) ≡ Some (s, at) → Begins side log turn → ⊥
-begun-before side log turn s at r e (Connects c n) = absurd (let x = ap (λ (g : Log). established_session (calls_of g)) n in cc)
-begun-before side log turn s at r e (Answers id c q w) = absurd (let n = (so-far-reached side log r).1.both.out.heads.given.handshakes.none_yet (ap is_under_way q) in cc)
+begun-before : (side : Side) (log : Log) (turn : Turn) (s offset : ℕ) → IsReachable side log → established_session (calls_of log) ≡ Some (s, offset) → Begins side log turn → ⊥
+begun-before side log turn s offset r e (Connects c n) = absurd (let x = ap (λ (g : Log). established_session (calls_of g)) n in cc)
+begun-before side log turn s offset r e (Answers id c q w) = absurd (let n = (so-far-reached side log r).1.both.out.heads.given.handshakes.none_yet (ap is_under_way q) in cc)
 
-established-sends : (side : Side) (log : Log) (turn : Turn) (s at : ℕ) → IsReachable side log → is_lawful side log turn ≡ true → established_session (calls_of log) ≡ Some (s, at)
+established-sends : (side : Side) (log : Log) (turn : Turn) (s offset : ℕ) → IsReachable side log → is_lawful side log turn ≡ true → established_session (calls_of log) ≡ Some (s, offset)
     → (sent_on (actions_of (log_after side log turn)) s ≡ sent_on (actions_of log) s) × (is_accepted log s ≡ false)
-established-sends side log turn s at r l e =
-    let x = none-begun side log turn r l (begun-before side log turn s at r e) in
-    let w = x.1.before.out.whole s at e in
-    let v = x.1.after.out.whole s at (one-session side log turn r l s at e) in
+established-sends side log turn s offset r l e =
+    let x = none-begun side log turn r l (begun-before side log turn s offset r e) in
+    let w = x.1.before.out.whole s offset e in
+    let v = x.1.after.out.whole s offset (one-session side log turn r l s offset e) in
     let p = w.1 in
     let q = v.1 in
     let same : sent_on (actions_of (log_after side log turn)) s ≡ sent_on (actions_of log) s = cc in
@@ -89,12 +89,12 @@ sends-in-order side log turn r l k n h = from-or (is_accepted log k) _ (λ a. gi
     idle : (sent_on (actions_of (log_after side log turn)) k ≡ sent_on (actions_of log) k) × (is_accepted log k ≡ false) → sent_on (actions_of (log_after side log turn)) k ≡ sent_on (actions_of log) k ++ accepted_by (bytes_for k turn) (answer_to side log turn).reply
     idle p = p.0 ∙ sym (ap (λ xs. sent_on (actions_of log) k ++ xs) (none-accepted side k log turn (inl (no-sending side log k p.1))) ∙ append-nil (sent_on (actions_of log) k))
 
-    at : (o : Option (ℕ × ℕ)) → established_session (calls_of log) ≡ o → is_stream_of o k ≡ true → (sent_on (actions_of (log_after side log turn)) k ≡ sent_on (actions_of log) k) × (is_accepted log k ≡ false)
-    at None e i = absurd (cc)
-    at (Some s) e i = subst (λ j. (sent_on (actions_of (log_after side log turn)) j ≡ sent_on (actions_of log) j) × (is_accepted log j ≡ false)) (eqb-true s.0 k i) (established-sends side log turn s.0 s.1 r l e)
+    by : (o : Option (ℕ × ℕ)) → established_session (calls_of log) ≡ o → is_stream_of o k ≡ true → (sent_on (actions_of (log_after side log turn)) k ≡ sent_on (actions_of log) k) × (is_accepted log k ≡ false)
+    by None e i = absurd (cc)
+    by (Some s) e i = subst (λ j. (sent_on (actions_of (log_after side log turn)) j ≡ sent_on (actions_of log) j) × (is_accepted log j ≡ false)) (eqb-true s.0 k i) (established-sends side log turn s.0 s.1 r l e)
 
     of-session : is_stream_of (established_session (calls_of log)) k ≡ true → sent_on (actions_of (log_after side log turn)) k ≡ sent_on (actions_of log) k ++ accepted_by (bytes_for k turn) (answer_to side log turn).reply
-    of-session i = idle (at (established_session (calls_of log)) refl i)
+    of-session i = idle (by (established_session (calls_of log)) refl i)
 
     rejected : (is_session_stream side (calls_of log) k && is_finished (actions_of log) k) ≡ true → sent_on (actions_of (log_after side log turn)) k ≡ sent_on (actions_of log) k ++ accepted_by (bytes_for k turn) (answer_to side log turn).reply
     rejected f = idle (rejected-sends side log turn k r l f)

@@ -24,7 +24,7 @@ use Rattle.wt_wire.specs.declared.side.Side.{Side}
 use Rattle.wt_wire.specs.declared.side.Side.TheVariants.{Client, Server}
 use Rattle.wt_wire.specs.declared.side.StreamEnd.{StreamEnd}
 use Rattle.wt_laws.proofs.Caused.{Caused, caused-accept, caused-connect-to, caused-continue, caused-deliver, caused-receive, caused-start, covered-whole, either, head-out, leaf, not-stopped, own-if, own-send, polled, unrefused, unrefused-whole}
-use Rattle.wt_laws.proofs.Steps.{Brings, ByByte, ByEvent, ByLate, Nothing, Steps, blind-actions, blind-flush, calls-with}
+use Rattle.wt_laws.proofs.Steps.{EventNow, ByByte, ByEvent, ByLate, Nothing, Steps, blind-actions, blind-flush, calls-with}
 use Rattle.wt_laws.specs.Causes.{ByAcceptance, ByOpening, ByRejection, CloseCause, DatagramOf, FoundStream, OfCall, OfEndpoint, OfHeader, OfWrite, OwnCauses, accepted_kind, asked_size, bytes_for, head_frame_of, is_accept, is_receive, opened_kind, polls_opening, reads_from}
 use Rattle.wt_turn.specs.Turns.{event_of, is_call}
 use Rattle.wt_laws.specs.RecordCauses.{AtEnd, HeaderStopped}
@@ -53,31 +53,31 @@ module _ (side : Side) (turn : Turn) (by_call : is_call turn ≡ true) where
   local-kind : (kind n : ℕ) → nat_lt kind 4 ≡ true → (4 * n + kind) % 4 ≡ kind
   local-kind kind n l = let f : kind < 4 = ltb-true kind 4 l in omega arith
 
-  caused-open : (log : Log) (kind s at : ℕ) → opened_kind side turn ≡ Some kind → nat_lt kind 4 ≡ true → (kind == local_uni side || kind == local_bi side) ≡ true → established_session (calls_of log) ≡ Some (s, at) → Caused side turn log (open_stream side log kind s)
-  caused-open log kind s at q l z d =
+  caused-open : (log : Log) (kind s offset : ℕ) → opened_kind side turn ≡ Some kind → nat_lt kind 4 ≡ true → (kind == local_uni side || kind == local_bi side) ≡ true → established_session (calls_of log) ≡ Some (s, offset) → Caused side turn log (open_stream side log kind s)
+  caused-open log kind s offset q l z d =
       either side turn by_call (not (is_open log)) _ _ (λ o. polled side turn by_call log _ refl (AtOpening kind q (not-true _ o) refl)) (λ o.
       either side turn by_call (may_open side log kind) _ _ (λ m. opens m (not-false _ o)) (λ m. polled side turn by_call log replies.Pending refl (not-false _ o, NoStreamToOpen kind q m)))
     where
       opens : may_open side log kind ≡ true → is_open log ≡ true → Caused side turn log (reply_with (log_call side log (actions_to_open side log kind) (OpeningStarted (next_id side log kind) s)) (replies.Opening (next_id side log kind)))
       opens m o =
-          leaf side turn by_call log (actions_to_open side log kind) (OpeningStarted (next_id side log kind) s) (replies.Opening (next_id side log kind)) (rw m ((o, kind, m, refl, z, OfCall s at q d), tt))
-          (record { cause = record { opens = q ∙ ap Some (sym (local-kind kind (stream_count side log kind) l)); offset = at; is_established = ap established_session (calls-with (actions_to_open side log kind) log) ∙ d; earlier = log; sent = rw m refl; allowed = rw (local-kind kind (stream_count side log kind) l) m; is_next = rw (local-kind kind (stream_count side log kind) l) refl }; kind = kind; own_is = refl; may = m; next = refl; small = l }) refl (o, kind, q, m, refl)
+          leaf side turn by_call log (actions_to_open side log kind) (OpeningStarted (next_id side log kind) s) (replies.Opening (next_id side log kind)) (rw m ((o, kind, m, refl, z, OfCall s offset q d), tt))
+          (record { cause = record { opens = q ∙ ap Some (sym (local-kind kind (stream_count side log kind) l)); offset = offset; is_established = ap established_session (calls-with (actions_to_open side log kind) log) ∙ d; earlier = log; sent = rw m refl; allowed = rw (local-kind kind (stream_count side log kind) l) m; is_next = rw (local-kind kind (stream_count side log kind) l) refl }; kind = kind; own_is = refl; may = m; is_next = refl; small = l }) refl (o, kind, q, m, refl)
 
   still-opening : (own : List Action) (log : Log) (k : ℕ) → is_opening (with_actions own log) k ≡ is_opening log k
   still-opening own log k = blind-actions (λ g. is_opening g k) (λ a g. refl) own log
 
-  module _ (log : Log) (k s at : ℕ) (p : polls_opening k turn ≡ true) (d : established_session (calls_of log) ≡ Some (s, at)) (i : is_opening log k ≡ true) where
+  module _ (log : Log) (k s offset : ℕ) (p : polls_opening k turn ≡ true) (d : established_session (calls_of log) ≡ Some (s, offset)) (i : is_opening log k ≡ true) where
     left : List ℕ
     left = head_left log k (stream_header k s)
 
     caused-header : is_open log ≡ true → is_refused log k left ≡ false → (b : Bool) → is_covered log k left ≡ b → (c : Bool) → is_bidirectional k ≡ c
         → Caused side turn log (if b then reply_with (log_call side log (send_of k left) (StreamAccepted k)) (if c then replies.BiReady k else replies.SendReady k) else poll_sending side log (send_of k (bytes_within_credit log k left)) replies.Pending)
     unfolding left
-    caused-header o f true c x y = leaf side turn by_call log (send_of k left) (StreamAccepted k) _ (own-send side turn by_call log k left o (unrefused-whole side turn by_call log k left f c) (OfHeader s at p d i (sym (covered-whole log k left c)))) (ByOpening (record {
+    caused-header o f true c x y = leaf side turn by_call log (send_of k left) (StreamAccepted k) _ (own-send side turn by_call log k left o (unrefused-whole side turn by_call log k left f c) (OfHeader s offset p d i (sym (covered-whole log k left c)))) (ByOpening (record {
       polls = p;
       opening = still-opening (send_of k left) log k ∙ i;
       session = s;
-      offset = at;
+      offset = offset;
       is_established = ap established_session (calls-with (send_of k left) log) ∙ d;
       whole = head-out log k (stream_header k s);
     })) (reported x) (ready x y)
@@ -87,20 +87,20 @@ module _ (side : Side) (turn : Turn) (by_call : is_call turn ≡ true) where
         reported false = refl
 
         ready : (x : Bool) → is_bidirectional k ≡ x → ReplyCause side turn log (if x then replies.BiReady k else replies.SendReady k)
-        ready true y = (record { polls = p; opening = i; still_open = o; session = s; offset = at; is_established = d; covers = c }, y)
-        ready false y = (record { polls = p; opening = i; still_open = o; session = s; offset = at; is_established = d; covers = c }, y)
-    caused-header o f false c x y = leaf side turn by_call log (send_of k (bytes_within_credit log k left)) Polled replies.Pending (own-send side turn by_call log k (bytes_within_credit log k left) o (unrefused side turn by_call (stop_of (events_of log) k) left (credit_left log k) f) (OfHeader s at p d i refl)) by_call refl (o, HeadUnsent k (stream_header k s) (OfTheStream s at p i d refl) c (not-stopped side turn by_call (stop_of (events_of log) k) left (credit_left log k) f c))
+        ready true y = (record { polls = p; opening = i; still_open = o; session = s; offset = offset; is_established = d; covers = c }, y)
+        ready false y = (record { polls = p; opening = i; still_open = o; session = s; offset = offset; is_established = d; covers = c }, y)
+    caused-header o f false c x y = leaf side turn by_call log (send_of k (bytes_within_credit log k left)) Polled replies.Pending (own-send side turn by_call log k (bytes_within_credit log k left) o (unrefused side turn by_call (stop_of (events_of log) k) left (credit_left log k) f) (OfHeader s offset p d i refl)) by_call refl (o, HeadUnsent k (stream_header k s) (OfTheStream s offset p i d refl) c (not-stopped side turn by_call (stop_of (events_of log) k) left (credit_left log k) f c))
 
     caused-opening : Caused side turn log (continue_opening side log k left)
     unfolding left
     caused-opening =
         either side turn by_call (not (is_open log)) _ _ (λ o. leaf side turn by_call log [] (OpeningFailed k) (replies.OpeningFailed openings.NotConnected) tt (AtEnd p i (not-true _ o)) refl (not-true _ o, k, p, i)) (λ o.
-        either side turn by_call (is_refused log k left) _ _ (λ r. leaf side turn by_call log [] (OpeningFailed k) (replies.OpeningFailed openings.Refused) tt (HeaderStopped s at p i d r) refl (k, s, at, p, i, d, r))
+        either side turn by_call (is_refused log k left) _ _ (λ r. leaf side turn by_call log [] (OpeningFailed k) (replies.OpeningFailed openings.Refused) tt (HeaderStopped s offset p i d r) refl (k, s, offset, p, i, d, r))
         (λ r. caused-header (not-false _ o) r (is_covered log k left) refl (is_bidirectional k) refl))
 
-  caused-poll : (log : Log) (k s at : ℕ) → polls_opening k turn ≡ true → established_session (calls_of log) ≡ Some (s, at) → half_of side log turn ≡ Some (is_opening log k) → Caused side turn log (poll_opening side log k s)
+  caused-poll : (log : Log) (k s offset : ℕ) → polls_opening k turn ≡ true → established_session (calls_of log) ≡ Some (s, offset) → half_of side log turn ≡ Some (is_opening log k) → Caused side turn log (poll_opening side log k s)
   unfolding left
-  caused-poll log k s at p d h = either side turn by_call (is_opening log k) _ _ (λ i. caused-opening log k s at p d i) (λ i. polled side turn by_call log replies.NoStream refl (h ∙ ap Some i))
+  caused-poll log k s offset p d h = either side turn by_call (is_opening log k) _ _ (λ i. caused-opening log k s offset p d i) (λ i. polled side turn by_call log replies.NoStream refl (h ∙ ap Some i))
 
   -- ---- sending datagrams
 
@@ -114,9 +114,9 @@ module _ (side : Side) (turn : Turn) (by_call : is_call turn ≡ true) where
   caused-allowed log bytes None t o e = polled side turn by_call log _ refl (bytes, t, inr e)
   caused-allowed log bytes (Some fact) t o e = caused-within log bytes fact t o e
 
-  caused-send-datagram : (log : Log) (payload : List ℕ) (s at : ℕ) → established_session (calls_of log) ≡ Some (s, at) → turn ≡ turns.Call (calls.SendDatagram payload) → Caused side turn log (send_datagram side log payload s)
-  caused-send-datagram log payload s at d t =
-      let x : DatagramOf turn log (datagram_bytes (s / 4) payload) = record { payload = payload; session = s; offset = at; sends = t; is_established = d; bytes_are = refl } in
+  caused-send-datagram : (log : Log) (payload : List ℕ) (s offset : ℕ) → established_session (calls_of log) ≡ Some (s, offset) → turn ≡ turns.Call (calls.SendDatagram payload) → Caused side turn log (send_datagram side log payload s)
+  caused-send-datagram log payload s offset d t =
+      let x : DatagramOf turn log (datagram_bytes (s / 4) payload) = record { payload = payload; session = s; offset = offset; sends = t; is_established = d; bytes_are = refl } in
       either side turn by_call (is_open log) _ _ (λ o. caused-allowed log (datagram_bytes (s / 4) payload) _ x o refl) (λ o. polled side turn by_call log _ refl (datagram_bytes (s / 4) payload, x, inl o))
 
   -- ---- the rest of a session's calls
@@ -128,7 +128,7 @@ module _ (side : Side) (turn : Turn) (by_call : is_call turn ≡ true) where
   closed-so log true t o = (o, NotClosed t)
   closed-so log false t o = (t, o, refl)
 
-  caused-session : (log : Log) (call : ℕ → Effect) (o : Option (ℕ × ℕ)) → asks_for_session turn ≡ true → established_session (calls_of log) ≡ o → ((s at : ℕ) → established_session (calls_of log) ≡ Some (s, at) → Caused side turn log (call s)) → Caused side turn log (in_session side log call o)
+  caused-session : (log : Log) (call : ℕ → Effect) (o : Option (ℕ × ℕ)) → asks_for_session turn ≡ true → established_session (calls_of log) ≡ o → ((s offset : ℕ) → established_session (calls_of log) ≡ Some (s, offset) → Caused side turn log (call s)) → Caused side turn log (in_session side log call o)
   caused-session log call None a e f = polled side turn by_call log replies.NoSession refl (a, e)
   caused-session log call (Some s) a e f = f s.0 s.1 e
 
@@ -199,12 +199,12 @@ module _ (side : Side) (turn : Turn) (by_call : is_call turn ≡ true) where
   stopped-cause : (log : Log) (k : ℕ) (failing : StreamWriteError → Reply) (closed : Reply) (stop : Option ℕ) → ((e : StreamWriteError) → is_closed_error e ≡ false → StoppedCause log k e → ReplyCause side turn log (failing e))
       → (stop_of (events_of log) k ≡ None → is_done log k ≡ true → ReplyCause side turn log closed) → waits_for_end turn ≡ Some k → stop_of (events_of log) k ≡ stop → ReplyCause side turn log (stopped_reply log k failing closed stop)
   stopped-cause log k failing closed (Some code) f g w s = f (writes.Stopped code) refl s
-  stopped-cause log k failing closed None f g w s = at (is_done log k) refl (is_open log) refl
+  stopped-cause log k failing closed None f g w s = by (is_done log k) refl (is_open log) refl
     where
-      at : (b : Bool) → is_done log k ≡ b → (o : Bool) → is_open log ≡ o → ReplyCause side turn log (if b then closed else (if o then replies.Pending else failing writes.NotConnected))
-      at true d o p = g s d
-      at false d true p = (p, NotEnded k w s d)
-      at false d false p = f writes.NotConnected refl (s, d, p)
+      by : (b : Bool) → is_done log k ≡ b → (o : Bool) → is_open log ≡ o → ReplyCause side turn log (if b then closed else (if o then replies.Pending else failing writes.NotConnected))
+      by true d o p = g s d
+      by false d true p = (p, NotEnded k w s d)
+      by false d false p = f writes.NotConnected refl (s, d, p)
 
   -- ---- receiving halves
 
@@ -242,11 +242,11 @@ module _ (side : Side) (turn : Turn) (by_call : is_call turn ≡ true) where
 
   caused-exact-end : (log : Log) (k size : ℕ) (e : StreamEnd) → turn ≡ turns.Call (calls.ReadExact k size) → reads_from k turn ≡ true → has_receiving_half side log k ≡ true → nat_lt (length (unread_body side log k)) size ≡ true → end_of (events_of log) k ≡ e
       → Caused side turn log (exact_at_end side log k (unread_body side log k) e)
-  caused-exact-end log k size ends.Running t r c l e = polled side turn by_call log _ (quiet-if (is_open log) replies.Pending (replies.ExactFailed (exacts.Read reads.NotConnected) []) refl refl) (at (is_open log) refl)
+  caused-exact-end log k size ends.Running t r c l e = polled side turn by_call log _ (quiet-if (is_open log) replies.Pending (replies.ExactFailed (exacts.Read reads.NotConnected) []) refl refl) (by (is_open log) refl)
     where
-      at : (o : Bool) → is_open log ≡ o → ReplyCause side turn log (if o then replies.Pending else replies.ExactFailed (exacts.Read reads.NotConnected) [])
-      at true o = (o, TooFewUnread k size t l e)
-      at false o = (k, size, t, c, l, ((o, e), refl))
+      by : (o : Bool) → is_open log ≡ o → ReplyCause side turn log (if o then replies.Pending else replies.ExactFailed (exacts.Read reads.NotConnected) [])
+      by true o = (o, TooFewUnread k size t l e)
+      by false o = (k, size, t, c, l, ((o, e), refl))
   caused-exact-end log k size ends.Fin t r c l e = caused-take-bytes log k (unread_body side log k) _ r c (as-asked _ size (ap asked_size t) (let s = ltb-true (length (unread_body side log k)) size l in omega arith)) (omega arith) refl (k, size, t, c, l, (e, refl, refl))
   caused-exact-end log k size (ends.Reset code) t r c l e = polled side turn by_call log _ refl (k, size, t, c, l, (e, refl))
 
@@ -297,7 +297,7 @@ module _ (side : Side) (turn : Turn) (by_call : is_call turn ≡ true) where
       → Caused side turn log (on_session side log (accept_stream side reply kind log))
   accepts log reply kind a w e t q =
       caused-session log (accept_stream side reply kind log) (established_session (calls_of log)) w refl
-      (λ s at d. subst (λ n. Caused side turn log (accept_stream side reply n log s)) e (caused-accept side turn by_call a s at reply t q log d))
+      (λ s offset d. subst (λ n. Caused side turn log (accept_stream side reply n log s)) e (caused-accept side turn by_call a s offset reply t q log d))
 
   caused-call : (log : Log) (c : Call) → turn ≡ turns.Call c → may_call side log c ≡ true → Caused side turn log (call_effect side log c)
   unfolding call_effect
@@ -315,21 +315,21 @@ module _ (side : Side) (turn : Turn) (by_call : is_call turn ≡ true) where
   caused-call log calls.AcceptUni t l = accepts log replies.Uni (peer_uni side) (ap is_accept t) (ap asks_for_session t) (ap (accepted_kind side) t) (λ k. refl) (λ g k f. given-stream g (peer_uni side) k (ap (accepted_kind side) t) f)
   caused-call log calls.AcceptBi t l = accepts log replies.Bi (peer_bi side) (ap is_accept t) (ap asks_for_session t) (ap (accepted_kind side) t) (λ k. refl) (λ g k f. given-stream g (peer_bi side) k (ap (accepted_kind side) t) f)
   caused-call log calls.ReceiveDatagram t l =
-      caused-session log (receive_datagram side log) (established_session (calls_of log)) (ap asks_for_session t) refl (λ s at d. caused-receive side turn by_call (ap is_receive t) s at (suc (length (datagrams_of (events_of log)))) log d (omega arith))
+      caused-session log (receive_datagram side log) (established_session (calls_of log)) (ap asks_for_session t) refl (λ s offset d. caused-receive side turn by_call (ap is_receive t) s offset (suc (length (datagrams_of (events_of log)))) log d (omega arith))
   caused-call log calls.OpenUni t l =
       caused-session log (open_stream side log (local_uni side)) (established_session (calls_of log)) (ap asks_for_session t) refl
-      (λ s at d. caused-open log (local_uni side) s at (ap (opened_kind side) t) (small-local side).0 (or_left _ _ (eq-eqb (local_uni side) (local_uni side) refl)) d)
+      (λ s offset d. caused-open log (local_uni side) s offset (ap (opened_kind side) t) (small-local side).0 (or_left _ _ (eq-eqb (local_uni side) (local_uni side) refl)) d)
   caused-call log calls.OpenBi t l =
       caused-session log (open_stream side log (local_bi side)) (established_session (calls_of log)) (ap asks_for_session t) refl
-      (λ s at d. caused-open log (local_bi side) s at (ap (opened_kind side) t) (small-local side).1 (or_right (local_bi side == local_uni side) _ (eq-eqb (local_bi side) (local_bi side) refl)) d)
+      (λ s offset d. caused-open log (local_bi side) s offset (ap (opened_kind side) t) (small-local side).1 (or_right (local_bi side == local_uni side) _ (eq-eqb (local_bi side) (local_bi side) refl)) d)
   caused-call log (calls.PollOpening id) t l =
-      caused-session log (poll_opening side log id) (established_session (calls_of log)) (ap asks_for_session t) refl (λ s at d. caused-poll log id s at (ap (polls_opening id) t ∙ same-id id) d (ap (half_of side log) t))
+      caused-session log (poll_opening side log id) (established_session (calls_of log)) (ap asks_for_session t) refl (λ s offset d. caused-poll log id s offset (ap (polls_opening id) t ∙ same-id id) d (ap (half_of side log) t))
   caused-call log (calls.SendDatagram payload) t l =
-      caused-session log (send_datagram side log payload) (established_session (calls_of log)) (ap asks_for_session t) refl (λ s at d. caused-send-datagram log payload s at d t)
-  caused-call log calls.MaxDatagramSize t l = caused-session log _ (established_session (calls_of log)) (ap asks_for_session t) refl (λ s at d. polled side turn by_call log (replies.Size (payload_limit s (datagram_fact (events_of log)))) refl (t, s, at, d, refl))
-  caused-call log calls.SessionId t l = caused-session log _ (established_session (calls_of log)) (ap asks_for_session t) refl (λ s at d. polled side turn by_call log (replies.Id s) refl (t, at, d))
-  caused-call log (calls.Close code reason) t l = caused-session log _ (established_session (calls_of log)) (ap asks_for_session t) refl (λ s at d. caused-close log code reason (OfCall s at t d) (AtClose code reason t (ap is_some d)))
-  caused-call log calls.Closed t l = caused-session log _ (established_session (calls_of log)) (ap asks_for_session t) refl (λ s at d. polled side turn by_call log (closed_reply log) (quiet-if (is_open log) replies.Pending (replies.Closed (transport_error log)) refl refl) (closed-so log (is_open log) t refl))
+      caused-session log (send_datagram side log payload) (established_session (calls_of log)) (ap asks_for_session t) refl (λ s offset d. caused-send-datagram log payload s offset d t)
+  caused-call log calls.MaxDatagramSize t l = caused-session log _ (established_session (calls_of log)) (ap asks_for_session t) refl (λ s offset d. polled side turn by_call log (replies.Size (payload_limit s (datagram_fact (events_of log)))) refl (t, s, offset, d, refl))
+  caused-call log calls.SessionId t l = caused-session log _ (established_session (calls_of log)) (ap asks_for_session t) refl (λ s offset d. polled side turn by_call log (replies.Id s) refl (t, offset, d))
+  caused-call log (calls.Close code reason) t l = caused-session log _ (established_session (calls_of log)) (ap asks_for_session t) refl (λ s offset d. caused-close log code reason (OfCall s offset t d) (AtClose code reason t (ap is_some d)))
+  caused-call log calls.Closed t l = caused-session log _ (established_session (calls_of log)) (ap asks_for_session t) refl (λ s offset d. polled side turn by_call log (closed_reply log) (quiet-if (is_open log) replies.Pending (replies.Closed (transport_error log)) refl refl) (closed-so log (is_open log) t refl))
   caused-call log (calls.Write id bytes) t l =
       let h = ap (bytes_for id) t ∙ rw (same-id id) refl in
       caused-half log _ id (has_sending_half side log id) (ap (half_of side log) t) (λ c. caused-write written_reply log id bytes (write_error log id) h c refl (quiet-written bytes (length (bytes_within_credit log id bytes))) (λ w o. written-reply log id bytes (length (bytes_within_credit log id bytes)) t refl h c w o))
@@ -352,11 +352,11 @@ module _ (side : Side) (turn : Turn) (by_call : is_call turn ≡ true) where
       caused-half log _ id (has_sending_half side log id) (ap (half_of side log) t)
       (λ c. polled side turn by_call log _ (quiet-stopped log id (λ e. replies.StoppedBy e) (replies.StoppedBy writes.Closed) (stop_of (events_of log) id) (λ e. refl) refl) (stopped-cause log id (λ e. replies.StoppedBy e) (replies.StoppedBy writes.Closed) (stop_of (events_of log) id) (λ e n x. (id, t, c, x)) (λ s d. (id, t, c, (s, d))) (ap waits_for_end t) refl))
   caused-call log (calls.Priority id) t l =
-      caused-half log _ id (has_sending_half side log id) (ap (half_of side log) t) (λ c. polled side turn by_call log _ (quiet-if (is_done log id) replies.ClosedStream (replies.Priority (priority_of (calls_of log) id)) refl refl) (at (is_done log id) refl c))
+      caused-half log _ id (has_sending_half side log id) (ap (half_of side log) t) (λ c. polled side turn by_call log _ (quiet-if (is_done log id) replies.ClosedStream (replies.Priority (priority_of (calls_of log) id)) refl refl) (by (is_done log id) refl c))
     where
-      at : (b : Bool) → is_done log id ≡ b → has_sending_half side log id ≡ true → ReplyCause side turn log (if b then replies.ClosedStream else replies.Priority (priority_of (calls_of log) id))
-      at true d c = (id, ap (needs_half id) t ∙ same-id id, c, d)
-      at false d c = (id, t, c, d, refl)
+      by : (b : Bool) → is_done log id ≡ b → has_sending_half side log id ≡ true → ReplyCause side turn log (if b then replies.ClosedStream else replies.Priority (priority_of (calls_of log) id))
+      by true d c = (id, ap (needs_half id) t ∙ same-id id, c, d)
+      by false d c = (id, t, c, d, refl)
   caused-call log (calls.SetPriority id p) t l =
       caused-half log _ id (has_sending_half side log id) (ap (half_of side log) t)
       (λ c. either side turn by_call (is_done log id) _ _ (λ d. polled side turn by_call log replies.Done refl (AtPriority id p t c)) (λ d. leaf side turn by_call log [] (PrioritySet id p) replies.Done tt (t, c, d) refl (AtPriority id p t c)))
@@ -376,7 +376,7 @@ module _ (side : Side) (turn : Turn) (by_call : is_call turn ≡ true) where
 -- ---- a turn of the transport
 
 module _ (side : Side) (turn : Turn) where
-  caused-event : (log : Log) (e : Event) (b : Bool) → is_call turn ≡ false → is_open log ≡ b → Brings side turn log e → Caused side turn log (reply_with (flush side (event_entry b e ∷ log)) replies.Done)
+  caused-event : (log : Log) (e : Event) (b : Bool) → is_call turn ≡ false → is_open log ≡ b → EventNow side turn log e → Caused side turn log (reply_with (flush side (event_entry b e ∷ log)) replies.Done)
   unfolding flush
   caused-event log e true n o x = record { decided = log; before = Nothing; after = ByEvent e o x Nothing; why = AtEvent n; passed = NonePassed; logged = NoRecord (blind-flush calls_of (λ a g. refl) side (Reported e) log) refl; at_once = λ z. refl }
   caused-event log e false n o x = record { decided = log; before = Nothing; after = ByLate e o x Nothing; why = AtEvent n; passed = NonePassed; logged = NoRecord refl refl; at_once = λ z. refl }

@@ -23,7 +23,7 @@ use Rattle.wt_laws.specs.Reachable.{is_among}
 use Rattle.wt_spec.specs.Answers.{is_lawful}
 use Rattle.wt_spec.specs.Driver.{call_view, close_actions, control_actions, control_sent, established_session, is_moment, opened_if, pending_actions, reset_if, session_id, stop_actions, stream_table}
 use Rattle.wt_spec.specs.Scan.{stop_list}
-use Rattle.wt_spec.specs.StreamTable.{ByFault, BySession, Classified, Consequence, Dispatched, Ending, Stopped, StreamTable, awaits_delivery, bi_consequence, dispatched_streams, kept_if, only, only_once, queued_behind, uni_consequence, verdict_of}
+use Rattle.wt_spec.specs.StreamTable.{ByFault, BySession, Classified, Consequence, Dispatched, Ending, Stopped, StreamTable, awaits_delivery, bi_consequence, dispatched_streams, kept_if, only, only_once, queued_after, uni_consequence, verdict_of}
 use Rattle.wt_turn.specs.declared.action.Action.TheVariants as actions
 use Rattle.wt_wire.specs.declared.error.ErrorCode.TheVariants as h3
 use Rattle.wt_proto.specs.declared.verdict.Verdict.TheVariants as verdicts
@@ -56,9 +56,9 @@ only-append keep (c ∷ cs) ds = ap (λ z. kept_if (keep c) c ++ z) (only-append
 -- what was queued stays so as more streams are classified
 stop-more : (side : Side) (log : Log) (cs ds : List Classified) (x : Stopped) → StoppedFor side log cs x → StoppedFor side log (cs ++ ds) x
 stop-more side log cs ds x (IsRefused a e) = IsRefused a e
-stop-more side log cs ds x (IsSurplus headers at queued later a e q o c) =
+stop-more side log cs ds x (IsSurplus headers offset queued later a e q o c) =
     let keep = awaits_delivery (call_view log).delivered in
-    IsSurplus headers at queued (later ++ only keep ds) a e (only-append keep cs ds ∙ ap (λ z. z ++ only keep ds) q) o c
+    IsSurplus headers offset queued (later ++ only keep ds) a e (only-append keep cs ds ∙ ap (λ z. z ++ only keep ds) q) o c
 
 stops-more : (side : Side) (log : Log) (cs ds : List Classified) (xs : List Stopped) → StopsFor side log cs xs → StopsFor side log (cs ++ ds) xs
 stops-more side log cs ds [] p = tt
@@ -66,17 +66,17 @@ stops-more side log cs ds (x ∷ xs) p = (stop-more side log cs ds x p.0, stops-
 
 no-uni-stop : (d : Dispatched) (k : ℕ) (v : Verdict) → (uni_consequence d k v).stop ≡ None
 no-uni-stop d k (verdicts.Fault code) = refl
-no-uni-stop d k (verdicts.Control at) = once-stop d.control
+no-uni-stop d k (verdicts.Control offset) = once-stop d.control
   where
     once-stop : (o : Option (ℕ × ℕ)) → (only_once o).stop ≡ None
     once-stop None = refl
     once-stop (Some x) = refl
-no-uni-stop d k (verdicts.Encoder at) = once-stop d.encoder
+no-uni-stop d k (verdicts.Encoder offset) = once-stop d.encoder
   where
     once-stop : (o : Option (ℕ × ℕ)) → (only_once o).stop ≡ None
     once-stop None = refl
     once-stop (Some x) = refl
-no-uni-stop d k (verdicts.Decoder at) = once-stop d.decoder
+no-uni-stop d k (verdicts.Decoder offset) = once-stop d.decoder
   where
     once-stop : (o : Option (ℕ × ℕ)) → (only_once o).stop ≡ None
     once-stop None = refl
@@ -86,25 +86,25 @@ no-uni-stop d k _ = refl
 -- the first that is kept is another stream than one that isn't in the list
 head-other : (keep : Classified → Bool) (cs : List Classified) (c : Classified) (later : List Classified) (k : ℕ) → only keep cs ≡ c ∷ later → verdict_of k cs ≡ None → (c.id == k) ≡ false
 head-other keep [] c later k q n = absurd (cc)
-head-other keep (x ∷ xs) c later k q n = at (x.id == k) refl n (λ r m. head-other keep xs c later k r m)
+head-other keep (x ∷ xs) c later k q n = by (x.id == k) refl n (λ r m. head-other keep xs c later k r m)
   where
     kept-one : (b : Bool) → kept_if b x ++ only keep xs ≡ c ∷ later → (x.id == k) ≡ false → verdict_of k xs ≡ None → (only keep xs ≡ c ∷ later → verdict_of k xs ≡ None → (c.id == k) ≡ false) → (c.id == k) ≡ false
     kept-one true r e m f = let same : x ≡ c = cc in ap (λ (z : Classified). z.id == k) (sym same) ∙ e
     kept-one false r e m f = f r m
 
-    at : (b : Bool) → (x.id == k) ≡ b → (if b then Some x.verdict else verdict_of k xs) ≡ None → (only keep xs ≡ c ∷ later → verdict_of k xs ≡ None → (c.id == k) ≡ false) → (c.id == k) ≡ false
-    at true e m f = absurd (cc)
-    at false e m f = kept-one (keep x) q e m f
+    by : (b : Bool) → (x.id == k) ≡ b → (if b then Some x.verdict else verdict_of k xs) ≡ None → (only keep xs ≡ c ∷ later → verdict_of k xs ≡ None → (c.id == k) ≡ false) → (c.id == k) ≡ false
+    by true e m f = absurd (cc)
+    by false e m f = kept-one (keep x) q e m f
 
 bi-stop : (side : Side) (log : Log) (cs : List Classified) (k : ℕ) (v : Verdict) → verdict_of k cs ≡ None → is_among (peer_bi side) (peer_count side (events_of log) (peer_bi side)) k ≡ true → bi_verdict_of (contents log k) (end_of (events_of log) k) ≡ v
     → StopsFor side log cs (stop_list (bi_consequence (dispatched_streams (call_view log) cs) k v).stop)
 bi-stop side log cs k (verdicts.Fault code) n a e = tt
 bi-stop side log cs k (verdicts.Refused code) n a e = (IsRefused a e, tt)
-bi-stop side log cs k (verdicts.Request headers at) n a e = surplus (dispatched_streams (call_view log) cs).requests refl
+bi-stop side log cs k (verdicts.Request headers offset) n a e = surplus (dispatched_streams (call_view log) cs).requests refl
   where
-    surplus : (queued : List Classified) → (dispatched_streams (call_view log) cs).requests ≡ queued → StopsFor side log cs (stop_list (queued_behind queued k).stop)
+    surplus : (queued : List Classified) → (dispatched_streams (call_view log) cs).requests ≡ queued → StopsFor side log cs (stop_list (queued_after queued k).stop)
     surplus [] q = tt
-    surplus (c ∷ later) q = (IsSurplus headers at c later a e q (head-other (awaits_delivery (call_view log).delivered) cs c later k q n) refl, tt)
+    surplus (c ∷ later) q = (IsSurplus headers offset c later a e q (head-other (awaits_delivery (call_view log).delivered) cs c later k q n) refl, tt)
 bi-stop side log cs k _ n a e = tt
 
 classified-stop : (side : Side) (log : Log) (t : StreamTable) (k : ℕ) (v : Verdict) (x : Consequence) → verdict_of k t.classified ≡ None → ClassifiedAs side log t k v x → StopsFor side log t.classified (stop_list x.stop)
@@ -146,9 +146,9 @@ all-stop-so P Q f (x ∷ xs) p = (f x.id p.0, all-stop-so P Q f xs p.1)
 bi-stops : (P : ℕ → Type 0) (d : Dispatched) (k : ℕ) (v : Verdict) → P k → AllStop P (stop_list (bi_consequence d k v).stop)
 bi-stops P d k (verdicts.Fault code) n = tt
 bi-stops P d k (verdicts.Refused code) n = (n, tt)
-bi-stops P d k (verdicts.Request headers at) n = after-queued d.requests
+bi-stops P d k (verdicts.Request headers offset) n = after-queued d.requests
   where
-    after-queued : (queued : List Classified) → AllStop P (stop_list (queued_behind queued k).stop)
+    after-queued : (queued : List Classified) → AllStop P (stop_list (queued_after queued k).stop)
     after-queued [] = tt
     after-queued (c ∷ later) = (n, tt)
 bi-stops P d k _ n = tt
@@ -168,28 +168,28 @@ IsThere cs k = (v : Verdict) × (verdict_of k cs ≡ Some v)
 
 there-front : (cs ds : List Classified) (k : ℕ) → IsThere cs k → IsThere (cs ++ ds) k
 there-front [] ds k t = absurd (let e = t.1 in cc)
-there-front (c ∷ cs) ds k t = at (c.id == k) t (λ n. there-front cs ds k n)
+there-front (c ∷ cs) ds k t = by (c.id == k) t (λ n. there-front cs ds k n)
   where
-    at : (b : Bool) → ((v : Verdict) × ((if b then Some c.verdict else verdict_of k cs) ≡ Some v)) → (IsThere cs k → IsThere (cs ++ ds) k) → (v : Verdict) × ((if b then Some c.verdict else verdict_of k (cs ++ ds)) ≡ Some v)
-    at true n f = (n.0, n.1)
-    at false n f = f (n.0, n.1)
+    by : (b : Bool) → ((v : Verdict) × ((if b then Some c.verdict else verdict_of k cs) ≡ Some v)) → (IsThere cs k → IsThere (cs ++ ds) k) → (v : Verdict) × ((if b then Some c.verdict else verdict_of k (cs ++ ds)) ≡ Some v)
+    by true n f = (n.0, n.1)
+    by false n f = f (n.0, n.1)
 
 there-last : (cs : List Classified) (x : Classified) → IsThere (cs ++ x ∷ []) x.id
 there-last [] x = (x.verdict, rw (eq-eqb x.id x.id refl) refl)
-there-last (c ∷ cs) x = at (c.id == x.id) (there-last cs x)
+there-last (c ∷ cs) x = by (c.id == x.id) (there-last cs x)
   where
-    at : (b : Bool) → IsThere (cs ++ x ∷ []) x.id → (v : Verdict) × ((if b then Some c.verdict else verdict_of x.id (cs ++ x ∷ [])) ≡ Some v)
-    at true n = (c.verdict, refl)
-    at false n = n
+    by : (b : Bool) → IsThere (cs ++ x ∷ []) x.id → (v : Verdict) × ((if b then Some c.verdict else verdict_of x.id (cs ++ x ∷ [])) ≡ Some v)
+    by true n = (c.verdict, refl)
+    by false n = n
 
 -- what isn't in a list isn't in its front
 pub none-front : (k : ℕ) (cs ds : List Classified) → verdict_of k (cs ++ ds) ≡ None → verdict_of k cs ≡ None
 none-front k [] ds n = refl
-none-front k (c ∷ cs) ds n = at (c.id == k) n (none-front k cs ds)
+none-front k (c ∷ cs) ds n = by (c.id == k) n (none-front k cs ds)
   where
-    at : (b : Bool) → (if b then Some c.verdict else verdict_of k (cs ++ ds)) ≡ None → (verdict_of k (cs ++ ds) ≡ None → verdict_of k cs ≡ None) → (if b then Some c.verdict else verdict_of k cs) ≡ None
-    at true n f = n
-    at false n f = f n
+    by : (b : Bool) → (if b then Some c.verdict else verdict_of k (cs ++ ds)) ≡ None → (verdict_of k (cs ++ ds) ≡ None → verdict_of k cs ≡ None) → (if b then Some c.verdict else verdict_of k cs) ≡ None
+    by true n f = n
+    by false n f = f n
 
 record NewStops (before : List Classified) (t : StreamTable) : Type 0 where
   pub more : List Classified

@@ -37,7 +37,7 @@ use Rattle.wt_laws.specs.ReplyTells.{Logged, NonePassed, OnePassed, OneRecord, H
 use Rattle.wt_spec.specs.Answers.{is_client}
 use Rattle.wt_spec.specs.Connect.{address_of, authority_of, connect_to, outcome_error, path_of, port_of, request_head, reserved_name, server_name, unless_stopped, with_address}
 use Rattle.wt_spec.specs.Connection.{accept_due, accept_first, accept_stream, give_or_pass, is_for_session, next_datagram, next_due, pass_stream, receive_first, receive_next, receive_or_pass}
-use Rattle.wt_spec.specs.Driver.{established_session, settings_came, settled_datagrams, stream_table}
+use Rattle.wt_spec.specs.Driver.{established_session, settings_came, released_datagrams, stream_table}
 use Rattle.wt_spec.specs.Effect.{Effect, close_when_open, driver_error, head_left, is_covered, is_empty, log_call, pending_or_failed, poll_only, reply_with, transport_error}
 use Rattle.wt_spec.specs.Handshake.{AwaitingRequest, Connecting, HandshakeState, Requested, Responding, accept_response, await_or_fail, await_response, continue_by, continue_connect, deliver, fail_handshake, finish_rejection, handshake_state, has_success, is_continuable, is_refused, open_request, queued_requests, read_response, reject_response, request_end, request_fields_of, requested_stream, respond, send_request, start_response, unless_reserved}
 use Rattle.wt_spec.specs.StreamTable.{Classified, verdict_of}
@@ -65,11 +65,11 @@ pub record Caused (side : Side) (turn : Turn) (start : Log) (x : Effect) : Type 
 
 -- what goes out is all that is left
 pub whole-covered : (n : ℕ) (xs : List ℕ) → is_empty (drop (length (take n xs)) xs) ≡ true → take n xs ≡ xs
-whole-covered n xs e = at (drop (length (take n xs)) xs) refl e
+whole-covered n xs e = by (drop (length (take n xs)) xs) refl e
   where
-    at : (rest : List ℕ) → drop (length (take n xs)) xs ≡ rest → is_empty rest ≡ true → take n xs ≡ xs
-    at [] d e = let l = length-drop (length (take n xs)) xs in take_all n xs (let m = ap length d in omega (arith, length-take n xs))
-    at (b ∷ rest) d e = absurd (cc)
+    by : (rest : List ℕ) → drop (length (take n xs)) xs ≡ rest → is_empty rest ≡ true → take n xs ≡ xs
+    by [] d e = let l = length-drop (length (take n xs)) xs in take_all n xs (let m = ap length d in omega (arith, length-take n xs))
+    by (b ∷ rest) d e = absurd (cc)
 
 pub covered-whole : (log : Log) (k : ℕ) (bytes : List ℕ) → is_covered log k bytes ≡ true → bytes_within_credit log k bytes ≡ bytes
 covered-whole log k bytes e = whole-covered (credit_left log k) bytes e
@@ -184,12 +184,12 @@ module _ (side : Side) (turn : Turn) (by_call : is_call turn ≡ true) where
   quiet-wait log true = refl
   quiet-wait log false = refl
 
-  pending-accept : (s at : ℕ) (log : Log) (b : Bool) → is_accept turn ≡ true → established_session (calls_of log) ≡ Some (s, at) → is_open log ≡ b → next_due side log (accepted_kind side turn) s ≡ None → ReplyCause side turn log (if b then replies.Pending else replies.Failed (driver_error side log))
-  pending-accept s at log true a d o e = (o, NoStreamLeft s at a d e)
-  pending-accept s at log false a d o e = AsDriver (or_left (is_accept turn || is_receive turn) (is_incoming turn) (or_left (is_accept turn) (is_receive turn) a)) o refl
+  pending-accept : (s offset : ℕ) (log : Log) (b : Bool) → is_accept turn ≡ true → established_session (calls_of log) ≡ Some (s, offset) → is_open log ≡ b → next_due side log (accepted_kind side turn) s ≡ None → ReplyCause side turn log (if b then replies.Pending else replies.Failed (driver_error side log))
+  pending-accept s offset log true a d o e = (o, NoStreamLeft s offset a d e)
+  pending-accept s offset log false a d o e = AsDriver (or_left (is_accept turn || is_receive turn) (is_incoming turn) (or_left (is_accept turn) (is_receive turn) a)) o refl
 
-  found-it : (s at : ℕ) (log : Log) (c : Classified) (b : Bool) → is_accept turn ≡ true → established_session (calls_of log) ≡ Some (s, at) → next_due side log (accepted_kind side turn) s ≡ Some c → is_for_session s c.verdict ≡ b → FoundStream side turn log c.id b
-  found-it s at log c b a d e n = record { accepts = a; session = s; offset = at; is_established = d; found = c; next = e; same = refl; named = n }
+  found-it : (s offset : ℕ) (log : Log) (c : Classified) (b : Bool) → is_accept turn ≡ true → established_session (calls_of log) ≡ Some (s, offset) → next_due side log (accepted_kind side turn) s ≡ Some c → is_for_session s c.verdict ≡ b → FoundStream side turn log c.id b
+  found-it s offset log c b a d e n = record { accepts = a; session = s; offset = offset; is_established = d; found = c; is_next = e; same = refl; named = n }
 
   same-next : (s : ℕ) (log : Log) (k code kind : ℕ) → next_due side (Sent (actions.StopOut k code) ∷ log) kind s ≡ next_due side log kind s
   unfolding stream_table
@@ -204,28 +204,28 @@ module _ (side : Side) (turn : Turn) (by_call : is_call turn ≡ true) where
   open-due true own e n = refl
   open-due false own e n = absurd (cc)
 
-  module _ (a : is_accept turn ≡ true) (s at : ℕ) (reply : ℕ → Reply) (t : (k : ℕ) → given_stream (reply k) ≡ Some k) (q : (log : Log) (k : ℕ) → FoundStream side turn log k true → ReplyCause side turn log (reply k)) where
-    caused-give : (again : Log → Effect) (log : Log) (c : Classified) (b : Bool) → (b ≡ false → Caused side turn (pass_stream side log c.id) (again (pass_stream side log c.id))) → established_session (calls_of log) ≡ Some (s, at)
+  module _ (a : is_accept turn ≡ true) (s offset : ℕ) (reply : ℕ → Reply) (t : (k : ℕ) → given_stream (reply k) ≡ Some k) (q : (log : Log) (k : ℕ) → FoundStream side turn log k true → ReplyCause side turn log (reply k)) where
+    caused-give : (again : Log → Effect) (log : Log) (c : Classified) (b : Bool) → (b ≡ false → Caused side turn (pass_stream side log c.id) (again (pass_stream side log c.id))) → established_session (calls_of log) ≡ Some (s, offset)
         → next_due side log (accepted_kind side turn) s ≡ Some c → is_for_session s c.verdict ≡ b → (b ≡ false → is_open log ≡ true) → Caused side turn log (give_or_pass b side reply again log c.id)
-    caused-give again log c true f d e n o = call-decided log [] (StreamAccepted c.id) (reply c.id) tt (ByAccept (found-it s at log c true a d e n)) (t c.id) (q log c.id (found-it s at log c true a d e n))
+    caused-give again log c true f d e n o = call-decided log [] (StreamAccepted c.id) (reply c.id) tt (ByAccept (found-it s offset log c true a d e n)) (t c.id) (q log c.id (found-it s offset log c true a d e n))
     caused-give again log c false f d e n o =
-        again-after log (stopping c.id) (StreamPassed c.id) (or_left (is_accept turn) (is_receive turn) a) refl ((o refl, OfPass (found-it s at log c false a d e n) refl), tt)
-        (found-it s at (Sent (actions.StopOut c.id (code_of h3.BufferedStreamRejected)) ∷ log) c false a d (same-next s log c.id (code_of h3.BufferedStreamRejected) (accepted_kind side turn) ∙ e) n)
+        again-after log (stopping c.id) (StreamPassed c.id) (or_left (is_accept turn) (is_receive turn) a) refl ((o refl, OfPass (found-it s offset log c false a d e n) refl), tt)
+        (found-it s offset (Sent (actions.StopOut c.id (code_of h3.BufferedStreamRejected)) ∷ log) c false a d (same-next s log c.id (code_of h3.BufferedStreamRejected) (accepted_kind side turn) ∙ e) n)
         (f refl)
 
     caused-due : (again : Log → Effect) (log : Log) (o : Option Classified) → ((c : Classified) → next_due side log (accepted_kind side turn) s ≡ Some c → Caused side turn (pass_stream side log c.id) (again (pass_stream side log c.id)))
-        → established_session (calls_of log) ≡ Some (s, at) → next_due side log (accepted_kind side turn) s ≡ o → Caused side turn log (accept_due side reply again s log o)
-    caused-due again log None f d e = polled log (pending_or_failed side log) (quiet-wait log (is_open log)) (pending-accept s at log (is_open log) a d refl e)
+        → established_session (calls_of log) ≡ Some (s, offset) → next_due side log (accepted_kind side turn) s ≡ o → Caused side turn log (accept_due side reply again s log o)
+    caused-due again log None f d e = polled log (pending_or_failed side log) (quiet-wait log (is_open log)) (pending-accept s offset log (is_open log) a d refl e)
     caused-due again log (Some c) f d e =
         caused-give again log c (is_for_session s c.verdict) (λ n. f c e) d e refl (λ n. open-due (is_open log) (is_for_session s c.verdict) (next-is-due side log (accepted_kind side turn) s c e).turn_has_come n)
 
-    caused-first : (n : ℕ) (log : Log) → established_session (calls_of log) ≡ Some (s, at) → left_to_release side log (accepted_kind side turn) < n → Caused side turn log (accept_first n side reply (accepted_kind side turn) s log)
+    caused-first : (n : ℕ) (log : Log) → established_session (calls_of log) ≡ Some (s, offset) → left_to_release side log (accepted_kind side turn) < n → Caused side turn log (accept_first n side reply (accepted_kind side turn) s log)
     caused-first zero log d l = absurd (omega arith)
     caused-first (suc n) log d l =
         caused-due (λ later. accept_first n side reply (accepted_kind side turn) s later) log (next_due side log (accepted_kind side turn) s)
         (λ c e. caused-first n (pass_stream side log c.id) (ap established_session (calls-logged side log (stopping c.id) (StreamPassed c.id)) ∙ d) (let p = pass-drops side log (accepted_kind side turn) s c (stopping c.id) e in omega arith)) d refl
 
-    pub caused-accept : (log : Log) → established_session (calls_of log) ≡ Some (s, at) → Caused side turn log (accept_stream side reply (accepted_kind side turn) log s)
+    pub caused-accept : (log : Log) → established_session (calls_of log) ≡ Some (s, offset) → Caused side turn log (accept_stream side reply (accepted_kind side turn) log s)
     caused-accept log d = caused-first (suc (peer_count side (events_of log) (accepted_kind side turn))) log d (at-first side log (accepted_kind side turn))
 
   -- ---- datagrams
@@ -234,25 +234,25 @@ module _ (side : Side) (turn : Turn) (by_call : is_call turn ≡ true) where
   pending-receive log true a o e = (o, NoDatagramLeft a e)
   pending-receive log false a o e = AsDriver (or_left (is_accept turn || is_receive turn) (is_incoming turn) (or_right (is_accept turn) (is_receive turn) a)) o refl
 
-  module _ (a : is_receive turn ≡ true) (s at : ℕ) where
-    abbrev found-one : (log : Log) (d : ℕ × List ℕ) (b : Bool) → established_session (calls_of log) ≡ Some (s, at) → next_datagram side log ≡ Some d → (4 * d.0 == s) ≡ b → FoundDatagram side turn log b
-    found-one log d b i e n = record { receives = a; session = s; offset = at; is_established = i; datagram = d; next = e; named = n }
+  module _ (a : is_receive turn ≡ true) (s offset : ℕ) where
+    abbrev found-one : (log : Log) (d : ℕ × List ℕ) (b : Bool) → established_session (calls_of log) ≡ Some (s, offset) → next_datagram side log ≡ Some d → (4 * d.0 == s) ≡ b → FoundDatagram side turn log b
+    found-one log d b i e n = record { receives = a; session = s; offset = offset; is_established = i; datagram = d; is_next = e; named = n }
 
     caused-take : (again : Log → Effect) (log : Log) (d : ℕ × List ℕ) (b : Bool) → Caused side turn (log_call side log [] DatagramPassed) (again (log_call side log [] DatagramPassed))
-        → established_session (calls_of log) ≡ Some (s, at) → next_datagram side log ≡ Some d → (4 * d.0 == s) ≡ b → Caused side turn log (receive_or_pass b side again log d.1)
+        → established_session (calls_of log) ≡ Some (s, offset) → next_datagram side log ≡ Some d → (4 * d.0 == s) ≡ b → Caused side turn log (receive_or_pass b side again log d.1)
     caused-take again log d true f i e n = call-decided log [] DatagramReceived (replies.Datagram d.1) tt (found-one log d true i e n) (d.1, refl) (found-one log d true i e n, refl)
     caused-take again log d false f i e n = again-after log [] DatagramPassed (or_right (is_accept turn) (is_receive turn) a) refl tt (found-one log d false i e n) f
 
     caused-next : (again : Log → Effect) (log : Log) (o : Option (ℕ × List ℕ)) → ((d : ℕ × List ℕ) → next_datagram side log ≡ Some d → Caused side turn (log_call side log [] DatagramPassed) (again (log_call side log [] DatagramPassed)))
-        → established_session (calls_of log) ≡ Some (s, at) → next_datagram side log ≡ o → Caused side turn log (receive_next side again s log o)
+        → established_session (calls_of log) ≡ Some (s, offset) → next_datagram side log ≡ o → Caused side turn log (receive_next side again s log o)
     caused-next again log None f i e = polled log (pending_or_failed side log) (quiet-wait log (is_open log)) (pending-receive log (is_open log) a refl e)
     caused-next again log (Some d) f i e = caused-take again log d (4 * d.0 == s) (f d e) i e refl
 
-    none-next : (log : Log) (o : Option (ℕ × List ℕ)) → next_datagram side log ≡ o → length (datagrams_of (events_of log)) ≤ settled_datagrams (calls_of log) → next_datagram side log ≡ None
+    none-next : (log : Log) (o : Option (ℕ × List ℕ)) → next_datagram side log ≡ o → length (datagrams_of (events_of log)) ≤ released_datagrams (calls_of log) → next_datagram side log ≡ None
     none-next log None e l = e
     none-next log (Some d) e l = let w = next-within side log d e in absurd (omega arith)
 
-    pub caused-receive : (n : ℕ) (log : Log) → established_session (calls_of log) ≡ Some (s, at) → length (datagrams_of (events_of log)) < settled_datagrams (calls_of log) + n → Caused side turn log (receive_first n side s log)
+    pub caused-receive : (n : ℕ) (log : Log) → established_session (calls_of log) ≡ Some (s, offset) → length (datagrams_of (events_of log)) < released_datagrams (calls_of log) + n → Caused side turn log (receive_first n side s log)
     caused-receive zero log i l = polled log (pending_or_failed side log) (quiet-wait log (is_open log)) (pending-receive log (is_open log) a refl (none-next log (next_datagram side log) refl (omega arith)))
     caused-receive (suc n) log i l =
         caused-next (λ later. receive_first n side s later) log (next_datagram side log)
@@ -388,15 +388,15 @@ module _ (side : Side) (turn : Turn) (by_call : is_call turn ≡ true) where
       connect-failed log own 0 _ (Plain (EndsStream (reads-then log own w r (blind-actions walk_of (λ a g. refl) own log ∙ e)) (n, h)) refl) s (going log w) o (ByStreamEnd (reads log w r e) refl)
   caused-response log own responses.Incomplete o s w n h e =
       either (is_open log) _ _ (λ b. leaf log own Polled replies.Pending o by_call refl (b, NoResponse None w.head w.call w.state e)) (λ b. connect-failed-so log own _ (going log w) o (BeforeResponse (reads log w responses.Incomplete e) b refl))
-  caused-response log own (responses.Response fields at) o s w n h e =
-      let r = responses.Response fields at in
+  caused-response log own (responses.Response fields offset) o s w n h e =
+      let r = responses.Response fields offset in
       either (not (has_success fields)) _ _
-      (λ c. connect-failed log own 0 _ (Plain (Declines fields at (reads-then log own w r (blind-actions walk_of (λ a g. refl) own log ∙ e)) (n, h) (not-true _ c)) refl) s (going log w) o (ByStatus fields at (reads log w r e) (not-true _ c) refl)) (λ c.
+      (λ c. connect-failed log own 0 _ (Plain (Declines fields offset (reads-then log own w r (blind-actions walk_of (λ a g. refl) own log ∙ e)) (n, h) (not-true _ c)) refl) s (going log w) o (ByStatus fields offset (reads log w r e) (not-true _ c) refl)) (λ c.
       either (is_open log) _ _
-      (λ b. let by : EstablishedBy side turn (with_actions own log) (local_bi side) at =
+      (λ b. let by : EstablishedBy side turn (with_actions own log) (local_bi side) offset =
       record { before = log; own = own; is = refl; was_open = b; under_way = going log w; how = ByResponse w.head fields w.call w.state w.settings e (not-false _ c) refl n h } in
-      call-decided log own (SessionEstablished (local_bi side) at) (replies.Session (local_bi side)) o by refl (own, at, by))
-      (λ b. connect-failed-so log own _ (going log w) o (AfterSuccess fields at (reads log w r e) (not-false _ c) b refl)))
+      call-decided log own (SessionEstablished (local_bi side) offset) (replies.Session (local_bi side)) o by refl (own, offset, by))
+      (λ b. connect-failed-so log own _ (going log w) o (AfterSuccess fields offset (reads log w r e) (not-false _ c) b refl)))
 
   caused-await : (log : Log) (own : List Action) → OwnCauses side turn log own → is_open (with_actions own log) ≡ is_open log → (w : Onward log) → local_count (actions_of (with_actions own log)) (local_bi side) ≢ 0 → head_left (with_actions own log) (local_bi side) w.head ≡ [] → Caused side turn log (await_response side log (local_bi side) own)
   unfolding walk_of

@@ -36,22 +36,22 @@ closing [] o = absurd (cc)
 closing (Received id b ∷ log) o = closing-stays (Received id b) log (closing log o)
 closing (ReportedLate e ∷ log) o = closing-stays (ReportedLate e) log (closing log o)
 closing (Called r ∷ log) o = closing-stays (Called r) log (closing log o)
-closing (Reported e ∷ log) o = at (loses e) refl o (λ c. closing log c)
+closing (Reported e ∷ log) o = by (loses e) refl o (λ c. closing log c)
   where
-    at : (b : Bool) → loses e ≡ b → not (b || list_any ends_by log) ≡ false → (is_open log ≡ false → Closing log) → Closing (Reported e ∷ log)
-    at true l o f = WasLost (or_left (loses e) _ l)
-    at false l o f = closing-stays (Reported e) log (f o)
+    by : (b : Bool) → loses e ≡ b → not (b || list_any ends_by log) ≡ false → (is_open log ≡ false → Closing log) → Closing (Reported e ∷ log)
+    by true l o f = WasLost (or_left (loses e) _ l)
+    by false l o f = closing-stays (Reported e) log (f o)
 closing (Sent (actions.Close code reason) ∷ log) o = WasClosed log code reason ([], refl)
 closing (Sent a ∷ log) o = closing-stays (Sent a) log (closing log o)
 
 -- ---- what the driver found stays
 
 closed-stays : (e : Entry) (log : Log) → is_open log ≡ false → is_open (e ∷ log) ≡ false
-closed-stays e log o = at (ends_by e) (list_any ends_by log) o
+closed-stays e log o = by (ends_by e) (list_any ends_by log) o
   where
-    at : (b d : Bool) → not d ≡ false → not (b || d) ≡ false
-    at true d o = refl
-    at false d o = o
+    by : (b d : Bool) → not d ≡ false → not (b || d) ≡ false
+    by true d o = refl
+    by false d o = o
 
 record Stays (side : Side) (base log : Log) : Type 0 where
   pub closed : is_open log ≡ false
@@ -79,11 +79,11 @@ ended side log r (WasLost l) = ByLoss l
 ended side log r (WasClosed earlier code reason g) = by (actions-went-out side log r (actions.Close code reason) earlier g)
   where
     by : WentOut side earlier (actions.Close code reason) → EndedBy side log
-    by w = at w.cause
+    by w = by_case w.cause
       where
-        at : SentIn side w.turn w.start earlier (actions.Close code reason) → EndedBy side log
-        at (sent.ByCall c) = ClosedByCall w.start earlier w.turn code reason w.reachable w.lawful w.during c.1 g
-        at (sent.ByDriver e before f m o since d) =
+        by_case : SentIn side w.turn w.start earlier (actions.Close code reason) → EndedBy side log
+        by_case (sent.ByCall c) = ClosedByCall w.start earlier w.turn code reason w.reachable w.lawful w.during c.1 g
+        by_case (sent.ByDriver e before f m o since d) =
             let x = found-ending side (e ∷ before) (actions.Close code reason) refl d in
             let p = table-stays side g.0 (Sent (actions.Close code reason) ∷ earlier) refl in
             let t = ap (λ z. stream_table side z) g.1 ∙ p.same ∙ same-table side (actions.Close code reason) earlier ∙ since-moment side since in

@@ -19,7 +19,7 @@ use Rattle.wt_laws.proofs.Reached.{reached}
 use Rattle.wt_laws.proofs.SendLaws.{flush-other}
 use Rattle.wt_laws.proofs.Sends.{piece_on, with-piece}
 use Rattle.wt_laws.proofs.SettingsLaws.{ControlOut, connected-fits, data-fits, first-control, keeps-control}
-use Rattle.wt_laws.proofs.Steps.{Brings, Keeps, blind-flush}
+use Rattle.wt_laws.proofs.Steps.{EventNow, Keeps, blind-flush}
 use Rattle.wt_laws.specs.Causes.{ActionCause, OfHeader, OfRequest, OfResponse, OfWrite, OwnCauses, SendCause}
 use Rattle.wt_turn.specs.Turns.{event_of}
 use Rattle.wt_laws.specs.Laws.{WithinCredit}
@@ -41,17 +41,17 @@ piece-within side turn log id piece (OfResponse accepts head f r q) = rw q (omeg
 piece-within side turn log id piece (OfRequest head c s r z q) = rw q (omega (arith, length-take {A = ℕ}))
 
 sent-within : (side : Side) (turn : Turn) (log : Log) (k : ℕ) (a : Action) → Facts side log → ActionCause side turn log a → length (sent_on (actions_of log) k) ≤ credit (events_of log) k → length (sent_on (actions_of log) k ++ piece_on k a) ≤ credit (events_of log) k
-sent-within side turn log k (actions.Send id piece) f c l = at (id == k) refl
+sent-within side turn log k (actions.Send id piece) f c l = by (id == k) refl
   where
-    at : (b : Bool) → (id == k) ≡ b → length (sent_on (actions_of log) k ++ (if b then piece else [])) ≤ credit (events_of log) k
-    at false e = rw (append-nil (sent_on (actions_of log) k)) l
-    at true e =
+    by : (b : Bool) → (id == k) ≡ b → length (sent_on (actions_of log) k ++ (if b then piece else [])) ≤ credit (events_of log) k
+    by false e = rw (append-nil (sent_on (actions_of log) k)) l
+    by true e =
         let p : length piece ≤ credit_left log k = subst (λ (j : ℕ). length piece ≤ credit_left log j) (eqb-true id k e) (piece-within side turn log id piece c.1) in
         let q : credit (all_events_of log) k ≡ credit (events_of log) k = ap (λ es. credit es k) (f.same_events c.0) in
         omega (arith, length-append (sent_on (actions_of log) k) piece)
 sent-within side turn log k _ f c l = rw (append-nil (sent_on (actions_of log) k)) l
 
--- (a call sends on an open connection alone, which is told nothing late)
+-- (a call sends on an open connection alone, to which nothing is reported late)
 own-within : (side : Side) (turn : Turn) (own : List Action) (log : Log) → OwnCauses side turn log own → Facts side log → Credited log → Credited (with_actions own log)
 own-within side turn [] log c f p = p
 own-within side turn (a ∷ own) log c f p =
@@ -86,16 +86,16 @@ flush-within side e log c p = record {
     of-stream k false i = rw (flush-other side e log k (eq-turned k (local_uni side) i), same-events) (p.within k)
 
 -- credit never falls, and there is none before the connection is established
-event-within : (side : Side) (turn : Turn) (log : Log) (e : Event) (k : ℕ) → Brings side turn log e → all_events_of log ≡ events_of log → Credited log → length (sent_on (actions_of log) k) ≤ credit (e ∷ events_of log) k
+event-within : (side : Side) (turn : Turn) (log : Log) (e : Event) (k : ℕ) → EventNow side turn log e → all_events_of log ≡ events_of log → Credited log → length (sent_on (actions_of log) k) ≤ credit (e ∷ events_of log) k
 event-within side turn log (Connected u b c d) k x q p = let n : credit (events_of log) k ≡ 0 = ap (λ es. credit es k) (sym q) ∙ p.none (connected-fits side log turn u b c d x.reported x.lawful) k in let w = p.within k in omega arith
-event-within side turn log (MaxData id total) k x q p = at (id == k) refl
+event-within side turn log (MaxData id total) k x q p = by (id == k) refl
   where
-    at : (b : Bool) → (id == k) ≡ b → length (sent_on (actions_of log) k) ≤ credit (MaxData id total ∷ events_of log) k
-    at true i =
+    by : (b : Bool) → (id == k) ≡ b → length (sent_on (actions_of log) k) ≤ credit (MaxData id total ∷ events_of log) k
+    by true i =
         let d : credit (all_events_of log) k ≤ total = subst (λ (j : ℕ). credit (all_events_of log) j ≤ total) (eqb-true id k i) (data-fits side log turn id total x.reported x.lawful) in
         let m : credit (all_events_of log) k ≡ credit (events_of log) k = ap (λ es. credit es k) q in
         let w = p.within k in rw i (omega arith)
-    at false i = rw i (p.within k)
+    by false i = rw i (p.within k)
 event-within side turn log _ k x q p = p.within k
 
 connected-data : (side : Side) (log : Log) (turn : Turn) (id total : ℕ) → event_of turn ≡ Some (MaxData id total) → fits side log turn ≡ true → is_connected (all_events_of log) ≡ true
@@ -105,15 +105,15 @@ connected-data side log (turns.MaxData j m) id total e l =
     (and_parts (is_connected (all_events_of log)) _ (and_parts (is_connected (all_events_of log) && can_send side log j) _ b).0).0
 connected-data side log _ id total e l = absurd (cc)
 
-event-none : (side : Side) (turn : Turn) (log : Log) (e : Event) (k : ℕ) → Brings side turn log e → Credited log → is_connected (e ∷ all_events_of log) ≡ false → credit (e ∷ all_events_of log) k ≡ 0
+event-none : (side : Side) (turn : Turn) (log : Log) (e : Event) (k : ℕ) → EventNow side turn log e → Credited log → is_connected (e ∷ all_events_of log) ≡ false → credit (e ∷ all_events_of log) k ≡ 0
 event-none side turn log (Connected u b c d) k x p n = absurd (cc)
 event-none side turn log (MaxData id total) k x p n = absurd (let c = connected-data side log turn id total x.reported x.lawful in cc)
 event-none side turn log _ k x p n = p.none n k
 
-credited-event : (side : Side) (turn : Turn) (log : Log) (e : Event) → Brings side turn log e → all_events_of log ≡ events_of log → Credited log → Credited (Reported e ∷ log)
+credited-event : (side : Side) (turn : Turn) (log : Log) (e : Event) → EventNow side turn log e → all_events_of log ≡ events_of log → Credited log → Credited (Reported e ∷ log)
 credited-event side turn log e x q p = record { within = λ k. event-within side turn log e k x q p; none = λ n k. event-none side turn log e k x p n }
 
-credited-late : (side : Side) (turn : Turn) (log : Log) (e : Event) → Brings side turn log e → Credited log → Credited (ReportedLate e ∷ log)
+credited-late : (side : Side) (turn : Turn) (log : Log) (e : Event) → EventNow side turn log e → Credited log → Credited (ReportedLate e ∷ log)
 credited-late side turn log e x p = record { within = p.within; none = λ n k. event-none side turn log e k x p n }
 
 record BothWithin (side : Side) (log : Log) : Type 0 where

@@ -16,11 +16,11 @@ use Rattle.wt_turn.specs.declared.action.Action.TheVariants as actions
 -- ---- joining
 
 never-empty : (b : Action) (as_ : List Action) (x : Action) → (c : Action) × (rest : List Action) × (join_one (b ∷ as_) x ≡ c ∷ rest)
-never-empty (actions.Send i p) [] (actions.Send j q) = at (i == j)
+never-empty (actions.Send i p) [] (actions.Send j q) = by (i == j)
   where
-    at : (e : Bool) → (c : Action) × (rest : List Action) × ((if e then actions.Send i (p ++ q) ∷ [] else actions.Send i p ∷ actions.Send j q ∷ []) ≡ c ∷ rest)
-    at true = (actions.Send i (p ++ q), [], refl)
-    at false = (actions.Send i p, actions.Send j q ∷ [], refl)
+    by : (e : Bool) → (c : Action) × (rest : List Action) × ((if e then actions.Send i (p ++ q) ∷ [] else actions.Send i p ∷ actions.Send j q ∷ []) ≡ c ∷ rest)
+    by true = (actions.Send i (p ++ q), [], refl)
+    by false = (actions.Send i p, actions.Send j q ∷ [], refl)
 never-empty b [] x = (b, x ∷ [], refl)
 never-empty b (a ∷ as_) x = (b, join_one (a ∷ as_) x, refl)
 
@@ -29,20 +29,20 @@ after-first a b as_ x y = let n = never-empty b as_ x in ap (λ xs. join_one (a 
 
 same-send : (as_ : List Action) (i : ℕ) (p q : List ℕ) → join_one (join_one as_ (actions.Send i p)) (actions.Send i q) ≡ join_one as_ (actions.Send i (p ++ q))
 same-send [] i p q = rw (eq-eqb i i refl) refl
-same-send (actions.Send j r ∷ []) i p q = at (j == i) refl
+same-send (actions.Send j r ∷ []) i p q = by (j == i) refl
   where
-    at : (b : Bool) → (j == i) ≡ b → join_one (if b then actions.Send j (r ++ p) ∷ [] else actions.Send j r ∷ actions.Send i p ∷ []) (actions.Send i q) ≡ (if b then actions.Send j (r ++ (p ++ q)) ∷ [] else actions.Send j r ∷ actions.Send i (p ++ q) ∷ [])
-    at true e = ap (λ (b : Bool). if b then actions.Send j ((r ++ p) ++ q) ∷ [] else actions.Send j (r ++ p) ∷ actions.Send i q ∷ []) e ∙ ap (λ xs. actions.Send j xs ∷ []) (append_assoc r p q)
-    at false e = ap (λ (b : Bool). actions.Send j r ∷ (if b then actions.Send i (p ++ q) ∷ [] else actions.Send i p ∷ actions.Send i q ∷ [])) (eq-eqb i i refl)
+    by : (b : Bool) → (j == i) ≡ b → join_one (if b then actions.Send j (r ++ p) ∷ [] else actions.Send j r ∷ actions.Send i p ∷ []) (actions.Send i q) ≡ (if b then actions.Send j (r ++ (p ++ q)) ∷ [] else actions.Send j r ∷ actions.Send i (p ++ q) ∷ [])
+    by true e = ap (λ (b : Bool). if b then actions.Send j ((r ++ p) ++ q) ∷ [] else actions.Send j (r ++ p) ∷ actions.Send i q ∷ []) e ∙ ap (λ xs. actions.Send j xs ∷ []) (append_assoc r p q)
+    by false e = ap (λ (b : Bool). actions.Send j r ∷ (if b then actions.Send i (p ++ q) ∷ [] else actions.Send i p ∷ actions.Send i q ∷ [])) (eq-eqb i i refl)
 same-send (a ∷ []) i p q = ap (λ (b : Bool). a ∷ (if b then actions.Send i (p ++ q) ∷ [] else actions.Send i p ∷ actions.Send i q ∷ [])) (eq-eqb i i refl)
 same-send (a ∷ b ∷ as_) i p q = after-first a b as_ (actions.Send i p) (actions.Send i q) ∙ ap (λ xs. a ∷ xs) (same-send (b ∷ as_) i p q)
 
 join-two : (as_ : List Action) (a b : Action) → join_one (join_one as_ a) b ≡ join_all as_ (join_two a b)
-join-two as_ (actions.Send i p) (actions.Send j q) = at (i == j) refl
+join-two as_ (actions.Send i p) (actions.Send j q) = by (i == j) refl
   where
-    at : (c : Bool) → (i == j) ≡ c → join_one (join_one as_ (actions.Send i p)) (actions.Send j q) ≡ join_all as_ (if c then actions.Send i (p ++ q) ∷ [] else actions.Send i p ∷ actions.Send j q ∷ [])
-    at true e = ap (λ (n : ℕ). join_one (join_one as_ (actions.Send i p)) (actions.Send n q)) (sym (eqb-true i j e)) ∙ same-send as_ i p q
-    at false e = refl
+    by : (c : Bool) → (i == j) ≡ c → join_one (join_one as_ (actions.Send i p)) (actions.Send j q) ≡ join_all as_ (if c then actions.Send i (p ++ q) ∷ [] else actions.Send i p ∷ actions.Send j q ∷ [])
+    by true e = ap (λ (n : ℕ). join_one (join_one as_ (actions.Send i p)) (actions.Send n q)) (sym (eqb-true i j e)) ∙ same-send as_ i p q
+    by false e = refl
 join-two as_ a b = refl
 
 join-later : (as_ bs : List Action) (a : Action) → join_one (join_all as_ bs) a ≡ join_all as_ (join_one bs a)

@@ -22,10 +22,10 @@ use Rattle.wt_laws.specs.Laws.{DatagramsInOrder, more_received, payload_for, pay
 use Rattle.wt_laws.specs.Reachable.{AllLawful, Exchange, exchanges}
 use Rattle.wt_laws.specs.RecordCauses.{RecordCause}
 use Rattle.wt_laws.specs.ReplyCauses.{ReplyCause}
-use Rattle.wt_laws.specs.ReplyTells.{Logged, NoRecord, NonePassed, OnePassed, OneRecord, HasPassed, TellsOf, ThenPolled, datagram_told, is_pass, is_quiet}
+use Rattle.wt_laws.specs.ReplyTells.{Logged, NoRecord, NonePassed, OnePassed, OneRecord, HasPassed, TellsOf, ThenPolled, datagram_reported, is_pass, is_quiet}
 use Rattle.wt_spec.specs.Answers.{answer_to, is_lawful, log_after, log_from}
 use Rattle.wt_spec.specs.Connection.{next_datagram, read_datagram, well_formed}
-use Rattle.wt_spec.specs.Driver.{established_session, establishes, or_earlier, session_id, settled_datagrams, settles_datagram, stream_table}
+use Rattle.wt_spec.specs.Driver.{established_session, establishes, or_earlier, session_id, released_datagrams, releases_datagram, stream_table}
 use Rattle.wt_reply.specs.declared.reply.Reply.TheVariants as replies
 use Rattle.wt_turn.specs.declared.turn.Turn.TheVariants as turns
 
@@ -75,10 +75,10 @@ with_received false payload got = got
 
 abbrev pub received : List (List ℕ) → List CallRecord → List (List ℕ)
 received xs [] = []
-received xs (r ∷ earlier) = with_received (receives r) (payload_at (slice_get xs (settled_datagrams earlier))) (received xs earlier)
+received xs (r ∷ earlier) = with_received (receives r) (payload_at (slice_get xs (released_datagrams earlier))) (received xs earlier)
 
-pub settled-more : (r : CallRecord) (cs : List CallRecord) → settled_datagrams cs ≤ settled_datagrams (r ∷ cs)
-settled-more r cs = one-more-le (settles_datagram r) (settled_datagrams cs)
+pub released-more : (r : CallRecord) (cs : List CallRecord) → released_datagrams cs ≤ released_datagrams (r ∷ cs)
+released-more r cs = one-more-le (releases_datagram r) (released_datagrams cs)
   where
     one-more-le : (b : Bool) (n : ℕ) → n ≤ one_more_if b n
     one-more-le true n = omega arith
@@ -89,12 +89,12 @@ same-with true x y xs ys f e = rw (f refl, e) refl
 same-with false x y xs ys f e = e
 
 -- more that comes doesn't change what was received
-received-grows : (xs ys : List (List ℕ)) (cs : List CallRecord) → settled_datagrams cs ≤ length xs → received (xs ++ ys) cs ≡ received xs cs
+received-grows : (xs ys : List (List ℕ)) (cs : List CallRecord) → released_datagrams cs ≤ length xs → received (xs ++ ys) cs ≡ received xs cs
 received-grows xs ys [] l = refl
 received-grows xs ys (r ∷ cs) l =
-    same-with (receives r) _ _ _ _ (λ e. ap payload_at (get-append xs ys (settled_datagrams cs) (less r cs e l))) (received-grows xs ys cs (let m = settled-more r cs in omega arith))
+    same-with (receives r) _ _ _ _ (λ e. ap payload_at (get-append xs ys (released_datagrams cs) (less r cs e l))) (received-grows xs ys cs (let m = released-more r cs in omega arith))
   where
-    less : (r : CallRecord) (cs : List CallRecord) → receives r ≡ true → settled_datagrams (r ∷ cs) ≤ length xs → settled_datagrams cs < length xs
+    less : (r : CallRecord) (cs : List CallRecord) → receives r ≡ true → released_datagrams (r ∷ cs) ≤ length xs → released_datagrams cs < length xs
     less DatagramReceived cs e l = omega arith
     less _ cs e l = absurd (cc)
 
@@ -102,10 +102,10 @@ received-grows xs ys (r ∷ cs) l =
 
 pub record DatagramsSoFar (side : Side) (log : Log) : Type 0 where
   pub handshakes : Handshakes side log
-  pub within : settled_datagrams (calls_of log) ≤ length (datagrams_of (events_of log))
-  pub dequeued : settled_datagrams (calls_of log) ≤ (stream_table side log).progress.datagrams
-  pub none : established_session (calls_of log) ≡ None → (settled_datagrams (calls_of log) ≡ 0) × (received (datagrams_of (events_of log)) (calls_of log) ≡ [])
-  pub prefix : (s at : ℕ) → established_session (calls_of log) ≡ Some (s, at) → received (datagrams_of (events_of log)) (calls_of log) ≡ payloads_for s (take (settled_datagrams (calls_of log)) (datagrams_of (events_of log)))
+  pub within : released_datagrams (calls_of log) ≤ length (datagrams_of (events_of log))
+  pub dequeued : released_datagrams (calls_of log) ≤ (stream_table side log).progress.datagrams
+  pub none : established_session (calls_of log) ≡ None → (released_datagrams (calls_of log) ≡ 0) × (received (datagrams_of (events_of log)) (calls_of log) ≡ [])
+  pub prefix : (s offset : ℕ) → established_session (calls_of log) ≡ Some (s, offset) → received (datagrams_of (events_of log)) (calls_of log) ≡ payloads_for s (take (released_datagrams (calls_of log)) (datagrams_of (events_of log)))
 
 arrives : (e : Entry) (log : Log) → (more : List (List ℕ)) × (datagrams_of (events_of (e ∷ log)) ≡ datagrams_of (events_of log) ++ more)
 arrives (Reported (Datagram piece)) log = (piece ∷ [], refl)
@@ -116,56 +116,56 @@ so-far-same : (side : Side) (e : Entry) (log : Log) → calls_of (e ∷ log) ≡
 so-far-same side e log c h p =
     let g = arrives e log in
     let xs = datagrams_of (events_of log) in
-    let n = settled_datagrams (calls_of log) in
+    let n = released_datagrams (calls_of log) in
     let same : received (datagrams_of (events_of (e ∷ log))) (calls_of (e ∷ log)) ≡ received xs (calls_of log) = rw (c, g.1) (received-grows xs g.0 (calls_of log) p.within) in
     let first : take n (datagrams_of (events_of (e ∷ log))) ≡ take n xs = ap (take n) g.1 ∙ take-append-le n xs g.0 p.within in
     record {
       handshakes = h;
       within = rw (c, g.1) (let w = p.within in omega (arith, length-append xs g.0));
       dequeued = rw c (dequeued-stay side n e log p.dequeued);
-      none = λ q. let z = p.none (ap established_session (sym c) ∙ q) in (ap settled_datagrams c ∙ z.0, same ∙ z.1);
-      prefix = λ s at q. same ∙ p.prefix s at (ap established_session (sym c) ∙ q) ∙ ap (payloads_for s) (sym first ∙ ap (λ (cs : List CallRecord). take (settled_datagrams cs) (datagrams_of (events_of (e ∷ log)))) (sym c));
+      none = λ q. let z = p.none (ap established_session (sym c) ∙ q) in (ap released_datagrams c ∙ z.0, same ∙ z.1);
+      prefix = λ s offset q. same ∙ p.prefix s offset (ap established_session (sym c) ∙ q) ∙ ap (payloads_for s) (sym first ∙ ap (λ (cs : List CallRecord). take (released_datagrams cs) (datagrams_of (events_of (e ∷ log)))) (sym c));
     }
 
--- a record that neither settles a datagram nor establishes a session
-so-far-other : (side : Side) (r : CallRecord) (log : Log) → settles_datagram r ≡ false → receives r ≡ false → establishes r ≡ None → Handshakes side (Called r ∷ log) → DatagramsSoFar side log → DatagramsSoFar side (Called r ∷ log)
+-- a record that neither releases a datagram nor establishes a session
+so-far-other : (side : Side) (r : CallRecord) (log : Log) → releases_datagram r ≡ false → receives r ≡ false → establishes r ≡ None → Handshakes side (Called r ∷ log) → DatagramsSoFar side log → DatagramsSoFar side (Called r ∷ log)
 so-far-other side r log s i e h p =
-    let c : settled_datagrams (r ∷ calls_of log) ≡ settled_datagrams (calls_of log) = ap (λ b. one_more_if b (settled_datagrams (calls_of log))) s in
+    let c : released_datagrams (r ∷ calls_of log) ≡ released_datagrams (calls_of log) = ap (λ b. one_more_if b (released_datagrams (calls_of log))) s in
     let d : established_session (r ∷ calls_of log) ≡ established_session (calls_of log) = ap (λ o. or_earlier o (established_session (calls_of log))) e in
     let xs = datagrams_of (events_of log) in
-    let w : received xs (r ∷ calls_of log) ≡ received xs (calls_of log) = ap (λ b. with_received b (payload_at (slice_get xs (settled_datagrams (calls_of log)))) (received xs (calls_of log))) i in
+    let w : received xs (r ∷ calls_of log) ≡ received xs (calls_of log) = ap (λ b. with_received b (payload_at (slice_get xs (released_datagrams (calls_of log)))) (received xs (calls_of log))) i in
     record {
       handshakes = h;
       within = rw c p.within;
-      dequeued = rw c (dequeued-stay side (settled_datagrams (calls_of log)) (Called r) log p.dequeued);
+      dequeued = rw c (dequeued-stay side (released_datagrams (calls_of log)) (Called r) log p.dequeued);
       none = λ q. let z = p.none (sym d ∙ q) in (c ∙ z.0, w ∙ z.1);
-      prefix = λ t at q. w ∙ p.prefix t at (sym d ∙ q) ∙ ap (λ n. payloads_for t (take n xs)) (sym c);
+      prefix = λ t offset q. w ∙ p.prefix t offset (sym d ∙ q) ∙ ap (λ n. payloads_for t (take n xs)) (sym c);
     }
 
--- what is next is the one after those that are settled
+-- what is next is the one after those that are released
 pub record NextIs (log : Log) (d : ℕ × List ℕ) : Type 0 where
   pub piece : List ℕ
-  pub found : slice_get (datagrams_of (events_of log)) (settled_datagrams (calls_of log)) ≡ Some piece
+  pub found : slice_get (datagrams_of (events_of log)) (released_datagrams (calls_of log)) ≡ Some piece
   pub parsed : well_formed piece ≡ Some d
 
-pub next-is : (side : Side) (log : Log) (d : ℕ × List ℕ) → next_datagram side log ≡ Some d → NextIs log d × (settled_datagrams (calls_of log) < (stream_table side log).progress.datagrams)
-next-is side log d e = at (nat_lt (settled_datagrams (calls_of log)) (stream_table side log).progress.datagrams) refl e
+pub next-is : (side : Side) (log : Log) (d : ℕ × List ℕ) → next_datagram side log ≡ Some d → NextIs log d × (released_datagrams (calls_of log) < (stream_table side log).progress.datagrams)
+next-is side log d e = by (nat_lt (released_datagrams (calls_of log)) (stream_table side log).progress.datagrams) refl e
   where
-    piece-at : (o : Option (List ℕ)) → slice_get (datagrams_of (events_of log)) (settled_datagrams (calls_of log)) ≡ o → read_datagram o ≡ Some d → NextIs log d
+    piece-at : (o : Option (List ℕ)) → slice_get (datagrams_of (events_of log)) (released_datagrams (calls_of log)) ≡ o → read_datagram o ≡ Some d → NextIs log d
     piece-at None i e = absurd (cc)
     piece-at (Some piece) i e = record { piece = piece; found = i; parsed = e }
 
-    at : (b : Bool) → nat_lt (settled_datagrams (calls_of log)) (stream_table side log).progress.datagrams ≡ b → (if b then read_datagram (slice_get (datagrams_of (events_of log)) (settled_datagrams (calls_of log))) else None) ≡ Some d
-        → NextIs log d × (settled_datagrams (calls_of log) < (stream_table side log).progress.datagrams)
-    at true l e = (piece-at (slice_get (datagrams_of (events_of log)) (settled_datagrams (calls_of log))) refl e, ltb-true _ _ l)
-    at false l e = absurd (cc)
+    by : (b : Bool) → nat_lt (released_datagrams (calls_of log)) (stream_table side log).progress.datagrams ≡ b → (if b then read_datagram (slice_get (datagrams_of (events_of log)) (released_datagrams (calls_of log))) else None) ≡ Some d
+        → NextIs log d × (released_datagrams (calls_of log) < (stream_table side log).progress.datagrams)
+    by true l e = (piece-at (slice_get (datagrams_of (events_of log)) (released_datagrams (calls_of log))) refl e, ltb-true _ _ l)
+    by false l e = absurd (cc)
 
-so-far-settled : (side : Side) (turn : Turn) (r : CallRecord) (log : Log) (b : Bool) → settles_datagram r ≡ true → receives r ≡ b → establishes r ≡ None → FoundDatagram side turn log b → Handshakes side (Called r ∷ log) → DatagramsSoFar side log → DatagramsSoFar side (Called r ∷ log)
-so-far-settled side turn r log b s i e f h p =
-    let n = settled_datagrams (calls_of log) in
+so-far-released : (side : Side) (turn : Turn) (r : CallRecord) (log : Log) (b : Bool) → releases_datagram r ≡ true → receives r ≡ b → establishes r ≡ None → FoundDatagram side turn log b → Handshakes side (Called r ∷ log) → DatagramsSoFar side log → DatagramsSoFar side (Called r ∷ log)
+so-far-released side turn r log b s i e f h p =
+    let n = released_datagrams (calls_of log) in
     let xs = datagrams_of (events_of log) in
-    let x = next-is side log f.datagram f.next in
-    let c : settled_datagrams (r ∷ calls_of log) ≡ suc n = ap (λ z. one_more_if z n) s ∙ (let q : n + 1 ≡ suc n = omega arith in q) in
+    let x = next-is side log f.datagram f.is_next in
+    let c : released_datagrams (r ∷ calls_of log) ≡ suc n = ap (λ z. one_more_if z n) s ∙ (let q : n + 1 ≡ suc n = omega arith in q) in
     let d : established_session (r ∷ calls_of log) ≡ established_session (calls_of log) = ap (λ o. or_earlier o (established_session (calls_of log))) e in
     let w : received xs (r ∷ calls_of log) ≡ with_received b (payload_at (slice_get xs n)) (received xs (calls_of log)) = ap (λ z. with_received z (payload_at (slice_get xs n)) (received xs (calls_of log))) i in
     record {
@@ -173,37 +173,37 @@ so-far-settled side turn r log b s i e f h p =
       within = rw c (slice_get_within xs n x.0.piece x.0.found);
       dequeued = rw c (dequeued-stay side (suc n) (Called r) log x.1);
       none = λ q. absurd (let z = sym d ∙ q in let y = f.is_established in cc);
-      prefix = λ t at q.
+      prefix = λ t offset q.
           let same : f.session ≡ t = ap session_id (sym f.is_established ∙ sym d ∙ q) in
-          w ∙ ap (with_received b (payload_at (slice_get xs n))) (p.prefix t at (sym d ∙ q)) ∙ by-name t (take n xs) x.0.piece b x.0.found x.0.parsed (subst (λ z. (4 * f.datagram.0 == z) ≡ b) same f.named)
+          w ∙ ap (with_received b (payload_at (slice_get xs n))) (p.prefix t offset (sym d ∙ q)) ∙ by-name t (take n xs) x.0.piece b x.0.found x.0.parsed (subst (λ z. (4 * f.datagram.0 == z) ≡ b) same f.named)
           ∙ ap (payloads_for t) (sym (take-next xs n x.0.piece x.0.found) ∙ ap (λ m. take m xs) (sym c));
     }
   where
-    by-name : (t : ℕ) (before : List (List ℕ)) (piece : List ℕ) (b : Bool) → slice_get (datagrams_of (events_of log)) (settled_datagrams (calls_of log)) ≡ Some piece → well_formed piece ≡ Some f.datagram → (4 * f.datagram.0 == t) ≡ b
-        → with_received b (payload_at (slice_get (datagrams_of (events_of log)) (settled_datagrams (calls_of log)))) (payloads_for t before) ≡ payloads_for t (before ++ piece ∷ [])
+    by-name : (t : ℕ) (before : List (List ℕ)) (piece : List ℕ) (b : Bool) → slice_get (datagrams_of (events_of log)) (released_datagrams (calls_of log)) ≡ Some piece → well_formed piece ≡ Some f.datagram → (4 * f.datagram.0 == t) ≡ b
+        → with_received b (payload_at (slice_get (datagrams_of (events_of log)) (released_datagrams (calls_of log)))) (payloads_for t before) ≡ payloads_for t (before ++ piece ∷ [])
     by-name t before piece true g q m =
         ap (λ o. payloads_for t before ++ payload_at o ∷ []) g ∙ ap (λ o. payloads_for t before ++ payload_in o ∷ []) q
         ∙ sym (payloads-next t before piece ∙ ap (λ o. payloads_for t before ++ payload_for t o) q ∙ ap (λ z. payloads_for t before ++ (if z then f.datagram.1 ∷ [] else [])) m)
     by-name t before piece false g q m =
         sym (payloads-next t before piece ∙ ap (λ o. payloads_for t before ++ payload_for t o) q ∙ ap (λ z. payloads_for t before ++ (if z then f.datagram.1 ∷ [] else [])) m ∙ append-nil (payloads_for t before))
 
-so-far-established : (side : Side) (turn : Turn) (id at : ℕ) (log : Log) → EstablishedBy side turn log id at → Handshakes side (Called (SessionEstablished id at) ∷ log) → DatagramsSoFar side log → DatagramsSoFar side (Called (SessionEstablished id at) ∷ log)
-so-far-established side turn id at log c h p =
+so-far-established : (side : Side) (turn : Turn) (id offset : ℕ) (log : Log) → EstablishedBy side turn log id offset → Handshakes side (Called (SessionEstablished id offset) ∷ log) → DatagramsSoFar side log → DatagramsSoFar side (Called (SessionEstablished id offset) ∷ log)
+so-far-established side turn id offset log c h p =
     let o = ap established_session (ap calls_of c.is ∙ calls-with c.own c.before) in
     let n = (handshakes-before side c.own c.before (subst (Handshakes side) c.is p.handshakes)).none_yet c.under_way in
     let z = p.none (o ∙ n) in
     record {
       handshakes = h;
       within = p.within;
-      dequeued = dequeued-stay side (settled_datagrams (calls_of log)) (Called (SessionEstablished id at)) log p.dequeued;
+      dequeued = dequeued-stay side (released_datagrams (calls_of log)) (Called (SessionEstablished id offset)) log p.dequeued;
       none = λ q. absurd (cc);
       prefix = λ t a q. z.1 ∙ ap (λ m. payloads_for t (take m (datagrams_of (events_of log)))) (sym z.0);
     }
 
 so-far-record : (side : Side) (turn : Turn) (r : CallRecord) (log : Log) → RecordCause side turn log r → DatagramsSoFar side log → DatagramsSoFar side (Called r ∷ log)
-so-far-record side turn DatagramReceived log c p = so-far-settled side turn DatagramReceived log true refl refl refl c (handshakes-record side turn log DatagramReceived c p.handshakes) p
-so-far-record side turn DatagramPassed log c p = so-far-settled side turn DatagramPassed log false refl refl refl c (handshakes-record side turn log DatagramPassed c p.handshakes) p
-so-far-record side turn (SessionEstablished id at) log c p = so-far-established side turn id at log c (handshakes-record side turn log (SessionEstablished id at) c p.handshakes) p
+so-far-record side turn DatagramReceived log c p = so-far-released side turn DatagramReceived log true refl refl refl c (handshakes-record side turn log DatagramReceived c p.handshakes) p
+so-far-record side turn DatagramPassed log c p = so-far-released side turn DatagramPassed log false refl refl refl c (handshakes-record side turn log DatagramPassed c p.handshakes) p
+so-far-record side turn (SessionEstablished id offset) log c p = so-far-established side turn id offset log c (handshakes-record side turn log (SessionEstablished id offset) c p.handshakes) p
 so-far-record side turn _ log c p = so-far-other side _ log refl refl refl (handshakes-record side turn log _ c p.handshakes) p
 
 pub keeps-datagrams : (side : Side) (turn : Turn) → Keeps side turn (DatagramsSoFar side)
@@ -226,31 +226,31 @@ keeps-arrivals side turn xs n = by-entries (record {
   record_ = λ log r c p. p;
 })
 
-pub receive-brings : (t : Turn) → is_receive t ≡ true → event_of t ≡ None
-receive-brings (turns.Call c) e = refl
-receive-brings _ e = absurd (cc)
+pub receive-reports : (t : Turn) → is_receive t ≡ true → event_of t ≡ None
+receive-reports (turns.Call c) e = refl
+receive-reports _ e = absurd (cc)
 
 -- what is passed isn't received
 pub passed-same : (xs : List (List ℕ)) (after before : List CallRecord) → HasPassed after before → received xs after ≡ received xs before
 passed-same xs after before NonePassed = refl
-passed-same xs after before (OnePassed r p s) = passed-same xs after (r ∷ before) s ∙ at r p
+passed-same xs after before (OnePassed r p s) = passed-same xs after (r ∷ before) s ∙ by r p
   where
-    at : (r : CallRecord) → is_pass r ≡ true → received xs (r ∷ before) ≡ received xs before
-    at (StreamPassed k) p = refl
-    at DatagramPassed p = refl
-    at _ p = absurd (cc)
+    by : (r : CallRecord) → is_pass r ≡ true → received xs (r ∷ before) ≡ received xs before
+    by (StreamPassed k) p = refl
+    by DatagramPassed p = refl
+    by _ p = absurd (cc)
 
-quiet-datagram : (reply : Reply) (got : List (List ℕ)) → is_quiet reply ≡ true → more_received (datagram_told reply) got ≡ got
+quiet-datagram : (reply : Reply) (got : List (List ℕ)) → is_quiet reply ≡ true → more_received (datagram_reported reply) got ≡ got
 quiet-datagram (replies.Datagram piece) got q = absurd (cc)
 quiet-datagram _ got q = refl
 
-other-told : (turn : Turn) (r : CallRecord) (reply : Reply) (got : List (List ℕ)) → receives r ≡ false → TellsOf turn r reply → more_received (datagram_told reply) got ≡ got
-other-told turn r (replies.Datagram piece) got i t = at r i t
+other-reported : (turn : Turn) (r : CallRecord) (reply : Reply) (got : List (List ℕ)) → receives r ≡ false → TellsOf turn r reply → more_received (datagram_reported reply) got ≡ got
+other-reported turn r (replies.Datagram piece) got i t = by r i t
   where
-    at : (r : CallRecord) → receives r ≡ false → TellsOf turn r (replies.Datagram piece) → got ++ piece ∷ [] ≡ got
-    at (BytesRead k n) i t = absurd (let z = t.1 in cc)
-    at _ i t = absurd (cc)
-other-told turn r _ got i t = refl
+    by : (r : CallRecord) → receives r ≡ false → TellsOf turn r (replies.Datagram piece) → got ++ piece ∷ [] ≡ got
+    by (BytesRead k n) i t = absurd (let z = t.1 in cc)
+    by _ i t = absurd (cc)
+other-reported turn r _ got i t = refl
 
 abbrev pub Arrived : List (List ℕ) → Log → Type 0
 Arrived xs log = (more : List (List ℕ)) × (datagrams_of (events_of log) ≡ xs ++ more)
@@ -268,13 +268,13 @@ keeps-arrived side turn xs = by-entries (record {
 })
 
 -- the datagram that a receive found stands there still when it is recorded
-found-payload : (side : Side) (turn : Turn) (decided : Log) (xs : List (List ℕ)) (reply : Reply) (piece : List ℕ) → ReplyCause side turn decided reply → datagram_told reply ≡ Some piece → (event_of turn ≡ None → xs ≡ datagrams_of (events_of decided))
-    → payload_at (slice_get xs (settled_datagrams (calls_of decided))) ≡ piece
+found-payload : (side : Side) (turn : Turn) (decided : Log) (xs : List (List ℕ)) (reply : Reply) (piece : List ℕ) → ReplyCause side turn decided reply → datagram_reported reply ≡ Some piece → (event_of turn ≡ None → xs ≡ datagrams_of (events_of decided))
+    → payload_at (slice_get xs (released_datagrams (calls_of decided))) ≡ piece
 found-payload side turn decided xs (replies.Datagram p) piece w e k =
     let f = w.0 in
-    let x = (next-is side decided f.datagram f.next).0 in
+    let x = (next-is side decided f.datagram f.is_next).0 in
     let q : p ≡ piece = cc in
-    ap (λ ys. payload_at (slice_get ys (settled_datagrams (calls_of decided)))) (k (receive-brings turn f.receives)) ∙ ap payload_at x.found ∙ ap payload_in x.parsed ∙ sym w.1 ∙ q
+    ap (λ ys. payload_at (slice_get ys (released_datagrams (calls_of decided)))) (k (receive-reports turn f.receives)) ∙ ap payload_at x.found ∙ ap payload_in x.parsed ∙ sym w.1 ∙ q
 found-payload side turn decided xs _ piece w e k = absurd (cc)
 
 record DatagramsHold (side : Side) (before : List Exchange) (log : Log) : Type 0 where
@@ -282,34 +282,34 @@ record DatagramsHold (side : Side) (before : List Exchange) (log : Log) : Type 0
   pub reported : received_by before ≡ received (datagrams_of (events_of log)) (calls_of log)
 
 by-record : (side : Side) (turn : Turn) (xs got : List (List ℕ)) (decided : Log) (reply : Reply) (r : CallRecord) (b : Bool) → receives r ≡ b → got ≡ received xs (calls_of decided) → ReplyCause side turn decided reply → TellsOf turn r reply
-    → (event_of turn ≡ None → xs ≡ datagrams_of (events_of decided)) → more_received (datagram_told reply) got ≡ received xs (r ∷ calls_of decided)
-by-record side turn xs got decided reply r false i g w t k = other-told turn r reply got i t ∙ g ∙ ap (λ b. with_received b (payload_at (slice_get xs (settled_datagrams (calls_of decided)))) (received xs (calls_of decided))) (sym i)
+    → (event_of turn ≡ None → xs ≡ datagrams_of (events_of decided)) → more_received (datagram_reported reply) got ≡ received xs (r ∷ calls_of decided)
+by-record side turn xs got decided reply r false i g w t k = other-reported turn r reply got i t ∙ g ∙ ap (λ b. with_received b (payload_at (slice_get xs (released_datagrams (calls_of decided)))) (received xs (calls_of decided))) (sym i)
 by-record side turn xs got decided reply DatagramReceived true i g w t k =
     ap (λ o. more_received o got) t.1 ∙ ap (λ ys. ys ++ t.0 ∷ []) g ∙ ap (λ p. received xs (calls_of decided) ++ p ∷ []) (sym (found-payload side turn decided xs reply t.0 w t.1 k))
 by-record side turn xs got decided reply _ true i g w t k = absurd (cc)
 
 one-exchange : (side : Side) (before : List Exchange) (log : Log) (t : Turn) → is_lawful side log t ≡ true → DatagramsHold side before log
-    → more_received (datagram_told (answer_to side log t).reply) (received_by before) ≡ received (datagrams_of (events_of (log_after side log t))) (calls_of (log_after side log t))
+    → more_received (datagram_reported (answer_to side log t).reply) (received_by before) ≡ received (datagrams_of (events_of (log_after side log t))) (calls_of (log_after side log t))
 one-exchange side before log t l p =
     let c = caused side t log l in
     let xs = datagrams_of (events_of (log_after side log t)) in
     let a = keeps-turn (keeps-arrived side t (datagrams_of (events_of log))) log l ([], sym (append-nil (datagrams_of (events_of log)))) in
     let g : received_by before ≡ received xs (calls_of c.decided) =
     p.reported ∙ sym (received-grows (datagrams_of (events_of log)) a.0 (calls_of log) p.so_far.within) ∙ ap (λ ys. received ys (calls_of log)) (sym a.1) ∙ sym (passed-same xs (calls_of c.decided) (calls_of log) c.passed) in
-    at c.logged g c.why (λ n. keeps-steps (keeps-arrivals side t (datagrams_of (events_of c.decided)) n) c.after refl)
+    by c.logged g c.why (λ n. keeps-steps (keeps-arrivals side t (datagrams_of (events_of c.decided)) n) c.after refl)
   where
-    at : Logged t (calls_of (caused side t log l).decided) (calls_of (log_after side log t)) (answer_to side log t).reply → received_by before ≡ received (datagrams_of (events_of (log_after side log t))) (calls_of (caused side t log l).decided)
+    by : Logged t (calls_of (caused side t log l).decided) (calls_of (log_after side log t)) (answer_to side log t).reply → received_by before ≡ received (datagrams_of (events_of (log_after side log t))) (calls_of (caused side t log l).decided)
         → ReplyCause side t (caused side t log l).decided (answer_to side log t).reply → (event_of t ≡ None → datagrams_of (events_of (log_after side log t)) ≡ datagrams_of (events_of (caused side t log l).decided))
-        → more_received (datagram_told (answer_to side log t).reply) (received_by before) ≡ received (datagrams_of (events_of (log_after side log t))) (calls_of (log_after side log t))
-    at (NoRecord e q) g w k = quiet-datagram (answer_to side log t).reply (received_by before) q ∙ g ∙ ap (received (datagrams_of (events_of (log_after side log t)))) (sym e)
-    at (OneRecord r e q) g w k =
+        → more_received (datagram_reported (answer_to side log t).reply) (received_by before) ≡ received (datagrams_of (events_of (log_after side log t))) (calls_of (log_after side log t))
+    by (NoRecord e q) g w k = quiet-datagram (answer_to side log t).reply (received_by before) q ∙ g ∙ ap (received (datagrams_of (events_of (log_after side log t)))) (sym e)
+    by (OneRecord r e q) g w k =
         by-record side t (datagrams_of (events_of (log_after side log t))) (received_by before) (caused side t log l).decided (answer_to side log t).reply r (receives r) refl g w q k ∙ ap (received (datagrams_of (events_of (log_after side log t)))) (sym e)
-    at (ThenPolled r e q) g w k =
+    by (ThenPolled r e q) g w k =
         by-record side t (datagrams_of (events_of (log_after side log t))) (received_by before) (caused side t log l).decided (answer_to side log t).reply r (receives r) refl g w q k ∙ ap (received (datagrams_of (events_of (log_after side log t)))) (sym e)
 
 pub datagrams-first : (side : Side) → DatagramsSoFar side []
 unfolding stream_table
-datagrams-first side = record { handshakes = handshakes-first side; within = omega arith; dequeued = omega arith; none = λ q. (refl, refl); prefix = λ s at q. absurd (cc) }
+datagrams-first side = record { handshakes = handshakes-first side; within = omega arith; dequeued = omega arith; none = λ q. (refl, refl); prefix = λ s offset q. absurd (cc) }
 
 datagrams-law : (side : Side) → Law side (DatagramsHold side)
 datagrams-law side = record {
@@ -318,6 +318,6 @@ datagrams-law side = record {
 }
 
 pub datagrams-in-order : (side : Side) (all : List Turn) → AllLawful side [] all → DatagramsInOrder side (exchanges side all) (log_from side [] all)
-datagrams-in-order side all a s at e =
+datagrams-in-order side all a s offset e =
     let p = holds side (DatagramsHold side) (datagrams-law side) all a in
-    (p.so_far.dequeued, p.reported ∙ p.so_far.prefix s at e)
+    (p.so_far.dequeued, p.reported ∙ p.so_far.prefix s offset e)

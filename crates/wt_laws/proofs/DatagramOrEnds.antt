@@ -12,8 +12,8 @@ use Rattle.wt_wire.specs.declared.error.ErrorCode.{ErrorCode}
 use Rattle.wt_wire.specs.declared.side.Side.{Side}
 use Rattle.wt_laws.proofs.FaultlessLaws.{none-yet, step}
 use Rattle.wt_laws.proofs.Moments.{AllCaused, Causes, IsKept, kept-scan}
-use Rattle.wt_laws.specs.Faults.{DatagramOrEnds, TakesDatagram}
-use Rattle.wt_spec.specs.Driver.{apply_if, call_view, is_moment, settings_ready, settled_datagrams, stream_table, transport_view}
+use Rattle.wt_laws.specs.Faults.{DatagramOrEnds, DequeuesDatagram}
+use Rattle.wt_spec.specs.Driver.{apply_if, call_view, is_moment, settings_ready, released_datagrams, stream_table, transport_view}
 use Rattle.wt_spec.specs.Scan.{SlotRule, bi_ids, bi_rule, check_control, check_datagram, check_qpack, check_session, checks, critical_if, dequeued_datagram, in_order, parsed_datagram, scan_bis, scan_order, scan_unis, session_ends, uni_ids, uni_rule, unless_ended, with_fault, without_stops}
 use Rattle.wt_spec.specs.StreamTable.{CallView, Dispatched, Ending, DriverProgress, StreamTable, TransportView, dispatched_streams}
 use Rattle.wt_proto.specs.declared.session_walk.SessionWalk.TheVariants as walks
@@ -130,19 +130,19 @@ all-well t calls d p piece b e n =
 record OneMore (t : TransportView) (calls : CallView) (p : DriverProgress) (number : ℕ) : Type 0 where
   pub piece : List ℕ
   pub ready : t.ready ≡ true
-  pub all_settled : calls.datagrams ≡ p.datagrams
-  pub next : t.datagram p.datagrams ≡ Some piece
+  pub all_released : calls.datagrams ≡ p.datagrams
+  pub is_next : t.datagram p.datagrams ≡ Some piece
   pub count_is : number ≡ suc p.datagrams
 
 one-more : (t : TransportView) (calls : CallView) (p : DriverProgress) (b : Bool) → (t.ready && calls.datagrams == p.datagrams) ≡ b → (check_datagram b t p).datagrams ≢ p.datagrams → OneMore t calls p (check_datagram b t p).datagrams
 one-more t calls p false e d = absurd (d refl)
-one-more t calls p true e d = at (t.datagram p.datagrams) refl d
+one-more t calls p true e d = by (t.datagram p.datagrams) refl d
   where
-    at : (o : Option (List ℕ)) → t.datagram p.datagrams ≡ o → (dequeued_datagram o p).datagrams ≢ p.datagrams → OneMore t calls p (dequeued_datagram o p).datagrams
-    at None q d = absurd (d refl)
-    at (Some piece) q d =
+    by : (o : Option (List ℕ)) → t.datagram p.datagrams ≡ o → (dequeued_datagram o p).datagrams ≢ p.datagrams → OneMore t calls p (dequeued_datagram o p).datagrams
+    by None q d = absurd (d refl)
+    by (Some piece) q d =
         let parts = and_parts t.ready (calls.datagrams == p.datagrams) e in
-        record { piece = piece; ready = parts.0; all_settled = eqb-true calls.datagrams p.datagrams parts.1; next = q; count_is = dequeued-one (Some piece) p piece refl }
+        record { piece = piece; ready = parts.0; all_released = eqb-true calls.datagrams p.datagrams parts.1; is_next = q; count_is = dequeued-one (Some piece) p piece refl }
 
 all-one-more : (t : TransportView) (calls : CallView) (d : Dispatched) (p : DriverProgress) (o : Option Ending) → p.ending ≡ o → (in_order (checks t calls d) p).datagrams ≢ p.datagrams → OneMore t calls p (in_order (checks t calls d) p).datagrams
 all-one-more t calls d p (Some x) e n = absurd (n (as-first t calls d p ∙ ap (λ (o : Option Ending). (unless_ended o (first_check t calls) p).datagrams) e))
@@ -163,8 +163,8 @@ module _ (side : Side) (log : Log) (u : StreamTable) where
   none-scanned : table.progress.datagrams ≡ u.progress.datagrams
   none-scanned = scan-datagrams (transport_view side log) (call_view log) (without_stops u)
 
-  found-well : (piece : List ℕ) → settings_ready side log ≡ true → settled_datagrams (calls_of log) ≡ u.progress.datagrams → slice_get (datagrams_of (events_of log)) u.progress.datagrams ≡ Some piece → last.progress.ending ≡ None
-      → TakesDatagram log u last piece × (is_ok (datagram_of piece) ≡ true)
+  found-well : (piece : List ℕ) → settings_ready side log ≡ true → released_datagrams (calls_of log) ≡ u.progress.datagrams → slice_get (datagrams_of (events_of log)) u.progress.datagrams ≡ Some piece → last.progress.ending ≡ None
+      → DequeuesDatagram log u last piece × (is_ok (datagram_of piece) ≡ true)
   found-well piece r s e n =
       let t = transport_view side log in
       let d = dispatched_streams (call_view log) table.classified in
@@ -173,12 +173,12 @@ module _ (side : Side) (log : Log) (u : StreamTable) where
       let one =
       as-first t (call_view log) d table.progress ∙ ap (λ (o : Option Ending). (unless_ended o (first_check t (call_view log)) table.progress).datagrams) (none-yet (checks t (call_view log) d) table.progress n)
       ∙ checked-one (t.ready && (call_view log).datagrams == table.progress.datagrams) t table.progress piece b q in
-      (record { next = e; all_settled = s; count_is = one ∙ ap suc none-scanned }, all-well t (call_view log) d table.progress piece b q n)
+      (record { is_next = e; all_released = s; count_is = one ∙ ap suc none-scanned }, all-well t (call_view log) d table.progress piece b q n)
 
-  found-only : last.progress.datagrams ≢ u.progress.datagrams → (piece : List ℕ) × TakesDatagram log u last piece × (settings_ready side log ≡ true)
+  found-only : last.progress.datagrams ≢ u.progress.datagrams → (piece : List ℕ) × DequeuesDatagram log u last piece × (settings_ready side log ≡ true)
   found-only n =
       let m = all-one-more (transport_view side log) (call_view log) (dispatched_streams (call_view log) table.classified) table.progress table.progress.ending refl (λ z. n (z ∙ none-scanned)) in
-      (m.piece, record { next = ap (slice_get (datagrams_of (events_of log))) (sym none-scanned) ∙ m.next; all_settled = m.all_settled ∙ none-scanned; count_is = m.count_is ∙ ap suc none-scanned }, m.ready)
+      (m.piece, record { is_next = ap (slice_get (datagrams_of (events_of log))) (sym none-scanned) ∙ m.is_next; all_released = m.all_released ∙ none-scanned; count_is = m.count_is ∙ ap suc none-scanned }, m.ready)
 
 -- the table after one more entry, which is a moment on an open connection or not
 abbrev pub after-entry : Side → Entry → Log → Bool → StreamTable
@@ -187,15 +187,15 @@ after-entry side e log b = apply_if b (scan_order (transport_view side (e ∷ lo
 pub datagram-or-ends : (side : Side) (e : Entry) (log : Log) → DatagramOrEnds side e log
 unfolding stream_table
 datagram-or-ends side e log = record {
-  next = λ piece m o r s d n. well (is_moment e && is_open (e ∷ log)) (and_from (is_moment e) (is_open (e ∷ log)) m o) piece r s d n;
+  is_next = λ piece m o r s d n. well (is_moment e && is_open (e ∷ log)) (and_from (is_moment e) (is_open (e ∷ log)) m o) piece r s d n;
   only = only-so (is_moment e && is_open (e ∷ log));
 }
   where
-    well : (b : Bool) → b ≡ true → (piece : List ℕ) → settings_ready side (e ∷ log) ≡ true → settled_datagrams (calls_of (e ∷ log)) ≡ (stream_table side log).progress.datagrams → slice_get (datagrams_of (events_of (e ∷ log))) (stream_table side log).progress.datagrams ≡ Some piece
-        → (after-entry side e log b).progress.ending ≡ None → TakesDatagram (e ∷ log) (stream_table side log) (after-entry side e log b) piece × (is_ok (datagram_of piece) ≡ true)
+    well : (b : Bool) → b ≡ true → (piece : List ℕ) → settings_ready side (e ∷ log) ≡ true → released_datagrams (calls_of (e ∷ log)) ≡ (stream_table side log).progress.datagrams → slice_get (datagrams_of (events_of (e ∷ log))) (stream_table side log).progress.datagrams ≡ Some piece
+        → (after-entry side e log b).progress.ending ≡ None → DequeuesDatagram (e ∷ log) (stream_table side log) (after-entry side e log b) piece × (is_ok (datagram_of piece) ≡ true)
     well true q piece r s d n = found-well side (e ∷ log) (stream_table side log) piece r s d n
     well false q piece r s d n = absurd (cc)
 
-    only-so : (b : Bool) → (after-entry side e log b).progress.datagrams ≢ (stream_table side log).progress.datagrams → (piece : List ℕ) × TakesDatagram (e ∷ log) (stream_table side log) (after-entry side e log b) piece × (settings_ready side (e ∷ log) ≡ true)
+    only-so : (b : Bool) → (after-entry side e log b).progress.datagrams ≢ (stream_table side log).progress.datagrams → (piece : List ℕ) × DequeuesDatagram (e ∷ log) (stream_table side log) (after-entry side e log b) piece × (settings_ready side (e ∷ log) ≡ true)
     only-so true n = found-only side (e ∷ log) (stream_table side log) n
     only-so false n = absurd (n refl)

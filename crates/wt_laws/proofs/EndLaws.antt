@@ -1,4 +1,4 @@
--- The end of a connection: what closes it, and that what it is told as stays.
+-- The end of a connection: what closes it, and that what it is reported as stays.
 use Rattle.std.specs.Prelude.{[], ◌&&◌, ◌++◌, ◌||◌, ◌∷◌, ◌≡◌, Bool, List, None, Option, Some, drop, false, not, take, true, ℕ}
 use Rattle.std.proofs.Common.{◌∙◌, ap, refl, sym}
 use Rattle.std.proofs.lemmas.Bool.{and_from, or_right}
@@ -112,11 +112,11 @@ same-table side a log = refl
 -- a closed connection scans no more
 pub closed-table : (side : Side) (e : Entry) (log : Log) → is_open (e ∷ log) ≡ false → stream_table side (e ∷ log) ≡ stream_table side log
 unfolding stream_table
-closed-table side e log c = at (is_moment e) (is_open (e ∷ log)) c
+closed-table side e log c = by (is_moment e) (is_open (e ∷ log)) c
   where
-    at : (m o : Bool) → o ≡ false → apply_if (m && o) (scan_order (transport_view side (e ∷ log)) (call_view (e ∷ log))) (stream_table side log) ≡ stream_table side log
-    at true o c = rw c refl
-    at false o c = refl
+    by : (m o : Bool) → o ≡ false → apply_if (m && o) (scan_order (transport_view side (e ∷ log)) (call_view (e ∷ log))) (stream_table side log) ≡ stream_table side log
+    by true o c = rw c refl
+    by false o c = refl
 
 pub late-table : (side : Side) (e : Event) (log : Log) → stream_table side (ReportedLate e ∷ log) ≡ stream_table side log
 unfolding stream_table
@@ -182,15 +182,15 @@ none-lost (Sent a ∷ log) o = let p = none-lost log (open-before a log o) in (p
     or-none true d c o e = absurd (cc)
     or-none false d c o e = e
 
--- ---- what it is told as
+-- ---- what it is reported as
 
-record ToldAs (side : Side) (d t : ConnectionError) (log : Log) : Type 0 where
+record ReportedAs (side : Side) (d t : ConnectionError) (log : Log) : Type 0 where
   pub closed : is_open log ≡ false
   pub driver : driver_error side log ≡ d
   pub transport : transport_error log ≡ t
 
-told-entry : (side : Side) (d t : ConnectionError) (e : Entry) (log : Log) → is_open (e ∷ log) ≡ false → events_of (e ∷ log) ≡ events_of log → stream_table side (e ∷ log) ≡ stream_table side log → ToldAs side d t log → ToldAs side d t (e ∷ log)
-told-entry side d t e log o v s p = record {
+reported-entry : (side : Side) (d t : ConnectionError) (e : Entry) (log : Log) → is_open (e ∷ log) ≡ false → events_of (e ∷ log) ≡ events_of log → stream_table side (e ∷ log) ≡ stream_table side log → ReportedAs side d t log → ReportedAs side d t (e ∷ log)
+reported-entry side d t e log o v s p = record {
   closed = o;
   driver = by-table (stream_table side (e ∷ log)) (stream_table side log) s (transport_error (e ∷ log)) (transport_error log) (ap (λ es. loss_or_local (loss_of es)) v) ∙ p.driver;
   transport = ap (λ es. loss_or_local (loss_of es)) v ∙ p.transport;
@@ -205,22 +205,22 @@ told-entry side d t e log o v s p = record {
     by-table a b s x y q = by-ending a.progress.ending q ∙ ap (λ (z : StreamTable). error_of_ending log z.progress.ending) s
 
 closed-action : (a : Action) (log : Log) → is_open log ≡ false → is_open (Sent a ∷ log) ≡ false
-closed-action a log o = at (closes a) (list_any ends_by log) o
+closed-action a log o = by (closes a) (list_any ends_by log) o
   where
-    at : (b d : Bool) → not d ≡ false → not (b || d) ≡ false
-    at true d o = refl
-    at false d o = o
+    by : (b d : Bool) → not d ≡ false → not (b || d) ≡ false
+    by true d o = refl
+    by false d o = o
 
-keeps-told : (side : Side) (turn : Turn) (d t : ConnectionError) → Keeps side turn (ToldAs side d t)
-keeps-told side turn d t = by-entries (record {
-  action = λ log a p. told-entry side d t (Sent a) log (closed-action a log p.closed) refl (same-table side a log) p;
+keeps-reported : (side : Side) (turn : Turn) (d t : ConnectionError) → Keeps side turn (ReportedAs side d t)
+keeps-reported side turn d t = by-entries (record {
+  action = λ log a p. reported-entry side d t (Sent a) log (closed-action a log p.closed) refl (same-table side a log) p;
   event = λ log e o b p. absurd (let x = p.closed in cc);
-  late = λ log e o b p. told-entry side d t (ReportedLate e) log p.closed refl (late-table side e log) p;
+  late = λ log e o b p. reported-entry side d t (ReportedLate e) log p.closed refl (late-table side e log) p;
   byte = λ log id b o r p. absurd (let x = p.closed in cc);
-  record_ = λ log r c p. told-entry side d t (Called r) log p.closed refl (closed-table side (Called r) log p.closed) p;
+  record_ = λ log r c p. reported-entry side d t (Called r) log p.closed refl (closed-table side (Called r) log p.closed) p;
 })
 
 pub result-stays : (side : Side) (log : Log) (turn : Turn) → is_lawful side log turn ≡ true → is_open log ≡ false → ResultStays side log turn
 result-stays side log turn l o =
-    let p = keeps-turn (keeps-told side turn (driver_error side log) (transport_error log)) log l (record { closed = o; driver = refl; transport = refl }) in
+    let p = keeps-turn (keeps-reported side turn (driver_error side log) (transport_error log)) log l (record { closed = o; driver = refl; transport = refl }) in
     record { closed = p.closed; driver = p.driver; transport = p.transport }

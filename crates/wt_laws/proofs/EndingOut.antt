@@ -58,22 +58,22 @@ same-ending side as_ log = blind-actions (ending_of side) (λ b g. ap (λ (t : S
 
 -- the connection isn't open then
 ended-closed : (side : Side) (start log : Log) (s : Since side start log) (x : Ending) → ending_of side log ≡ Some x → is_open log ≡ false
-ended-closed side start log s x e = at (is_open log) refl
+ended-closed side start log s x e = by (is_open log) refl
   where
     shut : list_any closes (actions_of log) ≡ true
     shut = let w = s.ended x e in rw (s.grown, w.1, closes-so x) refl
 
-    at : (b : Bool) → is_open log ≡ b → b ≡ false
-    at false o = refl
-    at true o = absurd (let y = (none-lost log o).1 in let z = shut in cc)
+    by : (b : Bool) → is_open log ≡ b → b ≡ false
+    by false o = refl
+    by true o = absurd (let y = (none-lost log o).1 in let z = shut in cc)
 
 -- an open connection wasn't ended
 open-none : (side : Side) (start log : Log) (s : Since side start log) → is_open log ≡ true → ending_of side log ≡ None
-open-none side start log s o = at (ending_of side log) refl
+open-none side start log s o = by (ending_of side log) refl
   where
-    at : (e : Option Ending) → ending_of side log ≡ e → e ≡ None
-    at None q = refl
-    at (Some x) q = absurd (let y = ended-closed side start log s x q in cc)
+    by : (e : Option Ending) → ending_of side log ≡ e → e ≡ None
+    by None q = refl
+    by (Some x) q = absurd (let y = ended-closed side start log s x q in cc)
 
 module _ (side : Side) (start : Log) (e : Entry) (log : Log) (a : actions_of (e ∷ log) ≡ actions_of log) (s : Since side start log) where
   -- what is pending goes out on an open connection
@@ -93,11 +93,11 @@ module _ (side : Side) (start : Log) (e : Entry) (log : Log) (a : actions_of (e 
 
 since-flush : (side : Side) (start : Log) (e : Entry) (log : Log) → is_moment e ≡ true → actions_of (e ∷ log) ≡ actions_of log → Since side start log → Since side start (log_and_flush side log e)
 unfolding flush
-since-flush side start e log m a s = at (is_open (e ∷ log)) refl
+since-flush side start e log m a s = by (is_open (e ∷ log)) refl
   where
-    at : (b : Bool) → is_open (e ∷ log) ≡ b → Since side start (apply_if (is_moment e && is_open (e ∷ log)) (with_actions (pending_actions side (e ∷ log))) (e ∷ log))
-    at true o = rw (m, o) (since-pending side start e log a s)
-    at false o = rw (m, o) (since-closed side start e log a s o)
+    by : (b : Bool) → is_open (e ∷ log) ≡ b → Since side start (apply_if (is_moment e && is_open (e ∷ log)) (with_actions (pending_actions side (e ∷ log))) (e ∷ log))
+    by true o = rw (m, o) (since-pending side start e log a s)
+    by false o = rw (m, o) (since-closed side start e log a s o)
 
 module _ (side : Side) (turn : Turn) (start : Log) where
   since-own : (own : List Action) (log : Log) → OwnCauses side turn log own → Since side start log → Since side start (with_actions own log)

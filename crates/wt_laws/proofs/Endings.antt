@@ -9,7 +9,7 @@ use Rattle.wt_proto.specs.declared.verdict.Verdict.{Verdict}
 use Rattle.wt_laws.proofs.CauseLaws.{none-front}
 use Rattle.wt_laws.proofs.Moments.{OfEach}
 use Rattle.wt_laws.proofs.OrderLaws.{has-self}
-use Rattle.wt_laws.specs.Faults.{TakenLast}
+use Rattle.wt_laws.specs.Faults.{ClassifiedLast}
 use Rattle.wt_spec.specs.Scan.{Scan, SlotRule, classify, dequeue, fault_ending, has, in_order, scan, unless_ended, visit, with_classified, with_dequeued}
 use Rattle.wt_spec.specs.StreamTable.{CallView, Classified, Ending, DriverProgress, StreamTable, dispatched_streams, verdict_of}
 
@@ -72,11 +72,11 @@ module _ (ready : Bool) (calls : CallView) (rule : SlotRule) where
 
   pub scan-grows : (ks : List ℕ) (s : Scan) → GrowsFrom s.table.classified (scan ready calls rule ks s).table.classified
   scan-grows [] s = ([], sym (append-nil s.table.classified))
-  scan-grows (k ∷ ks) s = at s.table.progress.ending (scan-grows ks (look k s))
+  scan-grows (k ∷ ks) s = by s.table.progress.ending (scan-grows ks (look k s))
     where
-      at : (o : Option Ending) → GrowsFrom (look k s).table.classified (look-on k ks s).table.classified → GrowsFrom s.table.classified (unless_ended o (look-on k ks) s).table.classified
-      at None g = grows-on s.table.classified (look k s).table.classified (look-on k ks s).table.classified (visit-grows k (verdict_of k s.table.classified) s) g
-      at (Some x) g = ([], sym (append-nil s.table.classified))
+      by : (o : Option Ending) → GrowsFrom (look k s).table.classified (look-on k ks s).table.classified → GrowsFrom s.table.classified (unless_ended o (look-on k ks) s).table.classified
+      by None g = grows-on s.table.classified (look k s).table.classified (look-on k ks s).table.classified (visit-grows k (verdict_of k s.table.classified) s) g
+      by (Some x) g = ([], sym (append-nil s.table.classified))
 
   -- ---- the stream at which it ends
 
@@ -115,13 +115,13 @@ module _ (ready : Bool) (calls : CallView) (rule : SlotRule) where
     scan-ends [] s a n x f = absurd (cc)
     scan-ends (k ∷ ks) s a n x f =
         let g = scan-goes k ks s n in
-        subst (λ (z : Scan). EndsAt P calls rule s.table.classified z.table x) (sym g) (at (look k s).table.progress.ending refl (scan-ends ks (look k s) a.1) (ap (λ (z : Scan). z.table.progress.ending) (sym g) ∙ f))
+        subst (λ (z : Scan). EndsAt P calls rule s.table.classified z.table x) (sym g) (by (look k s).table.progress.ending refl (scan-ends ks (look k s) a.1) (ap (λ (z : Scan). z.table.progress.ending) (sym g) ∙ f))
       where
-        at : (o : Option Ending) → (look k s).table.progress.ending ≡ o
+        by : (o : Option Ending) → (look k s).table.progress.ending ≡ o
             → ((look k s).table.progress.ending ≡ None → (y : Ending) → (look-on k ks s).table.progress.ending ≡ Some y → EndsAt P calls rule (look k s).table.classified (look-on k ks s).table y)
             → (look-on k ks s).table.progress.ending ≡ Some x → EndsAt P calls rule s.table.classified (look-on k ks s).table x
-        at None e later f = ends-earlier s.table.classified (look k s).table.classified (look-on k ks s).table x (visit-grows k (verdict_of k s.table.classified) s) (later e x f)
-        at (Some y) e later f =
+        by None e later f = ends-earlier s.table.classified (look k s).table.classified (look-on k ks s).table x (visit-grows k (verdict_of k s.table.classified) s) (later e x f)
+        by (Some y) e later f =
             let same = scan-stays ks (look k s) y e in
             subst (λ (z : Scan). EndsAt P calls rule s.table.classified z.table x) (sym same)
             (visit-ends k (verdict_of k s.table.classified) s a.0 refl n x (ap (λ (z : Scan). z.table.progress.ending) (sym same) ∙ f))
@@ -130,14 +130,14 @@ module _ (ready : Bool) (calls : CallView) (rule : SlotRule) where
 
 verdict-last : (k : ℕ) (cs : List Classified) (x : Classified) → x.id ≡ k → verdict_of k cs ≡ None → verdict_of k (cs ++ x ∷ []) ≡ Some x.verdict
 verdict-last k [] x i n = ap (λ (b : Bool). if b then Some x.verdict else None) (eq-eqb x.id k i)
-verdict-last k (c ∷ cs) x i n = at (c.id == k) n (verdict-last k cs x i)
+verdict-last k (c ∷ cs) x i n = by (c.id == k) n (verdict-last k cs x i)
   where
-    at : (b : Bool) → (if b then Some c.verdict else verdict_of k cs) ≡ None → (verdict_of k cs ≡ None → verdict_of k (cs ++ x ∷ []) ≡ Some x.verdict) → (if b then Some c.verdict else verdict_of k (cs ++ x ∷ [])) ≡ Some x.verdict
-    at true n f = absurd (cc)
-    at false n f = f n
+    by : (b : Bool) → (if b then Some c.verdict else verdict_of k cs) ≡ None → (verdict_of k cs ≡ None → verdict_of k (cs ++ x ∷ []) ≡ Some x.verdict) → (if b then Some c.verdict else verdict_of k (cs ++ x ∷ [])) ≡ Some x.verdict
+    by true n f = absurd (cc)
+    by false n f = f n
 
-pub taken-last : {P : ℕ → Type 0} {calls : CallView} {rule : SlotRule} (before after : StreamTable) (x : Ending) (r : EndsAt P calls rule before.classified after x) → TakenLast before after r.stream (rule.verdict r.stream)
-taken-last {P} {calls} {rule} before after x r =
+pub classified-last : {P : ℕ → Type 0} {calls : CallView} {rule : SlotRule} (before after : StreamTable) (x : Ending) (r : EndsAt P calls rule before.classified after x) → ClassifiedLast before after r.stream (rule.verdict r.stream)
+classified-last {P} {calls} {rule} before after x r =
     let v = rule.verdict r.stream in
     let e = rule.consequence (dispatched_streams calls r.table.classified) r.stream v in
     record {
@@ -160,11 +160,11 @@ checks-stay (f ∷ fs) p x e = ap (λ (o : Option Ending). in_order fs (unless_e
 -- the first check ends the connection, or it finds nothing and a later one does
 pub first-check : {R : Type 0} (f : DriverProgress → DriverProgress) (fs : List (DriverProgress → DriverProgress)) (p : DriverProgress) (x : Ending) → p.ending ≡ None → (in_order (f ∷ fs) p).ending ≡ Some x
     → ((f p).ending ≡ Some x → in_order (f ∷ fs) p ≡ f p → R) → ((f p).ending ≡ None → (in_order fs (f p)).ending ≡ Some x → R) → R
-first-check {R} f fs p x n e here later = at (f p).ending refl
+first-check {R} f fs p x n e here later = by (f p).ending refl
   where
     goes : in_order (f ∷ fs) p ≡ in_order fs (f p)
     goes = ap (λ (o : Option Ending). in_order fs (unless_ended o f p)) n
 
-    at : (o : Option Ending) → (f p).ending ≡ o → R
-    at None q = later q (ap (λ (z : DriverProgress). z.ending) (sym goes) ∙ e)
-    at (Some y) q = let s = goes ∙ checks-stay fs (f p) y q in here (ap (λ (z : DriverProgress). z.ending) (sym s) ∙ e) s
+    by : (o : Option Ending) → (f p).ending ≡ o → R
+    by None q = later q (ap (λ (z : DriverProgress). z.ending) (sym goes) ∙ e)
+    by (Some y) q = let s = goes ∙ checks-stay fs (f p) y q in here (ap (λ (z : DriverProgress). z.ending) (sym s) ∙ e) s

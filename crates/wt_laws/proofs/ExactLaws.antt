@@ -72,8 +72,8 @@ no-reply true x y e = absurd (cc)
 no-reply false x y e = refl
 
 module _ (side : Side) (log : Log) where
-  in-it : {r : Reply} (call : ℕ → Effect) (o : Option (ℕ × ℕ)) (s at : ℕ) → o ≡ Some (s, at) → Gives r (call s) → Gives r (in_session side log call o)
-  in-it {r} call o s at e p = subst (λ (z : Option (ℕ × ℕ)). Gives r (in_session side log call z)) (sym e) p
+  in-it : {r : Reply} (call : ℕ → Effect) (o : Option (ℕ × ℕ)) (s offset : ℕ) → o ≡ Some (s, offset) → Gives r (call s) → Gives r (in_session side log call o)
+  in-it {r} call o s offset e p = subst (λ (z : Option (ℕ × ℕ)). Gives r (in_session side log call z)) (sym e) p
 
   on-it : {r : Reply} (b : Bool) (call : ℕ → Effect) (k : ℕ) → b ≡ true → Gives r (call k) → Gives r (on_half b side log call k)
   on-it true call k e p = p
@@ -81,7 +81,7 @@ module _ (side : Side) (log : Log) where
 
   -- ---- the calls on a session
 
-  module _ (s at : ℕ) (d : established_session (calls_of log) ≡ Some (s, at)) where
+  module _ (s offset : ℕ) (d : established_session (calls_of log) ≡ Some (s, offset)) where
     opens-ended : (kind : ℕ) → is_open log ≡ false → Gives (replies.Failed (transport_error log)) (open_stream side log kind s)
     opens-ended kind o = yes (not (is_open log)) _ _ (ap not o) refl
 
@@ -97,25 +97,25 @@ module _ (side : Side) (log : Log) where
     pub session-calls : SessionCallsAnswer side log s
     unfolding call_effect
     session-calls = record {
-      uni_ended = λ o. in-it _ _ s at d (opens-ended (local_uni side) o);
-      uni_opens = λ o m. in-it _ _ s at d (opens-next (local_uni side) o m);
-      bi_ended = λ o. in-it _ _ s at d (opens-ended (local_bi side) o);
-      bi_opens = λ o m. in-it _ _ s at d (opens-next (local_bi side) o m);
-      not_opening = λ k i. in-it (poll_opening side log k) _ s at d (no (is_opening log k) _ _ i refl);
-      opening_ended = λ k i o. in-it (poll_opening side log k) _ s at d (polled k _ i (yes (not (is_open log)) _ _ (ap not o) refl));
-      opening_refused = λ k i o r. in-it (poll_opening side log k) _ s at d (polled k _ i (no (not (is_open log)) _ _ (ap not o) (yes (is_refused log k (head_left log k (stream_header k s))) _ _ r refl)));
-      opened = λ k i o r c. in-it (poll_opening side log k) _ s at d
+      uni_ended = λ o. in-it _ _ s offset d (opens-ended (local_uni side) o);
+      uni_opens = λ o m. in-it _ _ s offset d (opens-next (local_uni side) o m);
+      bi_ended = λ o. in-it _ _ s offset d (opens-ended (local_bi side) o);
+      bi_opens = λ o m. in-it _ _ s offset d (opens-next (local_bi side) o m);
+      not_opening = λ k i. in-it (poll_opening side log k) _ s offset d (no (is_opening log k) _ _ i refl);
+      opening_ended = λ k i o. in-it (poll_opening side log k) _ s offset d (polled k _ i (yes (not (is_open log)) _ _ (ap not o) refl));
+      opening_refused = λ k i o r. in-it (poll_opening side log k) _ s offset d (polled k _ i (no (not (is_open log)) _ _ (ap not o) (yes (is_refused log k (head_left log k (stream_header k s))) _ _ r refl)));
+      opened = λ k i o r c. in-it (poll_opening side log k) _ s offset d
           (polled k _ i (no (not (is_open log)) _ _ (ap not o) (no (is_refused log k (head_left log k (stream_header k s))) _ _ r (yes (is_covered log k (head_left log k (stream_header k s))) _ _ c refl))));
-      datagram_ended = λ payload o. in-it (send_datagram side log payload) _ s at d (no (is_open log) _ _ o refl);
-      datagram_untold = λ payload o f. in-it (send_datagram side log payload) _ s at d (reported payload None _ o f refl);
-      datagram_disabled = λ payload o f. in-it (send_datagram side log payload) _ s at d (reported payload (Some facts.Disabled) _ o f refl);
-      datagram_unsupported = λ payload o f. in-it (send_datagram side log payload) _ s at d (reported payload (Some facts.Unsupported) _ o f refl);
-      datagram_too_large = λ payload limit o f l. in-it (send_datagram side log payload) _ s at d (reported payload (Some (facts.Limit limit)) _ o f (yes (nat_lt limit (length (datagram_bytes (s / 4) payload))) _ _ l refl));
-      datagram_sent = λ payload limit o f l. in-it (send_datagram side log payload) _ s at d (reported payload (Some (facts.Limit limit)) _ o f (no (nat_lt limit (length (datagram_bytes (s / 4) payload))) _ _ l refl));
-      size = in-it _ _ s at d refl;
-      id = in-it _ _ s at d refl;
-      close = λ code reason. in-it (λ j. close_connection side log code reason) _ s at d refl;
-      closed = λ o. in-it (λ j. poll_only side log (closed_reply log)) _ s at d (no-reply (is_open log) _ _ o);
+      datagram_ended = λ payload o. in-it (send_datagram side log payload) _ s offset d (no (is_open log) _ _ o refl);
+      datagram_untold = λ payload o f. in-it (send_datagram side log payload) _ s offset d (reported payload None _ o f refl);
+      datagram_disabled = λ payload o f. in-it (send_datagram side log payload) _ s offset d (reported payload (Some facts.Disabled) _ o f refl);
+      datagram_unsupported = λ payload o f. in-it (send_datagram side log payload) _ s offset d (reported payload (Some facts.Unsupported) _ o f refl);
+      datagram_too_large = λ payload limit o f l. in-it (send_datagram side log payload) _ s offset d (reported payload (Some (facts.Limit limit)) _ o f (yes (nat_lt limit (length (datagram_bytes (s / 4) payload))) _ _ l refl));
+      datagram_sent = λ payload limit o f l. in-it (send_datagram side log payload) _ s offset d (reported payload (Some (facts.Limit limit)) _ o f (no (nat_lt limit (length (datagram_bytes (s / 4) payload))) _ _ l refl));
+      size = in-it _ _ s offset d refl;
+      id = in-it _ _ s offset d refl;
+      close = λ code reason. in-it (λ j. close_connection side log code reason) _ s offset d refl;
+      closed = λ o. in-it (λ j. poll_only side log (closed_reply log)) _ s offset d (no-reply (is_open log) _ _ o);
     }
 
   -- ---- the calls on a sending half
@@ -223,11 +223,11 @@ module _ (side : Side) (log : Log) where
   by-response calls.Forbidden accepts head e = let p : (false, response_bytes (codes "403")) ≡ (accepts, head) = cc in (ResponseStarted false (response_bytes (codes "403")), ap (λ (x : Bool × List ℕ). respond side log x.0 x.1 (ResponseStarted false (response_bytes (codes "403")))) p)
   by-response calls.NotFound accepts head e = let p : (false, response_bytes (codes "404")) ≡ (accepts, head) = cc in (ResponseStarted false (response_bytes (codes "404")), ap (λ (x : Bool × List ℕ). respond side log x.0 x.1 (ResponseStarted false (response_bytes (codes "404")))) p)
   by-response calls.TooManyRequests accepts head e = let p : (false, response_bytes (codes "429")) ≡ (accepts, head) = cc in (ResponseStarted false (response_bytes (codes "429")), ap (λ (x : Bool × List ℕ). respond side log x.0 x.1 (ResponseStarted false (response_bytes (codes "429")))) p)
-  by-response calls.Handshake accepts head e = at (handshake_state (calls_of log)) e
+  by-response calls.Handshake accepts head e = by (handshake_state (calls_of log)) e
     where
-      at : (s : HandshakeState) → response_by s calls.Handshake ≡ Some (accepts, head) → (waiting : CallRecord) × (continue_by s side log ≡ respond side log accepts head waiting)
-      at (Responding a h) e = let p : (a, h) ≡ (accepts, head) = cc in (Polled, ap (λ (x : Bool × List ℕ). respond side log x.0 x.1 Polled) p)
-      at _ e = absurd (cc)
+      by : (s : HandshakeState) → response_by s calls.Handshake ≡ Some (accepts, head) → (waiting : CallRecord) × (continue_by s side log ≡ respond side log accepts head waiting)
+      by (Responding a h) e = let p : (a, h) ≡ (accepts, head) = cc in (Polled, ap (λ (x : Bool × List ℕ). respond side log x.0 x.1 Polled) p)
+      by _ e = absurd (cc)
   by-response _ accepts head e = absurd (cc)
 
   module _ (call : Call) where
@@ -265,19 +265,19 @@ module _ (side : Side) (log : Log) where
     reserved_name = λ name c s n. goes-on reserved head _ e (no (not (is_connected (events_of log))) _ _ (ap not c) (yes (settings_came side log) _ _ s (subst (λ z. Gives (replies.ConnectFailed (connects.ReservedHeader name)) (unless_reserved side log z head)) (sym n) refl)));
   }
 
-  none-told : (o : Option ℕ) → o ≡ None → is_some o ≡ false
-  none-told o e = ap is_some e
+  none-reported : (o : Option ℕ) → o ≡ None → is_some o ≡ false
+  none-reported o e = ap is_some e
 
   module _ (head : List ℕ) (m : MaySend side log head) where
     sends : (r : Reply) → Gives r (open_request side log head) → reply_to side log calls.Handshake ≡ r
     sends r p = goes-on None head r m.under_way (no (not (is_connected (events_of log))) _ _ (ap not m.connected) (yes (settings_came side log) _ _ m.settings p))
 
     not-none : local_count (actions_of log) (local_bi side) ≢ 0 → not (local_count (actions_of log) (local_bi side) == 0) ≡ true
-    not-none n = at (local_count (actions_of log) (local_bi side) == 0) refl
+    not-none n = by (local_count (actions_of log) (local_bi side) == 0) refl
       where
-        at : (b : Bool) → (local_count (actions_of log) (local_bi side) == 0) ≡ b → not b ≡ true
-        at true e = absurd (n (eqb-true (local_count (actions_of log) (local_bi side)) 0 e))
-        at false e = refl
+        by : (b : Bool) → (local_count (actions_of log) (local_bi side) == 0) ≡ b → not b ≡ true
+        by true e = absurd (n (eqb-true (local_count (actions_of log) (local_bi side)) 0 e))
+        by false e = refl
 
     none-open : local_count (actions_of log) (local_bi side) ≡ 0 → not (local_count (actions_of log) (local_bi side) == 0) ≡ false
     none-open e = ap not (eq-eqb (local_count (actions_of log) (local_bi side)) 0 e)
@@ -289,15 +289,15 @@ module _ (side : Side) (log : Log) where
     asked : (r : Reply) → RequestOut side log head → ((own : List Action) → Gives r (read_response side log (local_bi side) own (walk_at side log))) → reply_to side log calls.Handshake ≡ r
     unfolding left
     asked r (IsOut n e) f = sends r (yes (not (local_count (actions_of log) (local_bi side) == 0)) _ _ (not-none n) (yes (is_empty left) _ _ e (f [])))
-    asked r (GoesOutNow o may s c e) f = sends r (at (local_count (actions_of log) (local_bi side) == 0) refl)
+    asked r (GoesOutNow o may s c e) f = sends r (by (local_count (actions_of log) (local_bi side) == 0) refl)
       where
         sent : (own : List Action) → Gives r (send_request side log (local_bi side) own (head_left log (local_bi side) head))
-        sent own = no (is_empty (head_left log (local_bi side) head)) _ _ e (no (not (is_open log)) _ _ (ap not o) (no (is_some (stop_of (events_of log) (local_bi side))) _ _ (none-told (stop_of (events_of log) (local_bi side)) s)
+        sent own = no (is_empty (head_left log (local_bi side) head)) _ _ e (no (not (is_open log)) _ _ (ap not o) (no (is_some (stop_of (events_of log) (local_bi side))) _ _ (none-reported (stop_of (events_of log) (local_bi side)) s)
             (yes (is_covered log (local_bi side) (head_left log (local_bi side) head)) _ _ c (f (own ++ send_of (local_bi side) (head_left log (local_bi side) head))))))
 
-        at : (b : Bool) → (local_count (actions_of log) (local_bi side) == 0) ≡ b → Gives r (open_request side log head)
-        at true z = no (not (local_count (actions_of log) (local_bi side) == 0)) _ _ (ap not z) (no (not (is_open log)) _ _ (ap not o) (yes (may_open side log (local_bi side)) _ _ (may (eqb-true (local_count (actions_of log) (local_bi side)) 0 z)) (sent (actions_to_open side log (local_bi side)))))
-        at false z = yes (not (local_count (actions_of log) (local_bi side) == 0)) _ _ (ap not z) (sent [])
+        by : (b : Bool) → (local_count (actions_of log) (local_bi side) == 0) ≡ b → Gives r (open_request side log head)
+        by true z = no (not (local_count (actions_of log) (local_bi side) == 0)) _ _ (ap not z) (no (not (is_open log)) _ _ (ap not o) (yes (may_open side log (local_bi side)) _ _ (may (eqb-true (local_count (actions_of log) (local_bi side)) 0 z)) (sent (actions_to_open side log (local_bi side)))))
+        by false z = yes (not (local_count (actions_of log) (local_bi side) == 0)) _ _ (ap not z) (sent [])
 
     walked : (w : ResponseWalk) (r : Reply) (own : List Action) → walk_at side log ≡ w → Gives r (read_response side log (local_bi side) own w) → Gives r (read_response side log (local_bi side) own (walk_at side log))
     walked w r own e p = subst (λ z. Gives r (read_response side log (local_bi side) own z)) (sym e) p
@@ -312,9 +312,9 @@ module _ (side : Side) (log : Log) where
       fault = λ code q e. asked _ q (λ own. walked (responses.Fault code) _ own e refl);
       stream_end = λ q e. asked _ q (λ own. walked responses.Ended _ own e refl);
       no_response = λ q e o. asked _ q (λ own. walked responses.Incomplete _ own e (no (is_open log) _ _ o refl));
-      rejected = λ fields at q e s. asked _ q (λ own. walked (responses.Response fields at) _ own e (yes (not (has_success fields)) _ _ (ap not s) refl));
-      session = λ fields at q e s o. asked _ q (λ own. walked (responses.Response fields at) _ own e (no (not (has_success fields)) _ _ (ap not s) (yes (is_open log) _ _ o refl)));
-      ended = λ fields at q e s o. asked _ q (λ own. walked (responses.Response fields at) _ own e (no (not (has_success fields)) _ _ (ap not s) (no (is_open log) _ _ o refl)));
+      rejected = λ fields offset q e s. asked _ q (λ own. walked (responses.Response fields offset) _ own e (yes (not (has_success fields)) _ _ (ap not s) refl));
+      session = λ fields offset q e s o. asked _ q (λ own. walked (responses.Response fields offset) _ own e (no (not (has_success fields)) _ _ (ap not s) (yes (is_open log) _ _ o refl)));
+      ended = λ fields offset q e s o. asked _ q (λ own. walked (responses.Response fields offset) _ own e (no (not (has_success fields)) _ _ (ap not s) (no (is_open log) _ _ o refl)));
     }
 
   -- ---- what a call asks for first

@@ -22,7 +22,7 @@ use Rattle.wt_laws.proofs.Classified.{AllClassified, all-classified, classified-
 use Rattle.wt_laws.proofs.Looks.{from-or}
 use Rattle.wt_laws.proofs.Moments.{AsBi, AsUni, ClassifiedAs}
 use Rattle.wt_laws.proofs.Reached.{reached}
-use Rattle.wt_laws.proofs.Steps.{Brings, Keeps, KeepsEntries, by-entries}
+use Rattle.wt_laws.proofs.Steps.{EventNow, Keeps, KeepsEntries, by-entries}
 use Rattle.wt_laws.specs.Causes.{ByAccept, ByOpening, FoundStream, accepted_kind, opened_kind}
 use Rattle.wt_turn.specs.Turns.{event_of}
 use Rattle.wt_laws.specs.Reachable.{IsReachable, is_among}
@@ -77,8 +77,8 @@ byte-follows log id b k true i r = More (b ∷ []) (rw i refl) (subst (λ (j : �
 byte-follows log id b k false i r = Same (rw i refl) refl
 
 -- an event that ends a stream comes only where it runs
-ends-running : (side : Side) (turn : Turn) (log : Log) (k : ℕ) (e : Event) (s : StreamEnd) → Brings side turn log e → end_reported k e ≡ Some s → is_running (end_of (all_events_of log) k) ≡ true
-ends-running side turn log k e s b x = at turn e b.reported b.lawful x
+ends-running : (side : Side) (turn : Turn) (log : Log) (k : ℕ) (e : Event) (s : StreamEnd) → EventNow side turn log e → end_reported k e ≡ Some s → is_running (end_of (all_events_of log) k) ≡ true
+ends-running side turn log k e s b x = by turn e b.reported b.lawful x
   where
     same : (id : ℕ) (o : Option StreamEnd) (c : Bool) → (id == k) ≡ c → (if c then o else None) ≡ Some s → is_running (end_of (all_events_of log) id) ≡ true → is_running (end_of (all_events_of log) k) ≡ true
     same id o true i x r = subst (λ (j : ℕ). is_running (end_of (all_events_of log) j) ≡ true) (eqb-true id k i) r
@@ -87,14 +87,14 @@ ends-running side turn log k e s b x = at turn e b.reported b.lawful x
     runs : (id : ℕ) (t : Turn) → (may_receive side log id && not (is_some (loss_of (all_events_of log)))) ≡ true → is_running (end_of (all_events_of log) id) ≡ true
     runs id t f = (and_parts _ (is_running (end_of (all_events_of log) id)) (and_parts (may_receive side log id) _ f).0).1
 
-    at : (t : Turn) (e : Event) → event_of t ≡ Some e → fits side log t ≡ true → end_reported k e ≡ Some s → is_running (end_of (all_events_of log) k) ≡ true
-    at (turns.End id) (End j) q f x = let i : id ≡ j = cc in same j _ (j == k) refl x (subst (λ (n : ℕ). is_running (end_of (all_events_of log) n) ≡ true) i (runs id (turns.End id) f))
-    at (turns.Reset id code) (Reset j c) q f x = let i : id ≡ j = cc in same j _ (j == k) refl x (subst (λ (n : ℕ). is_running (end_of (all_events_of log) n) ≡ true) i (runs id (turns.Reset id code) f))
-    at _ (End j) q f x = absurd (cc)
-    at _ (Reset j c) q f x = absurd (cc)
-    at _ _ q f x = absurd (cc)
+    by : (t : Turn) (e : Event) → event_of t ≡ Some e → fits side log t ≡ true → end_reported k e ≡ Some s → is_running (end_of (all_events_of log) k) ≡ true
+    by (turns.End id) (End j) q f x = let i : id ≡ j = cc in same j _ (j == k) refl x (subst (λ (n : ℕ). is_running (end_of (all_events_of log) n) ≡ true) i (runs id (turns.End id) f))
+    by (turns.Reset id code) (Reset j c) q f x = let i : id ≡ j = cc in same j _ (j == k) refl x (subst (λ (n : ℕ). is_running (end_of (all_events_of log) n) ≡ true) i (runs id (turns.Reset id code) f))
+    by _ (End j) q f x = absurd (cc)
+    by _ (Reset j c) q f x = absurd (cc)
+    by _ _ q f x = absurd (cc)
 
-event-follows : (side : Side) (turn : Turn) (log : Log) (k : ℕ) (e : Event) (o : Option StreamEnd) → all_events_of log ≡ events_of log → Brings side turn log e → end_reported k e ≡ o → Follows log (Reported e ∷ log) k
+event-follows : (side : Side) (turn : Turn) (log : Log) (k : ℕ) (e : Event) (o : Option StreamEnd) → all_events_of log ≡ events_of log → EventNow side turn log e → end_reported k e ≡ o → Follows log (Reported e ∷ log) k
 event-follows side turn log k e None q b i = Same refl (rw i refl)
 event-follows side turn log k e (Some s) q b i = More [] (sym (append-nil (contents log k))) (is-running _ (ap (λ es. is_running (end_of es k)) (sym q) ∙ ends-running side turn log k e s b i))
 
@@ -134,14 +134,14 @@ facts-same side e log c g q f = record {
   accepted = λ k x. or-sessions side k e log (f.accepted k (ap (list_any (accepts_stream k)) (sym c) ∙ x));
 }
 
-as-sessions : (s : ℕ) (v : Verdict) → is_for_session s v ≡ true → (at : ℕ) × (v ≡ verdicts.WebTransport s at)
-as-sessions s (verdicts.WebTransport session at) e = (at, ap (λ z. verdicts.WebTransport z at) (eqb-true session s e))
+as-sessions : (s : ℕ) (v : Verdict) → is_for_session s v ≡ true → (offset : ℕ) × (v ≡ verdicts.WebTransport s offset)
+as-sessions s (verdicts.WebTransport session offset) e = (offset, ap (λ z. verdicts.WebTransport z offset) (eqb-true session s e))
 as-sessions s _ e = absurd (cc)
 
 -- a stream that an accept found is the session's
-pub found-sessions : (side : Side) (turn : Turn) (log : Log) (k : ℕ) (f : FoundStream side turn log k true) → (at : ℕ) × (verdict_of k (stream_table side log).classified ≡ Some (verdicts.WebTransport f.session at))
+pub found-sessions : (side : Side) (turn : Turn) (log : Log) (k : ℕ) (f : FoundStream side turn log k true) → (offset : ℕ) × (verdict_of k (stream_table side log).classified ≡ Some (verdicts.WebTransport f.session offset))
 found-sessions side turn log k f =
-    let d = next-is-due side log (accepted_kind side turn) f.session f.found f.next in
+    let d = next-is-due side log (accepted_kind side turn) f.session f.found f.is_next in
     let v = as-sessions f.session f.found.verdict f.named in
     (v.0, subst (λ j. verdict_of j (stream_table side log).classified ≡ Some f.found.verdict) f.same d.among ∙ ap Some v.1)
 
@@ -169,18 +169,18 @@ facts-record side turn log r c f = record {
 }
 
 pub open-before : (a : Action) (log : Log) → is_open (Sent a ∷ log) ≡ true → is_open log ≡ true
-open-before a log o = at (closes a) (list_any ends_by log) o
+open-before a log o = by (closes a) (list_any ends_by log) o
   where
-    at : (b c : Bool) → not (b || c) ≡ true → not c ≡ true
-    at true c o = absurd (cc)
-    at false c o = o
+    by : (b c : Bool) → not (b || c) ≡ true → not c ≡ true
+    by true c o = absurd (cc)
+    by false c o = o
 
 pub open-event : (e : Event) (log : Log) → is_open (Reported e ∷ log) ≡ true → is_open log ≡ true
-open-event e log o = at (loses e) (list_any ends_by log) o
+open-event e log o = by (loses e) (list_any ends_by log) o
   where
-    at : (b c : Bool) → not (b || c) ≡ true → not c ≡ true
-    at true c o = absurd (cc)
-    at false c o = o
+    by : (b c : Bool) → not (b || c) ≡ true → not c ≡ true
+    by true c o = absurd (cc)
+    by false c o = o
 
 pub facts-entries : (side : Side) (turn : Turn) → KeepsEntries side turn (Facts side)
 facts-entries side turn = record {

@@ -1,4 +1,4 @@
--- The driver ends a connection for a cause that the peer's bytes and events show, and takes SETTINGS that it read.
+-- The driver ends a connection for a cause that the peer's bytes and events show, and keeps SETTINGS that it read.
 use Rattle.std.specs.Prelude.{[], ◌&&◌, ◌++◌, ◌==◌, ◌∷◌, ◌≡◌, Bool, Err, List, None, Ok, Option, Result, Some, drop, false, if◌then◌else◌, not, slice_get, suc, true, ℕ}
 use Rattle.std.proofs.Common.{◌∙◌, ap, arith, refl, subst, sym}
 use Rattle.std.proofs.lemmas.Bool.{and_parts, eqb-true, not-true}
@@ -15,15 +15,15 @@ use Rattle.wt_turn.specs.Log.{Entry, Log, calls_of, events_of, is_open}
 use Rattle.wt_wire.specs.declared.error.ErrorCode.{ErrorCode}
 use Rattle.wt_wire.specs.declared.side.Side.{Side}
 use Rattle.wt_laws.proofs.DatagramOrEnds.{after-entry, scan-datagrams}
-use Rattle.wt_laws.proofs.Endings.{EndsAt, checks-stay, ends-earlier, first-check, scan-ends, scan-grows, scan-stays, taken-last}
+use Rattle.wt_laws.proofs.Endings.{EndsAt, checks-stay, ends-earlier, first-check, scan-ends, scan-grows, scan-stays, classified-last}
 use Rattle.wt_laws.proofs.Facts.{HasBi, HasUni, HasVerdict, facts-hold}
 use Rattle.wt_laws.proofs.Looks.{from-or}
 use Rattle.wt_laws.proofs.Moments.{IsKept, causes, kept, of-ids, small-bi, small-uni, with_progress}
-use Rattle.wt_laws.specs.Faults.{ClassifiedRightly, ComesOnce, ControlFault, ControlOnce, ControlStopped, DecoderEnded, DecoderOnce, EncoderEnded, EncoderOnce, EndingCause, EndsForCause, FaultyBi, FaultyUni, NoDatagram, OfBi, OfUni, SecondUni, SessionClosed, SessionFault, SettingsComeRead, SettingsRead, TakenLast, VerdictOver}
+use Rattle.wt_laws.specs.Faults.{ClassifiedRightly, ComesOnce, ControlFault, ControlOnce, ControlStopped, DecoderEnded, DecoderOnce, EncoderEnded, EncoderOnce, EndingCause, EndsForCause, FaultyBi, FaultyUni, NoDatagram, OfBi, OfUni, SecondUni, SessionClosed, SessionFault, SettingsComeRead, SettingsRead, ClassifiedLast, VerdictOver}
 use Rattle.wt_laws.specs.Reachable.{IsReachable, is_among}
-use Rattle.wt_spec.specs.Driver.{call_view, established_session, is_moment, settings_ready, settings_came, settled_datagrams, stream_table, transport_view}
+use Rattle.wt_spec.specs.Driver.{call_view, established_session, is_moment, settings_ready, settings_came, released_datagrams, stream_table, transport_view}
 use Rattle.wt_spec.specs.Scan.{Scan, bi_ids, bi_rule, check_control, check_datagram, check_qpack, check_session, checks, critical_if, dequeued_datagram, ended_by, fault_ending, in_order, parsed_datagram, scan_bis, scan_order, scan_unis, session_ends, uni_ids, uni_rule, with_fault, without_stops}
-use Rattle.wt_spec.specs.StreamTable.{ByFault, Classified, Dispatched, Ending, DriverProgress, StreamTable, TransportView, bi_consequence, control_start, decoder_start, dispatched_streams, encoder_start, first_at, only_once, or_later, offset_with_id, queued_behind, uni_consequence, verdict_of}
+use Rattle.wt_spec.specs.StreamTable.{ByFault, Classified, Dispatched, Ending, DriverProgress, StreamTable, TransportView, bi_consequence, control_start, decoder_start, dispatched_streams, encoder_start, first_at, only_once, or_later, offset_with_id, queued_after, uni_consequence, verdict_of}
 use Rattle.wt_wire.specs.declared.side.StreamEnd.TheVariants as ends
 use Rattle.wt_wire.specs.declared.error.ErrorCode.TheVariants as h3
 use Rattle.wt_proto.specs.declared.verdict.Verdict.TheVariants as verdicts
@@ -42,23 +42,23 @@ classified-rightly side log r k v e = verdict-over side log k v ((facts-hold sid
 
 first-append : (offset : Verdict → Option ℕ) (cs ds : List Classified) (x : ℕ × ℕ) → first_at offset cs ≡ Some x → first_at offset (cs ++ ds) ≡ Some x
 first-append offset [] ds x e = absurd (cc)
-first-append offset (c ∷ cs) ds x e = at (offset_with_id c.id (offset c.verdict)) e (first-append offset cs ds x)
+first-append offset (c ∷ cs) ds x e = by (offset_with_id c.id (offset c.verdict)) e (first-append offset cs ds x)
   where
-    at : (o : Option (ℕ × ℕ)) → or_later o (first_at offset cs) ≡ Some x → (first_at offset cs ≡ Some x → first_at offset (cs ++ ds) ≡ Some x) → or_later o (first_at offset (cs ++ ds)) ≡ Some x
-    at None e f = f e
-    at (Some y) e f = e
+    by : (o : Option (ℕ × ℕ)) → or_later o (first_at offset cs) ≡ Some x → (first_at offset cs ≡ Some x → first_at offset (cs ++ ds) ≡ Some x) → or_later o (first_at offset (cs ++ ds)) ≡ Some x
+    by None e f = f e
+    by (Some y) e f = e
 
 -- it is another stream than one that isn't classified
 first-other : (offset : Verdict → Option ℕ) (cs : List Classified) (x : ℕ × ℕ) (k : ℕ) → first_at offset cs ≡ Some x → verdict_of k cs ≡ None → (x.0 == k) ≡ false
 first-other offset [] x k e n = absurd (cc)
-first-other offset (c ∷ cs) x k e n = at (offset c.verdict) (c.id == k) refl e n (first-other offset cs x k)
+first-other offset (c ∷ cs) x k e n = by (offset c.verdict) (c.id == k) refl e n (first-other offset cs x k)
   where
-    at : (o : Option ℕ) (b : Bool) → (c.id == k) ≡ b → or_later (offset_with_id c.id o) (first_at offset cs) ≡ Some x → (if b then Some c.verdict else verdict_of k cs) ≡ None → (first_at offset cs ≡ Some x → verdict_of k cs ≡ None → (x.0 == k) ≡ false) → (x.0 == k) ≡ false
-    at o true i e n f = absurd (cc)
-    at None false i e n f = f e n
-    at (Some m) false i e n f = let y : (c.id, m) ≡ x = cc in ap (λ (z : ℕ × ℕ). z.0 == k) (sym y) ∙ i
+    by : (o : Option ℕ) (b : Bool) → (c.id == k) ≡ b → or_later (offset_with_id c.id o) (first_at offset cs) ≡ Some x → (if b then Some c.verdict else verdict_of k cs) ≡ None → (first_at offset cs ≡ Some x → verdict_of k cs ≡ None → (x.0 == k) ≡ false) → (x.0 == k) ≡ false
+    by o true i e n f = absurd (cc)
+    by None false i e n f = f e n
+    by (Some m) false i e n f = let y : (c.id, m) ≡ x = cc in ap (λ (z : ℕ × ℕ). z.0 == k) (sym y) ∙ i
 
--- ---- a stream that is taken with a fault
+-- ---- a stream that is classified with a fault
 
 module _ (side : Side) (log : Log) (before after : StreamTable) where
   -- where this fault ends the connection, it does so for a cause
@@ -75,23 +75,23 @@ module _ (side : Side) (log : Log) (before after : StreamTable) where
   IsBi k v = (is_among (peer_bi side) (peer_count side (events_of log) (peer_bi side)) k ≡ true) × (bi_verdict_of (contents log k) (end_of (events_of log) k) ≡ v)
 
   module _ (cs : List Classified) (d : Classified) (k : ℕ) (g : after.classified ≡ cs ++ d ∷ []) (n : verdict_of k cs ≡ None) where
-    second : (offset : Verdict → Option ℕ) → ComesOnce offset → (m : ℕ) (v : Verdict) → IsUni k v → TakenLast before after k v → offset v ≡ Some m → (o : Option (ℕ × ℕ)) → first_at offset cs ≡ o → Ends (only_once o).fault
+    second : (offset : Verdict → Option ℕ) → ComesOnce offset → (m : ℕ) (v : Verdict) → IsUni k v → ClassifiedLast before after k v → offset v ≡ Some m → (o : Option (ℕ × ℕ)) → first_at offset cs ≡ o → Ends (only_once o).fault
     second offset c m v a t e None q = λ x f. absurd (cc)
     second offset c m v a t e (Some first) q = by-fault h3.StreamCreation
         (SecondUni offset c k m v first a.0 a.1 t e (ap (first_at offset) g ∙ first-append offset cs (d ∷ []) first q) (first-other offset cs first k q n))
 
-    uni-ends : (v : Verdict) → IsUni k v → TakenLast before after k v → Ends (uni_consequence (dispatched_streams (call_view log) cs) k v).fault
+    uni-ends : (v : Verdict) → IsUni k v → ClassifiedLast before after k v → Ends (uni_consequence (dispatched_streams (call_view log) cs) k v).fault
     uni-ends (verdicts.Fault code) a t = by-fault code (FaultyUni k code a.0 a.1 t)
     uni-ends (verdicts.Control m) a t = second control_start ControlOnce m (verdicts.Control m) a t refl (first_at control_start cs) refl
     uni-ends (verdicts.Encoder m) a t = second encoder_start EncoderOnce m (verdicts.Encoder m) a t refl (first_at encoder_start cs) refl
     uni-ends (verdicts.Decoder m) a t = second decoder_start DecoderOnce m (verdicts.Decoder m) a t refl (first_at decoder_start cs) refl
     uni-ends _ a t = λ x f. absurd (cc)
 
-    no-fault : (queued : List Classified) → Ends (queued_behind queued k).fault
+    no-fault : (queued : List Classified) → Ends (queued_after queued k).fault
     no-fault [] = λ x f. absurd (cc)
     no-fault (c ∷ later) = λ x f. absurd (cc)
 
-    bi-ends : (v : Verdict) → IsBi k v → TakenLast before after k v → Ends (bi_consequence (dispatched_streams (call_view log) cs) k v).fault
+    bi-ends : (v : Verdict) → IsBi k v → ClassifiedLast before after k v → Ends (bi_consequence (dispatched_streams (call_view log) cs) k v).fault
     bi-ends (verdicts.Fault code) a t = by-fault code (FaultyBi k code a.0 a.1 t)
     bi-ends (verdicts.Request headers m) a t = no-fault (dispatched_streams (call_view log) cs).requests
     bi-ends _ a t = λ x f. absurd (cc)
@@ -107,33 +107,33 @@ module _ (side : Side) (log : Log) (before after : StreamTable) where
   uni-cause x r =
       let v = uni_verdict_of (contents log r.stream) (end_of (events_of log) r.stream) in
       let e = uni_consequence (dispatched_streams (call_view log) r.table.classified) r.stream v in
-      uni-ends r.table.classified (record { id = r.stream; verdict = v; surplus = e.surplus }) r.stream (ap (λ (t : StreamTable). t.classified) r.is) r.fresh v (r.named, refl) (taken-last before after x r) x r.fault
+      uni-ends r.table.classified (record { id = r.stream; verdict = v; surplus = e.surplus }) r.stream (ap (λ (t : StreamTable). t.classified) r.is) r.fresh v (r.named, refl) (classified-last before after x r) x r.fault
 
   bi-cause : (x : Ending) → BiEnds x → EndingCause side log before after x
   bi-cause x r =
       let v = bi_verdict_of (contents log r.stream) (end_of (events_of log) r.stream) in
       let e = bi_consequence (dispatched_streams (call_view log) r.table.classified) r.stream v in
-      bi-ends r.table.classified (record { id = r.stream; verdict = v; surplus = e.surplus }) r.stream (ap (λ (t : StreamTable). t.classified) r.is) r.fresh v (r.named, refl) (taken-last before after x r) x r.fault
+      bi-ends r.table.classified (record { id = r.stream; verdict = v; surplus = e.surplus }) r.stream (ap (λ (t : StreamTable). t.classified) r.is) r.fresh v (r.named, refl) (classified-last before after x r) x r.fault
 
   -- ---- a check that finds something
 
   ending-is : (e : Ending) (p : DriverProgress) (x : Ending) → EndingCause side log before after e → (ended_by e p).ending ≡ Some x → EndingCause side log before after x
   ending-is e p x c f = let y : e ≡ x = cc in subst (EndingCause side log before after) y c
 
-  datagram-cause : (b : Bool) (p : DriverProgress) (x : Ending) → ((transport_view side log).ready && settled_datagrams (calls_of log) == p.datagrams) ≡ b → p.ending ≡ None → p.datagrams ≡ before.progress.datagrams
+  datagram-cause : (b : Bool) (p : DriverProgress) (x : Ending) → ((transport_view side log).ready && released_datagrams (calls_of log) == p.datagrams) ≡ b → p.ending ≡ None → p.datagrams ≡ before.progress.datagrams
       → after.progress.datagrams ≡ (check_datagram b (transport_view side log) p).datagrams → (check_datagram b (transport_view side log) p).ending ≡ Some x → EndingCause side log before after x
   datagram-cause false p x q n s g f = absurd (cc)
   datagram-cause true p x q n s g f = at-next (slice_get (datagrams_of (events_of log)) p.datagrams) refl g f
     where
-      all_settled : settled_datagrams (calls_of log) ≡ p.datagrams
-      all_settled = eqb-true (settled_datagrams (calls_of log)) p.datagrams (and_parts (transport_view side log).ready (settled_datagrams (calls_of log) == p.datagrams) q).1
+      all_released : released_datagrams (calls_of log) ≡ p.datagrams
+      all_released = eqb-true (released_datagrams (calls_of log)) p.datagrams (and_parts (transport_view side log).ready (released_datagrams (calls_of log) == p.datagrams) q).1
 
       parsed : (piece : List ℕ) (r : Result (ℕ × List ℕ) ErrorCode) → datagram_of piece ≡ r → slice_get (datagrams_of (events_of log)) p.datagrams ≡ Some piece
           → after.progress.datagrams ≡ (parsed_datagram r (record p { datagrams = suc p.datagrams })).datagrams → (parsed_datagram r (record p { datagrams = suc p.datagrams })).ending ≡ Some x → EndingCause side log before after x
       parsed piece (Ok datagram) d e g f = absurd (cc)
       parsed piece (Err code) d e g f =
           ending-is (ByFault code) (record p { datagrams = suc p.datagrams }) x
-          (NoDatagram piece code (record { next = ap (slice_get (datagrams_of (events_of log))) (sym s) ∙ e; all_settled = all_settled ∙ s; count_is = g ∙ ap suc s }) d) f
+          (NoDatagram piece code (record { is_next = ap (slice_get (datagrams_of (events_of log))) (sym s) ∙ e; all_released = all_released ∙ s; count_is = g ∙ ap suc s }) d) f
 
       at-next : (o : Option (List ℕ)) → slice_get (datagrams_of (events_of log)) p.datagrams ≡ o → after.progress.datagrams ≡ (dequeued_datagram o p).datagrams → (dequeued_datagram o p).ending ≡ Some x → EndingCause side log before after x
       at-next None e g f = absurd (cc)
@@ -202,9 +202,9 @@ module _ (side : Side) (log : Log) (before after : StreamTable) where
 
   checks-cause : (p : DriverProgress) (x : Ending) → p.ending ≡ None → p.datagrams ≡ before.progress.datagrams → after.progress ≡ in_order (checks view (call_view log) sorted) p → (in_order (checks view (call_view log) sorted) p).ending ≡ Some x → EndingCause side log before after x
   checks-cause p x n s g e =
-      first-check (λ u. check_datagram (view.ready && settled_datagrams (calls_of log) == u.datagrams) view u) from_session p x n e
-      (λ f h. datagram-cause (view.ready && settled_datagrams (calls_of log) == p.datagrams) p x refl n s (ap (λ (z : DriverProgress). z.datagrams) (g ∙ h)) f)
-      (λ m k. session-on (check_datagram (view.ready && settled_datagrams (calls_of log) == p.datagrams) view p) x m k)
+      first-check (λ u. check_datagram (view.ready && released_datagrams (calls_of log) == u.datagrams) view u) from_session p x n e
+      (λ f h. datagram-cause (view.ready && released_datagrams (calls_of log) == p.datagrams) p x refl n s (ap (λ (z : DriverProgress). z.datagrams) (g ∙ h)) f)
+      (λ m k. session-on (check_datagram (view.ready && released_datagrams (calls_of log) == p.datagrams) view p) x m k)
 
 -- ---- a moment that ends the connection
 
@@ -257,11 +257,11 @@ module _ (side : Side) (log : Log) (before : StreamTable) (n : before.progress.e
 
 pub ends-for-cause : (side : Side) (e : Entry) (log : Log) → EndsForCause side e log
 unfolding stream_table
-ends-for-cause side e log x n q = at (is_moment e && is_open (e ∷ log)) q
+ends-for-cause side e log x n q = by (is_moment e && is_open (e ∷ log)) q
   where
-    at : (b : Bool) → (after-entry side e log b).progress.ending ≡ Some x → EndingCause side (e ∷ log) (stream_table side log) (after-entry side e log b) x
-    at true q = moment-ends side (e ∷ log) (stream_table side log) n x q
-    at false q = absurd (cc)
+    by : (b : Bool) → (after-entry side e log b).progress.ending ≡ Some x → EndingCause side (e ∷ log) (stream_table side log) (after-entry side e log b) x
+    by true q = moment-ends side (e ∷ log) (stream_table side log) n x q
+    by false q = absurd (cc)
 
 read-kept : (side : Side) (log : Log) → IsKept (causes side log) (λ t. t.progress.settings ≡ true → SettingsRead side log t.classified)
 read-kept side log = record {
@@ -273,7 +273,7 @@ read-kept side log = record {
   by_classified = λ t k v e c n still p q. let s = p q in record { control = s.control; first = first-append control_start t.classified (record { id = k; verdict = v; surplus = e.surplus } ∷ []) s.control s.first; read = s.read };
 }
 
--- where the driver ended the connection before, no moment takes SETTINGS
+-- where the driver ended the connection before, no moment keeps SETTINGS
 ended-settings : (side : Side) (log : Log) (before : StreamTable) (y : Ending) → before.progress.ending ≡ Some y → (scan_order (transport_view side log) (call_view log) before).progress.settings ≡ before.progress.settings
 ended-settings side log before y e =
     let t = transport_view side log in
@@ -287,16 +287,16 @@ ended-settings side log before y e =
 came-at : (side : Side) (e : Entry) (log : Log) → settings_came side log ≡ false → settings_came side (e ∷ log) ≡ true → SettingsRead side (e ∷ log) (stream_table side (e ∷ log)).classified
     → (is_moment e ≡ true) × (is_open (e ∷ log) ≡ true) × ((stream_table side log).progress.ending ≡ None) × SettingsRead side (e ∷ log) (stream_table side (e ∷ log)).classified
 unfolding stream_table
-came-at side e log n q r = at (is_moment e && is_open (e ∷ log)) refl q
+came-at side e log n q r = by (is_moment e && is_open (e ∷ log)) refl q
   where
     still : (o : Option Ending) → (stream_table side log).progress.ending ≡ o → (after-entry side e log true).progress.settings ≡ true → o ≡ None
     still None f q = refl
     still (Some y) f q = absurd (let s = ended-settings side (e ∷ log) (stream_table side log) y f in cc)
 
-    at : (b : Bool) → (is_moment e && is_open (e ∷ log)) ≡ b → (after-entry side e log b).progress.settings ≡ true
+    by : (b : Bool) → (is_moment e && is_open (e ∷ log)) ≡ b → (after-entry side e log b).progress.settings ≡ true
         → (is_moment e ≡ true) × (is_open (e ∷ log) ≡ true) × ((stream_table side log).progress.ending ≡ None) × SettingsRead side (e ∷ log) (stream_table side (e ∷ log)).classified
-    at false b q = absurd (cc)
-    at true b q = let m = and_parts (is_moment e) (is_open (e ∷ log)) b in (m.0, m.1, still (stream_table side log).progress.ending refl q, r)
+    by false b q = absurd (cc)
+    by true b q = let m = and_parts (is_moment e) (is_open (e ∷ log)) b in (m.0, m.1, still (stream_table side log).progress.ending refl q, r)
 
 pub settings-come-read : (side : Side) (e : Entry) (log : Log) → SettingsComeRead side e log
 settings-come-read side e log n q = came-at side e log n q (kept (λ t. t.progress.settings ≡ true → SettingsRead side (e ∷ log) t.classified) side e log (read-kept side (e ∷ log)) (λ z. absurd (cc)) q)

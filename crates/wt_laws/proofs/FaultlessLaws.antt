@@ -24,19 +24,19 @@ stays-ended (f ∷ fs) p e q = ap (λ o. (in_order fs (unless_ended o f p)).endi
 
 -- without one at last, each check is made
 pub step : (f : DriverProgress → DriverProgress) (fs : List (DriverProgress → DriverProgress)) (p : DriverProgress) → (in_order (f ∷ fs) p).ending ≡ None → in_order (f ∷ fs) p ≡ in_order fs (f p)
-step f fs p n = at p.ending refl
+step f fs p n = by p.ending refl
   where
-    at : (o : Option Ending) → p.ending ≡ o → in_order (f ∷ fs) p ≡ in_order fs (f p)
-    at None q = ap (λ o. in_order fs (unless_ended o f p)) q
-    at (Some e) q = absurd (let x = stays-ended (f ∷ fs) p e q in cc)
+    by : (o : Option Ending) → p.ending ≡ o → in_order (f ∷ fs) p ≡ in_order fs (f p)
+    by None q = ap (λ o. in_order fs (unless_ended o f p)) q
+    by (Some e) q = absurd (let x = stays-ended (f ∷ fs) p e q in cc)
 
 -- and none is found before the last
 pub none-yet : (fs : List (DriverProgress → DriverProgress)) (p : DriverProgress) → (in_order fs p).ending ≡ None → p.ending ≡ None
-none-yet fs p n = at p.ending refl
+none-yet fs p n = by p.ending refl
   where
-    at : (o : Option Ending) → p.ending ≡ o → o ≡ None
-    at None q = refl
-    at (Some e) q = absurd (let x = stays-ended fs p e q in cc)
+    by : (o : Option Ending) → p.ending ≡ o → o ≡ None
+    by None q = refl
+    by (Some e) q = absurd (let x = stays-ended fs p e q in cc)
 
 -- ---- what a check that ends nothing found
 
@@ -136,9 +136,9 @@ found-none side log u n =
 
 pub faultless-or-ends : (side : Side) (e : Entry) (log : Log) → FaultlessOrEnds side e log
 unfolding stream_table
-faultless-or-ends side e log m o n = at (is_moment e && is_open (e ∷ log)) (and_from (is_moment e) (is_open (e ∷ log)) m o) n
+faultless-or-ends side e log m o n = by (is_moment e && is_open (e ∷ log)) (and_from (is_moment e) (is_open (e ∷ log)) m o) n
   where
-    at : (b : Bool) → b ≡ true → (apply_if b (scan_order (transport_view side (e ∷ log)) (call_view (e ∷ log))) (stream_table side log)).progress.ending ≡ None
+    by : (b : Bool) → b ≡ true → (apply_if b (scan_order (transport_view side (e ∷ log)) (call_view (e ∷ log))) (stream_table side log)).progress.ending ≡ None
         → Faultless side (e ∷ log) (apply_if b (scan_order (transport_view side (e ∷ log)) (call_view (e ∷ log))) (stream_table side log)).classified (apply_if b (scan_order (transport_view side (e ∷ log)) (call_view (e ∷ log))) (stream_table side log)).progress.settings
-    at true q n = found-none side (e ∷ log) (stream_table side log) n
-    at false q n = absurd (cc)
+    by true q n = found-none side (e ∷ log) (stream_table side log) n
+    by false q n = absurd (cc)

@@ -21,11 +21,11 @@ use Rattle.wt_laws.proofs.FaultLaws.{bis-end, bis-stay, last-stays, unis-end}
 use Rattle.wt_laws.proofs.Moments.{AllCaused, Causes, IsKept, kept-scan, kept-streams}
 use Rattle.wt_laws.proofs.NoFault.{Faultless, faultless, faultless-kept}
 use Rattle.wt_laws.proofs.OnceLaws.{bi-not-once, no-offset, once-each, once-kept}
-use Rattle.wt_laws.specs.Faults.{AtMostOne, ComesOnce, ControlOnce, DecoderOnce, EncoderOnce, NoneFaulty, TakesDatagram, is_fault}
-use Rattle.wt_laws.specs.FirstFault.{ControlPasses, DatagramPasses, FirstIsTold, PassesUpToControl, SessionPasses, StreamsPass, TellsFirst}
-use Rattle.wt_spec.specs.Driver.{call_view, established_session, is_moment, settled_datagrams, stream_table, transport_view}
+use Rattle.wt_laws.specs.Faults.{AtMostOne, ComesOnce, ControlOnce, DecoderOnce, EncoderOnce, NoneFaulty, DequeuesDatagram, is_fault}
+use Rattle.wt_laws.specs.FirstFault.{ControlPasses, DatagramPasses, FirstIsReported, PassesUpToControl, SessionPasses, StreamsPass, TellsFirst}
+use Rattle.wt_spec.specs.Driver.{call_view, established_session, is_moment, released_datagrams, stream_table, transport_view}
 use Rattle.wt_spec.specs.Scan.{SlotRule, bi_ids, bi_rule, check_control, check_datagram, check_qpack, check_session, checks, critical_if, dequeued_datagram, fault_ending, in_order, parsed_datagram, scan_bis, scan_order, scan_unis, session_ends, uni_ids, uni_rule, unless_ended, with_fault, without_stops}
-use Rattle.wt_spec.specs.StreamTable.{ByFault, CallView, Classified, Dispatched, Ending, DriverProgress, StreamTable, TransportView, bi_consequence, control_start, decoder_start, dispatched_streams, encoder_start, first_at, only_once, or_later, offset_with_id, queued_behind, uni_consequence}
+use Rattle.wt_spec.specs.StreamTable.{ByFault, CallView, Classified, Dispatched, Ending, DriverProgress, StreamTable, TransportView, bi_consequence, control_start, decoder_start, dispatched_streams, encoder_start, first_at, only_once, or_later, offset_with_id, queued_after, uni_consequence}
 use Rattle.wt_wire.specs.declared.side.StreamEnd.TheVariants as ends
 use Rattle.wt_wire.specs.declared.error.ErrorCode.TheVariants as h3
 use Rattle.wt_proto.specs.declared.verdict.Verdict.TheVariants as verdicts
@@ -38,24 +38,24 @@ last-faultless [] x n = n.0
 last-faultless (c ∷ cs) x n = last-faultless cs x n.1
 
 first-more : (offset : Verdict → Option ℕ) (cs : List Classified) (x : Classified) → is_some (offset x.verdict) ≡ true → first_at offset (cs ++ x ∷ []) ≡ None → ⊥
-first-more offset [] x s n = at (offset x.verdict) s n
+first-more offset [] x s n = by (offset x.verdict) s n
   where
-    at : (o : Option ℕ) → is_some o ≡ true → or_later (offset_with_id x.id o) None ≡ None → ⊥
-    at None s n = absurd (cc)
-    at (Some m) s n = absurd (cc)
-first-more offset (c ∷ cs) x s n = at (offset_with_id c.id (offset c.verdict)) n (first-more offset cs x s)
+    by : (o : Option ℕ) → is_some o ≡ true → or_later (offset_with_id x.id o) None ≡ None → ⊥
+    by None s n = absurd (cc)
+    by (Some m) s n = absurd (cc)
+first-more offset (c ∷ cs) x s n = by (offset_with_id c.id (offset c.verdict)) n (first-more offset cs x s)
   where
-    at : (o : Option (ℕ × ℕ)) → or_later o (first_at offset (cs ++ x ∷ [])) ≡ None → (first_at offset (cs ++ x ∷ []) ≡ None → ⊥) → ⊥
-    at None n f = f n
-    at (Some y) n f = absurd (cc)
+    by : (o : Option (ℕ × ℕ)) → or_later o (first_at offset (cs ++ x ∷ [])) ≡ None → (first_at offset (cs ++ x ∷ []) ≡ None → ⊥) → ⊥
+    by None n f = f n
+    by (Some y) n f = absurd (cc)
 
 not-second : (offset : Verdict → Option ℕ) (cs : List Classified) (x : Classified) (first : ℕ × ℕ) → is_some (offset x.verdict) ≡ true → first_at offset cs ≡ Some first → AtMostOne offset (cs ++ x ∷ []) → ⊥
 not-second offset [] x first s e a = absurd (cc)
-not-second offset (c ∷ cs) x first s e a = at (offset c.verdict) e a.0 (λ f. not-second offset cs x first s f a.1)
+not-second offset (c ∷ cs) x first s e a = by (offset c.verdict) e a.0 (λ f. not-second offset cs x first s f a.1)
   where
-    at : (o : Option ℕ) → or_later (offset_with_id c.id o) (first_at offset cs) ≡ Some first → (is_some o ≡ true → first_at offset (cs ++ x ∷ []) ≡ None) → (first_at offset cs ≡ Some first → ⊥) → ⊥
-    at None e a f = f e
-    at (Some m) e a f = first-more offset cs x s (a refl)
+    by : (o : Option ℕ) → or_later (offset_with_id c.id o) (first_at offset cs) ≡ Some first → (is_some o ≡ true → first_at offset (cs ++ x ∷ []) ≡ None) → (first_at offset cs ≡ Some first → ⊥) → ⊥
+    by None e a f = f e
+    by (Some m) e a f = first-more offset cs x s (a refl)
 
 module _ (calls : CallView) (cs : List Classified) (x : Classified) (p : StreamsPass (cs ++ x ∷ [])) where
   once-passes : (offset : Verdict → Option ℕ) → ComesOnce offset → is_some (offset x.verdict) ≡ true → (o : Option (ℕ × ℕ)) → first_at offset cs ≡ o → (only_once o).fault ≡ None
@@ -71,11 +71,11 @@ module _ (calls : CallView) (cs : List Classified) (x : Classified) (p : Streams
 
   bi-passes : (v : Verdict) → x.verdict ≡ v → (bi_consequence (dispatched_streams calls cs) x.id v).fault ≡ None
   bi-passes (verdicts.Fault code) e = absurd (let y = last-faultless cs x p.faultless in let z = ap is_fault e in cc)
-  bi-passes (verdicts.Request headers m) e = at (dispatched_streams calls cs).requests
+  bi-passes (verdicts.Request headers m) e = by (dispatched_streams calls cs).requests
     where
-      at : (queued : List Classified) → (queued_behind queued x.id).fault ≡ None
-      at [] = refl
-      at (c ∷ later) = refl
+      by : (queued : List Classified) → (queued_after queued x.id).fault ≡ None
+      by [] = refl
+      by (c ∷ later) = refl
   bi-passes _ e = refl
 
 -- where all classified streams pass, the scan ends nothing
@@ -161,11 +161,11 @@ session-settings t (Some s) u = ends-settings (session_walk_of (drop s.1 (t.cont
 
 -- where SETTINGS come by the checks that are left, nothing was found before them
 not-yet : (fs : List (DriverProgress → DriverProgress)) (q : DriverProgress) → q.settings ≡ false → (in_order fs q).settings ≡ true → q.ending ≡ None
-not-yet fs q n c = at q.ending refl
+not-yet fs q n c = by q.ending refl
   where
-    at : (o : Option Ending) → q.ending ≡ o → o ≡ None
-    at None e = refl
-    at (Some x) e = absurd (let y = ap (λ (z : DriverProgress). z.settings) (checks-stay fs q x e) in cc)
+    by : (o : Option Ending) → q.ending ≡ o → o ≡ None
+    by None e = refl
+    by (Some x) e = absurd (let y = ap (λ (z : DriverProgress). z.settings) (checks-stay fs q x e) in cc)
 
 -- ---- the checks, as far as they pass
 
@@ -173,25 +173,25 @@ fault-goes : (o : Option ErrorCode) (u : DriverProgress) → o ≡ None → u.en
 fault-goes None u e n = n
 fault-goes (Some code) u e n = absurd (cc)
 
-fault-told : (o : Option ErrorCode) (u : DriverProgress) (code : ErrorCode) → o ≡ Some code → (with_fault o u).ending ≡ Some (ByFault code)
-fault-told None u code e = absurd (cc)
-fault-told (Some c) u code e = let y : c ≡ code = cc in ap (λ z. Some (ByFault z)) y
+fault-reported : (o : Option ErrorCode) (u : DriverProgress) (code : ErrorCode) → o ≡ Some code → (with_fault o u).ending ≡ Some (ByFault code)
+fault-reported None u code e = absurd (cc)
+fault-reported (Some c) u code e = let y : c ≡ code = cc in ap (λ z. Some (ByFault z)) y
 
-critical-told : (b : Bool) (u : DriverProgress) → b ≡ true → (critical_if b u).ending ≡ Some (ByFault h3.ClosedCriticalStream)
-critical-told true u e = refl
-critical-told false u e = absurd (cc)
+critical-reported : (b : Bool) (u : DriverProgress) → b ≡ true → (critical_if b u).ending ≡ Some (ByFault h3.ClosedCriticalStream)
+critical-reported true u e = refl
+critical-reported false u e = absurd (cc)
 
 critical-goes : (b : Bool) (u : DriverProgress) → b ≡ false → u.ending ≡ None → (critical_if b u).ending ≡ None
 critical-goes true u e n = absurd (cc)
 critical-goes false u e n = n
 
-parsed-told : (r : Result (ℕ × List ℕ) ErrorCode) (u : DriverProgress) (code : ErrorCode) → r ≡ Err code → (parsed_datagram r u).ending ≡ Some (ByFault code)
-parsed-told (Ok d) u code e = absurd (cc)
-parsed-told (Err c) u code e = let y : c ≡ code = cc in ap (λ z. Some (ByFault z)) y
+parsed-reported : (r : Result (ℕ × List ℕ) ErrorCode) (u : DriverProgress) (code : ErrorCode) → r ≡ Err code → (parsed_datagram r u).ending ≡ Some (ByFault code)
+parsed-reported (Ok d) u code e = absurd (cc)
+parsed-reported (Err c) u code e = let y : c ≡ code = cc in ap (λ z. Some (ByFault z)) y
 
-dequeued-told : (o : Option (List ℕ)) (u : DriverProgress) (piece : List ℕ) (code : ErrorCode) → o ≡ Some piece → datagram_of piece ≡ Err code → (dequeued_datagram o u).ending ≡ Some (ByFault code)
-dequeued-told None u piece code e d = absurd (cc)
-dequeued-told (Some x) u piece code e d = let y : x ≡ piece = cc in parsed-told (datagram_of x) (record u { datagrams = suc u.datagrams }) code (ap datagram_of y ∙ d)
+dequeued-reported : (o : Option (List ℕ)) (u : DriverProgress) (piece : List ℕ) (code : ErrorCode) → o ≡ Some piece → datagram_of piece ≡ Err code → (dequeued_datagram o u).ending ≡ Some (ByFault code)
+dequeued-reported None u piece code e d = absurd (cc)
+dequeued-reported (Some x) u piece code e d = let y : x ≡ piece = cc in parsed-reported (datagram_of x) (record u { datagrams = suc u.datagrams }) code (ap datagram_of y ∙ d)
 
 module _ (side : Side) (log : Log) (before after : StreamTable) where
   abbrev view : TransportView
@@ -230,107 +230,107 @@ module _ (side : Side) (log : Log) (before after : StreamTable) where
       record { is = e; still = not-yet fs (f q) n (sym (ap (λ (z : DriverProgress). z.settings) e) ∙ m) }
 
   module _ (p : DriverProgress) (s : p.datagrams ≡ before.progress.datagrams) (l : Left (checks view (call_view log) sorted) p) where
-    abbrev behind_datagram : DriverProgress
-    behind_datagram = first_check view (call_view log) p
+    abbrev after_datagram : DriverProgress
+    after_datagram = first_check view (call_view log) p
 
-    abbrev behind_session : DriverProgress
-    behind_session = check_session view (established_session (calls_of log)) behind_datagram
+    abbrev after_session : DriverProgress
+    after_session = check_session view (established_session (calls_of log)) after_datagram
 
-    abbrev behind_stop : DriverProgress
-    behind_stop = critical_if view.control_stopped behind_session
+    abbrev after_stop_checked : DriverProgress
+    after_stop_checked = critical_if view.control_stopped after_session
 
-    abbrev behind_control : DriverProgress
-    behind_control = check_control view sorted.control behind_stop
+    abbrev after_control : DriverProgress
+    after_control = check_control view sorted.control after_stop_checked
 
-    count_is : after.progress.datagrams ≡ behind_datagram.datagrams
+    count_is : after.progress.datagrams ≡ after_datagram.datagrams
     count_is = ap (λ (z : DriverProgress). z.datagrams) l.is ∙ as-first view (call_view log) sorted p ∙ ap (λ (o : Option Ending). (unless_ended o (first_check view (call_view log)) p).datagrams) l.still
 
-    datagram-goes : DatagramPasses log before after → (b : Bool) → (view.ready && settled_datagrams (calls_of log) == p.datagrams) ≡ b → after.progress.datagrams ≡ (check_datagram b view p).datagrams → (check_datagram b view p).ending ≡ None
+    datagram-goes : DatagramPasses log before after → (b : Bool) → (view.ready && released_datagrams (calls_of log) == p.datagrams) ≡ b → after.progress.datagrams ≡ (check_datagram b view p).datagrams → (check_datagram b view p).ending ≡ None
     datagram-goes d false e c = l.still
-    datagram-goes d true e c = at (slice_get (datagrams_of (events_of log)) p.datagrams) refl c
+    datagram-goes d true e c = by (slice_get (datagrams_of (events_of log)) p.datagrams) refl c
       where
-        all_settled : settled_datagrams (calls_of log) ≡ p.datagrams
-        all_settled = eqb-true (settled_datagrams (calls_of log)) p.datagrams (and_parts view.ready (settled_datagrams (calls_of log) == p.datagrams) e).1
+        all_released : released_datagrams (calls_of log) ≡ p.datagrams
+        all_released = eqb-true (released_datagrams (calls_of log)) p.datagrams (and_parts view.ready (released_datagrams (calls_of log) == p.datagrams) e).1
 
         well : (r : Result (ℕ × List ℕ) ErrorCode) → is_ok r ≡ true → (parsed_datagram r (record p { datagrams = suc p.datagrams })).ending ≡ None
         well (Ok x) o = l.still
         well (Err code) o = absurd (cc)
 
-        at : (o : Option (List ℕ)) → slice_get (datagrams_of (events_of log)) p.datagrams ≡ o → after.progress.datagrams ≡ (dequeued_datagram o p).datagrams → (dequeued_datagram o p).ending ≡ None
-        at None q c = l.still
-        at (Some piece) q c =
-            well (datagram_of piece) (d piece (record { next = ap (slice_get (datagrams_of (events_of log))) (sym s) ∙ q; all_settled = all_settled ∙ s; count_is = c ∙ dequeued-one (Some piece) p piece refl ∙ ap suc s }))
+        by : (o : Option (List ℕ)) → slice_get (datagrams_of (events_of log)) p.datagrams ≡ o → after.progress.datagrams ≡ (dequeued_datagram o p).datagrams → (dequeued_datagram o p).ending ≡ None
+        by None q c = l.still
+        by (Some piece) q c =
+            well (datagram_of piece) (d piece (record { is_next = ap (slice_get (datagrams_of (events_of log))) (sym s) ∙ q; all_released = all_released ∙ s; count_is = c ∙ dequeued-one (Some piece) p piece refl ∙ ap suc s }))
 
-    datagram-told : (piece : List ℕ) (code : ErrorCode) → TakesDatagram log before after piece → datagram_of piece ≡ Err code → (b : Bool) → after.progress.datagrams ≡ (check_datagram b view p).datagrams → (check_datagram b view p).ending ≡ Some (ByFault code)
-    datagram-told piece code t d false c = absurd (let x = t.count_is in omega arith)
-    datagram-told piece code t d true c = dequeued-told (slice_get (datagrams_of (events_of log)) p.datagrams) p piece code (ap (slice_get (datagrams_of (events_of log))) s ∙ t.next) d
+    datagram-reported : (piece : List ℕ) (code : ErrorCode) → DequeuesDatagram log before after piece → datagram_of piece ≡ Err code → (b : Bool) → after.progress.datagrams ≡ (check_datagram b view p).datagrams → (check_datagram b view p).ending ≡ Some (ByFault code)
+    datagram-reported piece code t d false c = absurd (let x = t.count_is in omega arith)
+    datagram-reported piece code t d true c = dequeued-reported (slice_get (datagrams_of (events_of log)) p.datagrams) p piece code (ap (slice_get (datagrams_of (events_of log))) s ∙ t.is_next) d
 
     -- ---- how far the checks are left
 
-    left-session : DatagramPasses log before after → Left from_session behind_datagram
-    left-session d = passes (first_check view (call_view log)) from_session p l (datagram-goes d (view.ready && settled_datagrams (calls_of log) == p.datagrams) refl count_is)
+    left-session : DatagramPasses log before after → Left from_session after_datagram
+    left-session d = passes (first_check view (call_view log)) from_session p l (datagram-goes d (view.ready && released_datagrams (calls_of log) == p.datagrams) refl count_is)
 
     session-goes : SessionPasses log → (q : DriverProgress) → q.ending ≡ None → (o : Option (ℕ × ℕ)) → established_session (calls_of log) ≡ o → (check_session view o q).ending ≡ None
     session-goes c q n None e = n
     session-goes c q n (Some x) e = ap (λ (w : SessionWalk). (session_ends w (is_over (session_walk_of (drop x.1 (contents log x.0)) ends.Running)) q).ending) (c x e) ∙ n
 
-    left-stop : DatagramPasses log before after → SessionPasses log → Left from_stop behind_session
-    left-stop d c = let a = left-session d in passes (check_session view (established_session (calls_of log))) from_stop behind_datagram a (session-goes c behind_datagram a.still (established_session (calls_of log)) refl)
+    left-stop : DatagramPasses log before after → SessionPasses log → Left from_stop after_session
+    left-stop d c = let a = left-session d in passes (check_session view (established_session (calls_of log))) from_stop after_datagram a (session-goes c after_datagram a.still (established_session (calls_of log)) refl)
 
-    left-control : PassesUpToControl side log before after → Left from_control behind_stop
-    left-control c = let a = left-stop c.datagram c.session in passes (critical_if view.control_stopped) from_control behind_session a (critical-goes view.control_stopped behind_session c.unstopped a.still)
+    left-control : PassesUpToControl side log before after → Left from_control after_stop_checked
+    left-control c = let a = left-stop c.datagram c.session in passes (critical_if view.control_stopped) from_control after_session a (critical-goes view.control_stopped after_session c.unstopped a.still)
 
     control-goes : ControlPasses log after.classified → (q : DriverProgress) → q.ending ≡ None → (o : Option (ℕ × ℕ)) → sorted.control ≡ o → (check_control view o q).ending ≡ None
     control-goes c q n None e = n
     control-goes c q n (Some x) e = fault-goes (control_walk_of (drop x.1 (contents log x.0)) (end_of (events_of log) x.0)).fault _ (c x e) n
 
-    left-encoder : PassesUpToControl side log before after → ControlPasses log after.classified → Left from_encoder behind_control
-    left-encoder c d = let a = left-control c in passes (check_control view sorted.control) from_encoder behind_stop a (control-goes d behind_stop a.still sorted.control refl)
+    left-encoder : PassesUpToControl side log before after → ControlPasses log after.classified → Left from_encoder after_control
+    left-encoder c d = let a = left-control c in passes (check_control view sorted.control) from_encoder after_stop_checked a (control-goes d after_stop_checked a.still sorted.control refl)
 
-    qpack-told : (x : ℕ × ℕ) (q : DriverProgress) (o : Option (ℕ × ℕ)) → o ≡ Some x → is_running (end_of (events_of log) x.0) ≡ false → (check_qpack view o q).ending ≡ Some (ByFault h3.ClosedCriticalStream)
-    qpack-told x q None e r = absurd (cc)
-    qpack-told x q (Some y) e r = let z : y ≡ x = cc in critical-told (not (is_running (end_of (events_of log) y.0))) q (ap (λ (w : ℕ × ℕ). not (is_running (end_of (events_of log) w.0))) z ∙ ap not r)
+    qpack-reported : (x : ℕ × ℕ) (q : DriverProgress) (o : Option (ℕ × ℕ)) → o ≡ Some x → is_running (end_of (events_of log) x.0) ≡ false → (check_qpack view o q).ending ≡ Some (ByFault h3.ClosedCriticalStream)
+    qpack-reported x q None e r = absurd (cc)
+    qpack-reported x q (Some y) e r = let z : y ≡ x = cc in critical-reported (not (is_running (end_of (events_of log) y.0))) q (ap (λ (w : ℕ × ℕ). not (is_running (end_of (events_of log) w.0))) z ∙ ap not r)
 
-    -- the decoder's end is told, or the encoder's, with the same code
-    decoder-told : (x : ℕ × ℕ) (q : DriverProgress) → Left from_encoder q → sorted.decoder ≡ Some x → is_running (end_of (events_of log) x.0) ≡ false → after.progress.ending ≡ Some (ByFault h3.ClosedCriticalStream)
-    decoder-told x q a e r = at sorted.encoder refl
+    -- the decoder's end is reported, or the encoder's, with the same code
+    decoder-reported : (x : ℕ × ℕ) (q : DriverProgress) → Left from_encoder q → sorted.decoder ≡ Some x → is_running (end_of (events_of log) x.0) ≡ false → after.progress.ending ≡ Some (ByFault h3.ClosedCriticalStream)
+    decoder-reported x q a e r = by sorted.encoder refl
       where
         later : (check_qpack view sorted.encoder q).ending ≡ None → after.progress.ending ≡ Some (ByFault h3.ClosedCriticalStream)
         later n =
             let b = passes (check_qpack view sorted.encoder) (check_qpack view sorted.decoder ∷ []) q a n in
-            says (check_qpack view sorted.decoder) [] (check_qpack view sorted.encoder q) (ByFault h3.ClosedCriticalStream) b (qpack-told x (check_qpack view sorted.encoder q) sorted.decoder e r)
+            says (check_qpack view sorted.decoder) [] (check_qpack view sorted.encoder q) (ByFault h3.ClosedCriticalStream) b (qpack-reported x (check_qpack view sorted.encoder q) sorted.decoder e r)
 
         of-end : (y : ℕ × ℕ) → sorted.encoder ≡ Some y → (b : Bool) → is_running (end_of (events_of log) y.0) ≡ b → after.progress.ending ≡ Some (ByFault h3.ClosedCriticalStream)
-        of-end y f false i = says (check_qpack view sorted.encoder) (check_qpack view sorted.decoder ∷ []) q (ByFault h3.ClosedCriticalStream) a (qpack-told y q sorted.encoder f i)
+        of-end y f false i = says (check_qpack view sorted.encoder) (check_qpack view sorted.decoder ∷ []) q (ByFault h3.ClosedCriticalStream) a (qpack-reported y q sorted.encoder f i)
         of-end y f true i = later (ap (λ (o : Option (ℕ × ℕ)). (check_qpack view o q).ending) f ∙ critical-goes (not (is_running (end_of (events_of log) y.0))) q (ap not i) a.still)
 
-        at : (o : Option (ℕ × ℕ)) → sorted.encoder ≡ o → after.progress.ending ≡ Some (ByFault h3.ClosedCriticalStream)
-        at None f = later (ap (λ (o : Option (ℕ × ℕ)). (check_qpack view o q).ending) f ∙ a.still)
-        at (Some y) f = of-end y f (is_running (end_of (events_of log) y.0)) refl
+        by : (o : Option (ℕ × ℕ)) → sorted.encoder ≡ o → after.progress.ending ≡ Some (ByFault h3.ClosedCriticalStream)
+        by None f = later (ap (λ (o : Option (ℕ × ℕ)). (check_qpack view o q).ending) f ∙ a.still)
+        by (Some y) f = of-end y f (is_running (end_of (events_of log) y.0)) refl
 
-    session-told : (x : ℕ × ℕ) (w : SessionWalk) (e : Ending) → DatagramPasses log before after → established_session (calls_of log) ≡ Some x → session_walk_of (drop x.1 (contents log x.0)) (end_of (events_of log) x.0) ≡ w
-        → (session_ends w (is_over (session_walk_of (drop x.1 (contents log x.0)) ends.Running)) behind_datagram).ending ≡ Some e → after.progress.ending ≡ Some e
-    session-told x w e d c f g =
-        says (check_session view (established_session (calls_of log))) from_stop behind_datagram e (left-session d)
-        (ap (λ (o : Option (ℕ × ℕ)). (check_session view o behind_datagram).ending) c ∙ ap (λ (z : SessionWalk). (session_ends z (is_over (session_walk_of (drop x.1 (contents log x.0)) ends.Running)) behind_datagram).ending) f ∙ g)
+    session-reported : (x : ℕ × ℕ) (w : SessionWalk) (e : Ending) → DatagramPasses log before after → established_session (calls_of log) ≡ Some x → session_walk_of (drop x.1 (contents log x.0)) (end_of (events_of log) x.0) ≡ w
+        → (session_ends w (is_over (session_walk_of (drop x.1 (contents log x.0)) ends.Running)) after_datagram).ending ≡ Some e → after.progress.ending ≡ Some e
+    session-reported x w e d c f g =
+        says (check_session view (established_session (calls_of log))) from_stop after_datagram e (left-session d)
+        (ap (λ (o : Option (ℕ × ℕ)). (check_session view o after_datagram).ending) c ∙ ap (λ (z : SessionWalk). (session_ends z (is_over (session_walk_of (drop x.1 (contents log x.0)) ends.Running)) after_datagram).ending) f ∙ g)
 
-    control-told : (x : ℕ × ℕ) (code : ErrorCode) (q : DriverProgress) (o : Option (ℕ × ℕ)) → o ≡ Some x → (control_walk_of (drop x.1 (contents log x.0)) (end_of (events_of log) x.0)).fault ≡ Some code → (check_control view o q).ending ≡ Some (ByFault code)
-    control-told x code q None e f = absurd (cc)
-    control-told x code q (Some y) e f =
+    control-reported : (x : ℕ × ℕ) (code : ErrorCode) (q : DriverProgress) (o : Option (ℕ × ℕ)) → o ≡ Some x → (control_walk_of (drop x.1 (contents log x.0)) (end_of (events_of log) x.0)).fault ≡ Some code → (check_control view o q).ending ≡ Some (ByFault code)
+    control-reported x code q None e f = absurd (cc)
+    control-reported x code q (Some y) e f =
         let z : y ≡ x = cc in
-        fault-told (control_walk_of (drop y.1 (contents log y.0)) (end_of (events_of log) y.0)).fault _ code (ap (λ (w : ℕ × ℕ). (control_walk_of (drop w.1 (contents log w.0)) (end_of (events_of log) w.0)).fault) z ∙ f)
+        fault-reported (control_walk_of (drop y.1 (contents log y.0)) (end_of (events_of log) y.0)).fault _ code (ap (λ (w : ℕ × ℕ). (control_walk_of (drop w.1 (contents log w.0)) (end_of (events_of log) w.0)).fault) z ∙ f)
 
-    -- ---- what is told
+    -- ---- what is reported
 
-    datagram-ends : (piece : List ℕ) (code : ErrorCode) → TakesDatagram log before after piece → datagram_of piece ≡ Err code → after.progress.ending ≡ Some (ByFault code)
+    datagram-ends : (piece : List ℕ) (code : ErrorCode) → DequeuesDatagram log before after piece → datagram_of piece ≡ Err code → after.progress.ending ≡ Some (ByFault code)
     datagram-ends piece code t d =
-        says (first_check view (call_view log)) from_session p (ByFault code) l (datagram-told piece code t d (view.ready && settled_datagrams (calls_of log) == p.datagrams) count_is)
+        says (first_check view (call_view log)) from_session p (ByFault code) l (datagram-reported piece code t d (view.ready && released_datagrams (calls_of log) == p.datagrams) count_is)
 
     stop-ends : DatagramPasses log before after → SessionPasses log → view.control_stopped ≡ true → after.progress.ending ≡ Some (ByFault h3.ClosedCriticalStream)
-    stop-ends d c e = says (critical_if view.control_stopped) from_control behind_session (ByFault h3.ClosedCriticalStream) (left-stop d c) (critical-told view.control_stopped behind_session e)
+    stop-ends d c e = says (critical_if view.control_stopped) from_control after_session (ByFault h3.ClosedCriticalStream) (left-stop d c) (critical-reported view.control_stopped after_session e)
 
     control-ends : (x : ℕ × ℕ) (code : ErrorCode) → PassesUpToControl side log before after → sorted.control ≡ Some x → (control_walk_of (drop x.1 (contents log x.0)) (end_of (events_of log) x.0)).fault ≡ Some code → after.progress.ending ≡ Some (ByFault code)
-    control-ends x code c e f = says (check_control view sorted.control) from_encoder behind_stop (ByFault code) (left-control c) (control-told x code behind_stop sorted.control e f)
+    control-ends x code c e f = says (check_control view sorted.control) from_encoder after_stop_checked (ByFault code) (left-control c) (control-reported x code after_stop_checked sorted.control e f)
 
     -- the checks of the QPACK streams leave what is known of SETTINGS
     kept-settings : (o : Option Ending) (f : DriverProgress → DriverProgress) (q : DriverProgress) → (f q).settings ≡ q.settings → (unless_ended o f q).settings ≡ q.settings
@@ -345,35 +345,35 @@ module _ (side : Side) (log : Log) (before after : StreamTable) where
     settings-come : (x : ℕ × ℕ) → PassesUpToControl side log before after → sorted.control ≡ Some x → is_some (control_walk_of (drop x.1 (contents log x.0)) (end_of (events_of log) x.0)).settings ≡ true → after.progress.settings ≡ true
     settings-come x c e r =
         let a = left-control c in
-        ap (λ (z : DriverProgress). z.settings) (a.is ∙ ap (λ (o : Option Ending). in_order from_encoder (unless_ended o (check_control view sorted.control) behind_stop)) a.still)
-        ∙ encoder-settings behind_control ∙ settings-read view (call_view log) sorted sorted.control behind_stop x e r
+        ap (λ (z : DriverProgress). z.settings) (a.is ∙ ap (λ (o : Option Ending). in_order from_encoder (unless_ended o (check_control view sorted.control) after_stop_checked)) a.still)
+        ∙ encoder-settings after_control ∙ settings-read view (call_view log) sorted sorted.control after_stop_checked x e r
 
     -- where SETTINGS come, what is looked at before the control stream passes
     came-past : StreamsPass after.classified → p.settings ≡ false → after.progress.settings ≡ true → PassesUpToControl side log before after
     came-past c n m =
-        let n1 = datagram-settings (view.ready && settled_datagrams (calls_of log) == p.datagrams) view p ∙ n in
-        let n2 = session-settings view (established_session (calls_of log)) behind_datagram ∙ n1 in
-        let n3 = critical-settings view.control_stopped behind_session ∙ n2 in
+        let n1 = datagram-settings (view.ready && released_datagrams (calls_of log) == p.datagrams) view p ∙ n in
+        let n2 = session-settings view (established_session (calls_of log)) after_datagram ∙ n1 in
+        let n3 = critical-settings view.control_stopped after_session ∙ n2 in
         let a = came-on (first_check view (call_view log)) from_session p l n1 m in
-        let b = came-on (check_session view (established_session (calls_of log))) from_stop behind_datagram a n2 m in
-        let d = came-on (critical_if view.control_stopped) from_control behind_session b n3 m in
+        let b = came-on (check_session view (established_session (calls_of log))) from_stop after_datagram a n2 m in
+        let d = came-on (critical_if view.control_stopped) from_control after_session b n3 m in
         record {
           streams = c;
           datagram = λ piece t. well piece t a.still (datagram_of piece) refl;
-          session = λ x e. walks-on view (call_view log) sorted (established_session (calls_of log)) behind_datagram b.still x e;
-          unstopped = not-critical view.control_stopped behind_session d.still;
+          session = λ x e. walks-on view (call_view log) sorted (established_session (calls_of log)) after_datagram b.still x e;
+          unstopped = not-critical view.control_stopped after_session d.still;
         }
       where
-        well : (piece : List ℕ) → TakesDatagram log before after piece → behind_datagram.ending ≡ None → (r : Result (ℕ × List ℕ) ErrorCode) → datagram_of piece ≡ r → is_ok (datagram_of piece) ≡ true
+        well : (piece : List ℕ) → DequeuesDatagram log before after piece → after_datagram.ending ≡ None → (r : Result (ℕ × List ℕ) ErrorCode) → datagram_of piece ≡ r → is_ok (datagram_of piece) ≡ true
         well piece t w (Ok d) e = ap is_ok e
-        well piece t w (Err code) e = absurd (let f = datagram-told piece code t e (view.ready && settled_datagrams (calls_of log) == p.datagrams) count_is in cc)
+        well piece t w (Err code) e = absurd (let f = datagram-reported piece code t e (view.ready && released_datagrams (calls_of log) == p.datagrams) count_is in cc)
 
     encoder-ends : (x : ℕ × ℕ) → PassesUpToControl side log before after → ControlPasses log after.classified → sorted.encoder ≡ Some x → is_running (end_of (events_of log) x.0) ≡ false → after.progress.ending ≡ Some (ByFault h3.ClosedCriticalStream)
     encoder-ends x c d e r =
-        says (check_qpack view sorted.encoder) (check_qpack view sorted.decoder ∷ []) behind_control (ByFault h3.ClosedCriticalStream) (left-encoder c d) (qpack-told x behind_control sorted.encoder e r)
+        says (check_qpack view sorted.encoder) (check_qpack view sorted.decoder ∷ []) after_control (ByFault h3.ClosedCriticalStream) (left-encoder c d) (qpack-reported x after_control sorted.encoder e r)
 
     decoder-ends : (x : ℕ × ℕ) → PassesUpToControl side log before after → ControlPasses log after.classified → sorted.decoder ≡ Some x → is_running (end_of (events_of log) x.0) ≡ false → after.progress.ending ≡ Some (ByFault h3.ClosedCriticalStream)
-    decoder-ends x c d e r = decoder-told x behind_control (left-encoder c d) e r
+    decoder-ends x c d e r = decoder-reported x after_control (left-encoder c d) e r
 
 -- ---- the law
 
@@ -424,8 +424,8 @@ module _ (side : Side) (log : Log) (before : StreamTable) (n : before.progress.e
       came-past side log before last start none-scanned (record { is = refl; still = e }) c n0 m
 
   -- a stream that was classified with a fault ended the connection
-  stream-told : (earlier : List Classified) (c : Classified) (code : ErrorCode) → last.classified ≡ earlier ++ c ∷ [] → c.verdict ≡ verdicts.Fault code → last.progress.ending ≡ Some (ByFault code)
-  stream-told earlier c code q f = at-unis (scanned side log before n).progress.ending refl
+  stream-reported : (earlier : List Classified) (c : Classified) (code : ErrorCode) → last.classified ≡ earlier ++ c ∷ [] → c.verdict ≡ verdicts.Fault code → last.progress.ending ≡ Some (ByFault code)
+  stream-reported earlier c code q f = at-unis (scanned side log before n).progress.ending refl
     where
       at-bis : (o : Option Ending) → start.ending ≡ o → (scanned side log before n).progress.ending ≡ None → last.progress.ending ≡ Some (ByFault code)
       at-bis None e u = absurd (let y = last-faultless earlier c (subst NoneFaulty q ((kept-streams Faultless side log (faultless-kept side log) before g).0 e)) in let z = ap is_fault f in cc)
@@ -449,9 +449,9 @@ module _ (side : Side) (log : Log) (before : StreamTable) (n : before.progress.e
           ap (λ (t : StreamTable). t.progress.ending) l ∙ e ∙ sym r.fault ∙ ap (λ (z : Verdict). fault_ending (uni_consequence (dispatched_streams (call_view log) r.table.classified) r.stream z).fault) (ap (λ (z : Classified). z.verdict) same ∙ f)
 
   -- and so did a second stream of a kind that comes once
-  second-told : (earlier : List Classified) (c : Classified) (offset : Verdict → Option ℕ) (first : ℕ × ℕ) → last.classified ≡ earlier ++ c ∷ [] → ComesOnce offset → is_some (offset c.verdict) ≡ true → first_at offset earlier ≡ Some first
+  second-reported : (earlier : List Classified) (c : Classified) (offset : Verdict → Option ℕ) (first : ℕ × ℕ) → last.classified ≡ earlier ++ c ∷ [] → ComesOnce offset → is_some (offset c.verdict) ≡ true → first_at offset earlier ≡ Some first
       → last.progress.ending ≡ Some (ByFault h3.StreamCreation)
-  second-told earlier c offset first q m s f = at-unis (scanned side log before n).progress.ending refl
+  second-reported earlier c offset first q m s f = at-unis (scanned side log before n).progress.ending refl
     where
       at-bis : (e : Option Ending) → start.ending ≡ e → (scanned side log before n).progress.ending ≡ None → last.progress.ending ≡ Some (ByFault h3.StreamCreation)
       at-bis None e u =
@@ -478,11 +478,11 @@ module _ (side : Side) (log : Log) (before : StreamTable) (n : before.progress.e
 
   tells-first : TellsFirst side log before last
   tells-first = record {
-    stream = stream-told;
-    second = second-told;
+    stream = stream-reported;
+    second = second-reported;
     datagram = λ piece code c t d. datagram-ends side log before last start none-scanned (all-left c) piece code t d;
-    session_fault = λ x code c d e w. session-told side log before last start none-scanned (all-left c) x (walks.Fault code) (ByFault code) d e w refl;
-    session_closed = λ x code reason c d e w. session-told side log before last start none-scanned (all-left c) x (walks.Closed code reason) _ d e w refl;
+    session_fault = λ x code c d e w. session-reported side log before last start none-scanned (all-left c) x (walks.Fault code) (ByFault code) d e w refl;
+    session_closed = λ x code reason c d e w. session-reported side log before last start none-scanned (all-left c) x (walks.Closed code reason) _ d e w refl;
     stopped = λ c d r e. stop-ends side log before last start none-scanned (all-left c) d r e;
     control = λ x code c e f. control-ends side log before last start none-scanned (all-left c.streams) x code c e f;
     settings = λ x c e r. settings-come side log before last start none-scanned (all-left c.streams) x c e r;
@@ -491,10 +491,10 @@ module _ (side : Side) (log : Log) (before : StreamTable) (n : before.progress.e
     decoder = λ x c d e r. decoder-ends side log before last start none-scanned (all-left c.streams) x c d e r;
   }
 
-pub first-is-told : (side : Side) (e : Entry) (log : Log) → FirstIsTold side e log
+pub first-is-reported : (side : Side) (e : Entry) (log : Log) → FirstIsReported side e log
 unfolding stream_table
-first-is-told side e log m o n = at (is_moment e && is_open (e ∷ log)) (and_from (is_moment e) (is_open (e ∷ log)) m o)
+first-is-reported side e log m o n = by (is_moment e && is_open (e ∷ log)) (and_from (is_moment e) (is_open (e ∷ log)) m o)
   where
-    at : (b : Bool) → b ≡ true → TellsFirst side (e ∷ log) (stream_table side log) (after-entry side e log b)
-    at true q = tells-first side (e ∷ log) (stream_table side log) n (faultless side log) (λ offset c. once-each side log offset c n)
-    at false q = absurd (cc)
+    by : (b : Bool) → b ≡ true → TellsFirst side (e ∷ log) (stream_table side log) (after-entry side e log b)
+    by true q = tells-first side (e ∷ log) (stream_table side log) n (faultless side log) (λ offset c. once-each side log offset c n)
+    by false q = absurd (cc)

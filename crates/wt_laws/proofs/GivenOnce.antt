@@ -10,7 +10,7 @@ use Rattle.wt_wire.specs.declared.side.Side.{Side}
 use Rattle.wt_laws.proofs.During.{extend}
 use Rattle.wt_laws.proofs.Reached.{holds}
 use Rattle.wt_laws.proofs.Reached as reached
-use Rattle.wt_laws.proofs.RunLaws.{stays-behind}
+use Rattle.wt_laws.proofs.RunLaws.{stays-after}
 use Rattle.wt_laws.proofs.StreamLaws.{streams-accepted-rightly}
 use Rattle.wt_laws.proofs.TurnCauses.{reply-is-recorded}
 use Rattle.wt_laws.specs.GivenOnce.{GivenOnce, gives_stream, gave_stream}
@@ -23,28 +23,28 @@ use Rattle.wt_reply.specs.declared.reply.Reply.TheVariants as replies
 
 -- ---- a reply that gives a stream leaves its record
 
-uni-told : (turn : Turn) (j : ℕ) (r : CallRecord) → TellsOf turn r (replies.Uni j) → releases j r ≡ true
-uni-told turn j (StreamAccepted i) q = let e : j ≡ i = cc in at e
+uni-reported : (turn : Turn) (j : ℕ) (r : CallRecord) → TellsOf turn r (replies.Uni j) → releases j r ≡ true
+uni-reported turn j (StreamAccepted i) q = let e : j ≡ i = cc in by e
   where
-    at : j ≡ i → (i == j) ≡ true
-    at e = subst (λ z. (z == j) ≡ true) e (eq-eqb j j refl)
-uni-told turn j (BytesRead i n) (piece, e, count, rest) = absurd (cc)
-uni-told turn j DatagramReceived (piece, e) = absurd (cc)
-uni-told turn j (SessionEstablished i n) q = absurd (cc)
-uni-told turn j (RequestDelivered i) q = absurd (cc)
-uni-told turn j _ q = absurd (cc)
+    by : j ≡ i → (i == j) ≡ true
+    by e = subst (λ z. (z == j) ≡ true) e (eq-eqb j j refl)
+uni-reported turn j (BytesRead i n) (piece, e, count, rest) = absurd (cc)
+uni-reported turn j DatagramReceived (piece, e) = absurd (cc)
+uni-reported turn j (SessionEstablished i n) q = absurd (cc)
+uni-reported turn j (RequestDelivered i) q = absurd (cc)
+uni-reported turn j _ q = absurd (cc)
 
-bi-told : (turn : Turn) (j : ℕ) (r : CallRecord) → TellsOf turn r (replies.Bi j) → releases j r ≡ true
-bi-told turn j (StreamAccepted i) q = let e : j ≡ i = cc in subst (λ z. (z == j) ≡ true) e (eq-eqb j j refl)
-bi-told turn j (BytesRead i n) (piece, e, count, rest) = absurd (cc)
-bi-told turn j DatagramReceived (piece, e) = absurd (cc)
-bi-told turn j (SessionEstablished i n) q = absurd (cc)
-bi-told turn j (RequestDelivered i) q = absurd (cc)
-bi-told turn j _ q = absurd (cc)
+bi-reported : (turn : Turn) (j : ℕ) (r : CallRecord) → TellsOf turn r (replies.Bi j) → releases j r ≡ true
+bi-reported turn j (StreamAccepted i) q = let e : j ≡ i = cc in subst (λ z. (z == j) ≡ true) e (eq-eqb j j refl)
+bi-reported turn j (BytesRead i n) (piece, e, count, rest) = absurd (cc)
+bi-reported turn j DatagramReceived (piece, e) = absurd (cc)
+bi-reported turn j (SessionEstablished i n) q = absurd (cc)
+bi-reported turn j (RequestDelivered i) q = absurd (cc)
+bi-reported turn j _ q = absurd (cc)
 
 reported : (turn : Turn) (k : ℕ) (r : CallRecord) (reply : Reply) → gives_stream k reply ≡ true → TellsOf turn r reply → releases k r ≡ true
-reported turn k r (replies.Uni j) g q = subst (λ z. releases z r ≡ true) (eqb-true j k g) (uni-told turn j r q)
-reported turn k r (replies.Bi j) g q = subst (λ z. releases z r ≡ true) (eqb-true j k g) (bi-told turn j r q)
+reported turn k r (replies.Uni j) g q = subst (λ z. releases z r ≡ true) (eqb-true j k g) (uni-reported turn j r q)
+reported turn k r (replies.Bi j) g q = subst (λ z. releases z r ≡ true) (eqb-true j k g) (bi-reported turn j r q)
 reported turn k r _ g q = absurd (cc)
 
 logged-releases : (turn : Turn) (k : ℕ) (before after : List CallRecord) (reply : Reply) → gives_stream k reply ≡ true → Logged turn before after reply → list_any (releases k) after ≡ true
@@ -57,7 +57,7 @@ logged-releases turn k before after reply g (ThenPolled r e q) = ap (λ rs. list
 -- ---- what was released stays so
 
 stays : (side : Side) (k : ℕ) (earlier later : Log) → GoesOnFrom earlier later → list_any (releases k) (calls_of earlier) ≡ true → list_any (releases k) (calls_of later) ≡ true
-stays side k earlier later x p = ap (λ g. list_any (releases k) (calls_of g)) x.1 ∙ (stays-behind side x.0 earlier).released k p
+stays side k earlier later x p = ap (λ g. list_any (releases k) (calls_of g)) x.1 ∙ (stays-after side x.0 earlier).released k p
 
 -- what is given rightly wasn't released
 not-released : (side : Side) (log : Log) (turn : Turn) (kind k : ℕ) → (middle : Log) × IsDuring side log turn middle × AcceptedRightly side middle kind k → list_any (releases k) (calls_of log) ≡ true → false ≡ true
@@ -80,11 +80,11 @@ module _ (side : Side) (before : List Exchange) (log : Log) (turn : Turn) (l : i
   new-not _ e k g q = absurd (cc)
 
   new-once : (k : ℕ) → gives_stream k reply ≡ true → gave_stream k before ≡ false
-  new-once k g = at (gave_stream k before) refl
+  new-once k g = by (gave_stream k before) refl
     where
-      at : (b : Bool) → gave_stream k before ≡ b → gave_stream k before ≡ false
-      at false e = e
-      at true e = absurd (let z = new-not reply refl k g (p.released k e) in cc)
+      by : (b : Bool) → gave_stream k before ≡ b → gave_stream k before ≡ false
+      by false e = e
+      by true e = absurd (let z = new-not reply refl k g (p.released k e) in cc)
 
   new-released : (k : ℕ) (b : Bool) → gives_stream k reply ≡ b → (b || gave_stream k before) ≡ true → list_any (releases k) (calls_of (log_after side log turn)) ≡ true
   new-released k true g q = let x = reply-is-recorded side log turn l in logged-releases turn k _ _ reply g x.logged

@@ -71,8 +71,8 @@ module _ (side : Side) (log : Log) (k : ℕ) (c : (local_uni side == k) ≡ fals
   read-sends id own (responses.Fault code) e = leaf (own ++ close_when_open log (code_of code)) HandshakeOver (with-close own (code_of code) e)
   read-sends id own responses.Ended e = leaf (own ++ close_when_open log 0) HandshakeOver (with-close own 0 e)
   read-sends id own responses.Incomplete e = whether (is_open log) _ _ (λ o. leaf own Polled e) (λ o. leaf own HandshakeOver e)
-  read-sends id own (responses.Response fields at) e =
-      whether (not (has_success fields)) _ _ (λ s. leaf (own ++ close_when_open log 0) HandshakeOver (with-close own 0 e)) (λ s. whether (is_open log) _ _ (λ o. record-flushed own (SessionEstablished id at) e) (λ o. leaf own HandshakeOver e))
+  read-sends id own (responses.Response fields by) e =
+      whether (not (has_success fields)) _ _ (λ s. leaf (own ++ close_when_open log 0) HandshakeOver (with-close own 0 e)) (λ s. whether (is_open log) _ _ (λ o. record-flushed own (SessionEstablished id by) e) (λ o. leaf own HandshakeOver e))
 
   -- a response goes on; a finished one sends nothing
   accept-sends : (id : ℕ) (left : List ℕ) (waiting : CallRecord) → is_open log ≡ true → is_refused log id left ≡ false → (is_covered log id left ≡ true → sends_of k (send_of id left) ≡ piece) → sends_of k (send_of id (bytes_within_credit log id left)) ≡ piece → Sends (accept_response side log id left waiting)
@@ -85,15 +85,15 @@ module _ (side : Side) (log : Log) (k : ℕ) (c : (local_uni side == k) ≡ fals
   reject-sends id left waiting o f p q n =
       no (not (is_open log)) _ _ (ap not o) (no (is_refused log id left) _ _ f
       (whether (is_covered log id left) _ _
-      (λ z. at (is_finished (actions_of log) id) refl z)
+      (λ z. by (is_finished (actions_of log) id) refl z)
       (λ z. leaf (send_of id (bytes_within_credit log id left)) waiting q)))
     where
       with-finish : (own : List Action) → sends_of k own ≡ piece → sends_of k (own ++ actions.Finish id ∷ []) ≡ piece
       with-finish own e = sends-append k own (actions.Finish id ∷ []) ∙ append-nil (sends_of k own) ∙ e
 
-      at : (b : Bool) → is_finished (actions_of log) id ≡ b → is_covered log id left ≡ true → Sends (finish_rejection side log id left waiting)
-      at false e z = yes (not (is_finished (actions_of log) id)) _ _ (ap not e) (leaf (send_of id left ++ actions.Finish id ∷ []) waiting (with-finish (send_of id left) (p z)))
-      at true e z =
+      by : (b : Bool) → is_finished (actions_of log) id ≡ b → is_covered log id left ≡ true → Sends (finish_rejection side log id left waiting)
+      by false e z = yes (not (is_finished (actions_of log) id)) _ _ (ap not e) (leaf (send_of id left ++ actions.Finish id ∷ []) waiting (with-finish (send_of id left) (p z)))
+      by true e z =
           no (not (is_finished (actions_of log) id)) _ _ (ap not e)
           (whether (is_some (stop_of (events_of log) id) || is_acknowledged (events_of log) id) _ _ (λ x. leaf (close_when_open log 0) HandshakeOver (with-close [] 0 (sym (n e)))) (λ x. leaf [] waiting (sym (n e))))
 
@@ -114,11 +114,11 @@ second None = None
 second (Some x) = Some x.1
 
 module _ (side : Side) (log : Log) (r : IsReachable side log) where
-  header-sends : (k s at : ℕ) → established_session (calls_of log) ≡ Some (s, at) → is_opening log k ≡ true → is_open log ≡ true → is_refused log k (head_left log k (stream_header k s)) ≡ false → IsOutAsFar side log (calls.PollOpening k) k (stream_header k s)
+  header-sends : (k s offset : ℕ) → established_session (calls_of log) ≡ Some (s, offset) → is_opening log k ≡ true → is_open log ≡ true → is_refused log k (head_left log k (stream_header k s)) ≡ false → IsOutAsFar side log (calls.PollOpening k) k (stream_header k s)
   unfolding call_effect
-  header-sends k s at d i o f =
+  header-sends k s offset d i o f =
       let h = heads-hold side log r in
-      let b = h.begun k s at i d in
+      let b = h.begun k s offset i d in
       let left = head_left log k (stream_header k s) in
       let c = not-same (local_uni side) k (not-local-uni side log k h (and_parts _ _ i).0) in
       subst (λ (z : Option (ℕ × ℕ)). Sends side log k c (bytes_within_credit log k left) (in_session side log (poll_opening side log k) z)) (sym d)
@@ -164,11 +164,11 @@ module _ (side : Side) (log : Log) (r : IsReachable side log) where
     has-frame accepts head e = of-call call start l e
       where
         answering : may_respond side log ≡ true → has_request (handshake_state (calls_of log)) ≡ true
-        answering m = at (handshake_state (calls_of log)) (and_parts (not (is_client side)) _ m).1
+        answering m = by (handshake_state (calls_of log)) (and_parts (not (is_client side)) _ m).1
           where
-            at : (s : HandshakeState) → awaits_answer s ≡ true → has_request s ≡ true
-            at (Requested id) w = refl
-            at _ w = absurd (cc)
+            by : (s : HandshakeState) → awaits_answer s ≡ true → has_request s ≡ true
+            by (Requested id) w = refl
+            by _ w = absurd (cc)
 
         going : (s : HandshakeState) → handshake_state (calls_of log) ≡ s → response_by s calls.Handshake ≡ Some (accepts, head) → (handshake_state (calls_of log) ≡ Responding accepts head) × (has_request (handshake_state (calls_of log)) ≡ true)
         going (Responding a h) q e = let p : (a, h) ≡ (accepts, head) = cc in (q ∙ ap (λ (x : Bool × List ℕ). Responding x.0 x.1) p, ap has_request q)
@@ -257,7 +257,7 @@ module _ (side : Side) (log : Log) (r : IsReachable side log) where
 
 pub heads-go-out : (side : Side) (log : Log) (call : Call) → IsReachable side log → is_lawful side log (turns.Call call) ≡ true → HeadsGoOut side log call
 heads-go-out side log call r l = record {
-  header = λ k s at e d i o f. subst (λ z. IsOutAsFar side log z k (stream_header k s)) (sym e) (header-sends side log r k s at d i o f);
+  header = λ k s offset e d i o f. subst (λ z. IsOutAsFar side log z k (stream_header k s)) (sym e) (header-sends side log r k s offset d i o f);
   response = λ accepts head e o f. response-out side log r call l accepts head e o f;
   request = λ head e m o may f. subst (λ z. IsOutAsFar side log z (local_bi side) head) (sym e) (request-out side log r head (subst (λ z. is_lawful side log (turns.Call z) ≡ true) e l) m o may f);
 }

@@ -23,7 +23,7 @@ use Rattle.wt_laws.proofs.SendLaws.{GivenStreams, accepted-ends, given-entries, 
 use Rattle.wt_laws.proofs.Sends.{more-or-same, piece_on, sends_of, with-piece}
 use Rattle.wt_laws.proofs.SessionLaws.{Handshakes, from-request, handshakes-before, handshakes-first, has_request}
 use Rattle.wt_laws.proofs.SettingsLaws.{ControlOut, first-control, keeps-control, new-opening-record, none-either, not-control}
-use Rattle.wt_laws.proofs.Steps.{Brings, Keeps, calls-with, of-record}
+use Rattle.wt_laws.proofs.Steps.{EventNow, Keeps, calls-with, of-record}
 use Rattle.wt_laws.specs.Causes.{AcceptCause, ActionCause, ByAccept, ByOpening, OfHeader, OfRequest, OfResponse, OfWrite, OwnCauses, SendCause, is_under_way}
 use Rattle.wt_laws.specs.Laws.{HeadersOut}
 use Rattle.wt_laws.specs.Reachable.{IsReachable}
@@ -43,9 +43,9 @@ pub record Heads (side : Side) (log : Log) : Type 0 where
   pub local_accepted : (k : ℕ) → is_local side k ≡ true → list_any (accepts_stream k) (calls_of log) ≡ true → list_any (starts_opening k) (calls_of log) ≡ true
   pub in_session : (k : ℕ) → list_any (starts_opening k) (calls_of log) ≡ true → is_some (established_session (calls_of log)) ≡ true
   pub fresh : (k : ℕ) → is_local side k ≡ true → k ≢ local_uni side → local_count (actions_of log) (k % 4) ≤ k / 4 → sent_on (actions_of log) k ≡ []
-  pub begun : (k s at : ℕ) → is_opening log k ≡ true → established_session (calls_of log) ≡ Some (s, at) → (n : ℕ) × (sent_on (actions_of log) k ≡ take n (stream_header k s))
-  pub ungiven : (k s at : ℕ) → list_any (starts_opening k) (calls_of log) ≡ true → is_accepted log k ≡ false → established_session (calls_of log) ≡ Some (s, at) → (n : ℕ) × (sent_on (actions_of log) k ≡ take n (stream_header k s))
-  pub whole : (k s at : ℕ) → is_local side k ≡ true → is_accepted log k ≡ true → established_session (calls_of log) ≡ Some (s, at) → (rest : List ℕ) × (sent_on (actions_of log) k ≡ stream_header k s ++ rest)
+  pub begun : (k s offset : ℕ) → is_opening log k ≡ true → established_session (calls_of log) ≡ Some (s, offset) → (n : ℕ) × (sent_on (actions_of log) k ≡ take n (stream_header k s))
+  pub ungiven : (k s offset : ℕ) → list_any (starts_opening k) (calls_of log) ≡ true → is_accepted log k ≡ false → established_session (calls_of log) ≡ Some (s, offset) → (n : ℕ) × (sent_on (actions_of log) k ≡ take n (stream_header k s))
+  pub whole : (k s offset : ℕ) → is_local side k ≡ true → is_accepted log k ≡ true → established_session (calls_of log) ≡ Some (s, offset) → (rest : List ℕ) × (sent_on (actions_of log) k ≡ stream_header k s ++ rest)
 
 -- ---- an action of a call's own
 
@@ -55,7 +55,7 @@ no-request side log k h l r e =
     absurd (let n = local-unclassified side log k l in let x = ap (λ j. verdict_of j (stream_table side log).classified) e in let v = w.verdict in cc)
 
 fresh-piece : (side : Side) (turn : Turn) (log : Log) (k : ℕ) (a : Action) → Heads side log → is_local side k ≡ true → local_count (actions_of log) (k % 4) ≤ k / 4 → ActionCause side turn log a → piece_on k a ≡ []
-fresh-piece side turn log k (actions.Send id piece) h l u c = at (id == k) refl c.1
+fresh-piece side turn log k (actions.Send id piece) h l u c = by (id == k) refl c.1
   where
     none : list_any (starts_opening k) (calls_of log) ≡ true → ⊥
     none o = let n = h.count_is k o in absurd (omega arith)
@@ -64,12 +64,12 @@ fresh-piece side turn log k (actions.Send id piece) h l u c = at (id == k) refl 
     by-side Client y z = absurd (z (omega arith))
     by-side Server y z = absurd (z (omega arith))
 
-    at : (b : Bool) → (id == k) ≡ b → SendCause side turn log id piece → (if b then piece else []) ≡ []
-    at false e x = refl
-    at true e (OfWrite bytes b w m p) = absurd (none (h.local_accepted k l (subst (λ (j : ℕ). is_accepted log j ≡ true) (eqb-true id k e) (and_parts (is_accepted log id) _ w).0)))
-    at true e (OfHeader session t z d o p) = absurd (none (subst (λ (j : ℕ). list_any (starts_opening j) (calls_of log) ≡ true) (eqb-true id k e) (and_parts (list_any (starts_opening id) (calls_of log)) _ o).0))
-    at true e (OfResponse accepts head f i p) = absurd (no-request side log k h l (from-request turn (calls_of log) accepts head f) (sym i ∙ eqb-true id k e))
-    at true e (OfRequest head c s i z p) = absurd (by-side side (subst (λ (j : ℕ). local_count (actions_of log) (j % 4) ≤ j / 4) (sym (eqb-true id k e) ∙ i) u) z)
+    by : (b : Bool) → (id == k) ≡ b → SendCause side turn log id piece → (if b then piece else []) ≡ []
+    by false e x = refl
+    by true e (OfWrite bytes b w m p) = absurd (none (h.local_accepted k l (subst (λ (j : ℕ). is_accepted log j ≡ true) (eqb-true id k e) (and_parts (is_accepted log id) _ w).0)))
+    by true e (OfHeader session t z d o p) = absurd (none (subst (λ (j : ℕ). list_any (starts_opening j) (calls_of log) ≡ true) (eqb-true id k e) (and_parts (list_any (starts_opening id) (calls_of log)) _ o).0))
+    by true e (OfResponse accepts head f i p) = absurd (no-request side log k h l (from-request turn (calls_of log) accepts head f) (sym i ∙ eqb-true id k e))
+    by true e (OfRequest head c s i z p) = absurd (by-side side (subst (λ (j : ℕ). local_count (actions_of log) (j % 4) ≤ j / 4) (sym (eqb-true id k e) ∙ i) u) z)
 fresh-piece side turn log k _ h l u c = refl
 
 pub further : (c n : ℕ) (xs : List ℕ) → take n xs ++ take c (drop (length (take n xs)) xs) ≡ take (length (take n xs) + c) xs
@@ -93,39 +93,39 @@ header-more log k s piece y p = (
 
 begun-piece : (side : Side) (turn : Turn) (log : Log) (k s t : ℕ) (a : Action) → Heads side log → is_opening log k ≡ true → established_session (calls_of log) ≡ Some (s, t) → ActionCause side turn log a
     → (n : ℕ) × (sent_on (actions_of log) k ++ piece_on k a ≡ take n (stream_header k s))
-begun-piece side turn log k s t (actions.Send id piece) h o d c = at (id == k) refl c.1
+begun-piece side turn log k s t (actions.Send id piece) h o d c = by (id == k) refl c.1
   where
     p : (n : ℕ) × (sent_on (actions_of log) k ≡ take n (stream_header k s))
     p = h.begun k s t o d
 
-    at : (b : Bool) → (id == k) ≡ b → SendCause side turn log id piece → (n : ℕ) × (sent_on (actions_of log) k ++ (if b then piece else []) ≡ take n (stream_header k s))
-    at false e x = (p.0, append-nil (sent_on (actions_of log) k) ∙ p.1)
-    at true e (OfWrite bytes b w m q) = absurd (not-accepted log k o (subst (λ (j : ℕ). is_accepted log j ≡ true) (eqb-true id k e) (and_parts (is_accepted log id) _ w).0))
-    at true e (OfHeader session u z i j q) =
+    by : (b : Bool) → (id == k) ≡ b → SendCause side turn log id piece → (n : ℕ) × (sent_on (actions_of log) k ++ (if b then piece else []) ≡ take n (stream_header k s))
+    by false e x = (p.0, append-nil (sent_on (actions_of log) k) ∙ p.1)
+    by true e (OfWrite bytes b w m q) = absurd (not-accepted log k o (subst (λ (j : ℕ). is_accepted log j ≡ true) (eqb-true id k e) (and_parts (is_accepted log id) _ w).0))
+    by true e (OfHeader session u z i j q) =
         let same : session ≡ s = ap session_id (sym i ∙ d) in
         let x = subst (λ (m : ℕ). piece ≡ bytes_within_credit log m (head_left log m (stream_header m session))) (eqb-true id k e) q in
         let y = subst (λ (m : ℕ). piece ≡ bytes_within_credit log k (head_left log k (stream_header k m))) same x in header-more log k s piece y p
-    at true e (OfResponse accepts head f i q) = absurd (no-request side log k h (local-opening side log k h o) (from-request turn (calls_of log) accepts head f) (sym i ∙ eqb-true id k e))
-    at true e (OfRequest head c i j z q) = absurd (let x = h.given.handshakes.none_yet (ap is_under_way i) in cc)
+    by true e (OfResponse accepts head f i q) = absurd (no-request side log k h (local-opening side log k h o) (from-request turn (calls_of log) accepts head f) (sym i ∙ eqb-true id k e))
+    by true e (OfRequest head c i j z q) = absurd (let x = h.given.handshakes.none_yet (ap is_under_way i) in cc)
 begun-piece side turn log k s t _ h o d c = ((h.begun k s t o d).0, append-nil (sent_on (actions_of log) k) ∙ (h.begun k s t o d).1)
 
 -- the same of a stream that isn't given yet, or never is
 ungiven-piece : (side : Side) (turn : Turn) (log : Log) (k s t : ℕ) (a : Action) → Heads side log → list_any (starts_opening k) (calls_of log) ≡ true → is_accepted log k ≡ false → established_session (calls_of log) ≡ Some (s, t) → ActionCause side turn log a
     → (n : ℕ) × (sent_on (actions_of log) k ++ piece_on k a ≡ take n (stream_header k s))
-ungiven-piece side turn log k s t (actions.Send id piece) h o g d c = at (id == k) refl c.1
+ungiven-piece side turn log k s t (actions.Send id piece) h o g d c = by (id == k) refl c.1
   where
     p : (n : ℕ) × (sent_on (actions_of log) k ≡ take n (stream_header k s))
     p = h.ungiven k s t o g d
 
-    at : (b : Bool) → (id == k) ≡ b → SendCause side turn log id piece → (n : ℕ) × (sent_on (actions_of log) k ++ (if b then piece else []) ≡ take n (stream_header k s))
-    at false e x = (p.0, append-nil (sent_on (actions_of log) k) ∙ p.1)
-    at true e (OfWrite bytes b w m q) = absurd (let y = subst (λ (j : ℕ). is_accepted log j ≡ true) (eqb-true id k e) (and_parts (is_accepted log id) _ w).0 in cc)
-    at true e (OfHeader session u z i j q) =
+    by : (b : Bool) → (id == k) ≡ b → SendCause side turn log id piece → (n : ℕ) × (sent_on (actions_of log) k ++ (if b then piece else []) ≡ take n (stream_header k s))
+    by false e x = (p.0, append-nil (sent_on (actions_of log) k) ∙ p.1)
+    by true e (OfWrite bytes b w m q) = absurd (let y = subst (λ (j : ℕ). is_accepted log j ≡ true) (eqb-true id k e) (and_parts (is_accepted log id) _ w).0 in cc)
+    by true e (OfHeader session u z i j q) =
         let same : session ≡ s = ap session_id (sym i ∙ d) in
         let x = subst (λ (m : ℕ). piece ≡ bytes_within_credit log m (head_left log m (stream_header m session))) (eqb-true id k e) q in
         let y = subst (λ (m : ℕ). piece ≡ bytes_within_credit log k (head_left log k (stream_header k m))) same x in header-more log k s piece y p
-    at true e (OfResponse accepts head f i q) = absurd (no-request side log k h (h.given.facts_hold.openings k o) (from-request turn (calls_of log) accepts head f) (sym i ∙ eqb-true id k e))
-    at true e (OfRequest head c i j z q) = absurd (let x = h.given.handshakes.none_yet (ap is_under_way i) in cc)
+    by true e (OfResponse accepts head f i q) = absurd (no-request side log k h (h.given.facts_hold.openings k o) (from-request turn (calls_of log) accepts head f) (sym i ∙ eqb-true id k e))
+    by true e (OfRequest head c i j z q) = absurd (let x = h.given.handshakes.none_yet (ap is_under_way i) in cc)
 ungiven-piece side turn log k s t _ h o g d c = ((h.ungiven k s t o g d).0, append-nil (sent_on (actions_of log) k) ∙ (h.ungiven k s t o g d).1)
 
 pub heads-action : (side : Side) (turn : Turn) (log : Log) (a : Action) → ActionCause side turn log a → Heads side log → Heads side (Sent a ∷ log)
@@ -182,11 +182,11 @@ heads-driver side turn (a ∷ as_) log n h =
 
 pub heads-flush : (side : Side) (turn : Turn) (e : Entry) (log : Log) → Heads side (e ∷ log) → Heads side (log_and_flush side log e)
 unfolding flush
-heads-flush side turn e log h = at (is_moment e && is_open (e ∷ log))
+heads-flush side turn e log h = by (is_moment e && is_open (e ∷ log))
   where
-    at : (b : Bool) → Heads side (apply_if b (with_actions (pending_actions side (e ∷ log))) (e ∷ log))
-    at true = heads-driver side turn (pending_actions side (e ∷ log)) (e ∷ log) (λ k c. pending-other side (e ∷ log) k (not-same (local_uni side) k c)) h
-    at false = h
+    by : (b : Bool) → Heads side (apply_if b (with_actions (pending_actions side (e ∷ log))) (e ∷ log))
+    by true = heads-driver side turn (pending_actions side (e ∷ log)) (e ∷ log) (λ k c. pending-other side (e ∷ log) k (not-same (local_uni side) k c)) h
+    by false = h
 
 -- ---- a record
 
@@ -207,17 +207,17 @@ no-peers-bi Server (PeerBi ∷ es) = no-peers-bi Server es
 no-peers-bi side (_ ∷ es) = no-peers-bi side es
 
 pub no-peers : (side : Side) (es : List Event) (kind : ℕ) → (kind == local_uni side || kind == local_bi side) ≡ true → peer_count side es kind ≡ 0
-no-peers side es kind l = at (kind == local_uni side) refl (kind == local_bi side) refl l
+no-peers side es kind l = by (kind == local_uni side) refl (kind == local_bi side) refl l
   where
-    at : (b : Bool) → (kind == local_uni side) ≡ b → (c : Bool) → (kind == local_bi side) ≡ c → (b || c) ≡ true → peer_count side es kind ≡ 0
-    at true e c f l = subst (λ (n : ℕ). peer_count side es n ≡ 0) (sym (eqb-true kind (local_uni side) e)) (no-peers-uni side es)
-    at false e true f l = subst (λ (n : ℕ). peer_count side es n ≡ 0) (sym (eqb-true kind (local_bi side) f)) (no-peers-bi side es)
-    at false e false f l = absurd (cc)
+    by : (b : Bool) → (kind == local_uni side) ≡ b → (c : Bool) → (kind == local_bi side) ≡ c → (b || c) ≡ true → peer_count side es kind ≡ 0
+    by true e c f l = subst (λ (n : ℕ). peer_count side es n ≡ 0) (sym (eqb-true kind (local_uni side) e)) (no-peers-uni side es)
+    by false e true f l = subst (λ (n : ℕ). peer_count side es n ≡ 0) (sym (eqb-true kind (local_bi side) f)) (no-peers-bi side es)
+    by false e false f l = absurd (cc)
 
 pub starts : (side : Side) {turn : Turn} (log : Log) (own : List Action) (k s : ℕ) → NewOpening side turn log own k s → k / 4 ≡ local_count (actions_of log) (k % 4)
 starts side {turn} log own k s c =
     let f : c.kind < 4 = ltb-true c.kind 4 c.small in
-    let e : k ≡ 4 * stream_count side log c.kind + c.kind = c.next in
+    let e : k ≡ 4 * stream_count side log c.kind + c.kind = c.is_next in
     let m : k % 4 ≡ c.kind = by-four k (stream_count side log c.kind) c.kind e f in
     let q : k / 4 ≡ stream_count side log (k % 4) = over-four k (stream_count side log c.kind) c.kind e f ∙ ap (stream_count side log) (sym m) in
     let z = no-peers side (all_events_of log) (k % 4) (opened-local side turn (k % 4) c.cause.opens) in omega arith
@@ -229,7 +229,7 @@ starts side {turn} log own k s c =
     over-four k n kind e f = omega arith
 
 is-opened : (side : Side) {turn : Turn} (log : Log) (own : List Action) (k s : ℕ) → NewOpening side turn log own k s → own ≡ actions.Opened k ∷ []
-is-opened side log own k s c = c.own_is ∙ ap (λ (b : Bool). if b then actions.Opened (next_id side log c.kind) ∷ [] else []) c.may ∙ ap (λ j. actions.Opened j ∷ []) (sym c.next)
+is-opened side log own k s c = c.own_is ∙ ap (λ (b : Bool). if b then actions.Opened (next_id side log c.kind) ∷ [] else []) c.may ∙ ap (λ j. actions.Opened j ∷ []) (sym c.is_next)
 
 one-opened : (side : Side) {turn : Turn} (log : Log) (own : List Action) (k s : ℕ) → NewOpening side turn log own k s → k / 4 < local_count (actions_of (with_actions own log)) (k % 4)
 one-opened side log own k s c =
@@ -257,11 +257,11 @@ module _ (side : Side) (turn : Turn) (log : Log) (own : List Action) where
   then_ = with_actions own log
 
   new-begun : (r : CallRecord) → ControlOut side log → Heads side log → Heads side then_ → CallCause side turn log own r → (k s t : ℕ) → is_opening (Called r ∷ then_) k ≡ true → established_session (r ∷ calls_of then_) ≡ Some (s, t) → (n : ℕ) × (sent_on (actions_of then_) k ≡ take n (stream_header k s))
-  new-begun (OpeningStarted id i) p b h c k s t o d = at (id == k) refl o
+  new-begun (OpeningStarted id i) p b h c k s t o d = by (id == k) refl o
     where
-      at : (x : Bool) → (id == k) ≡ x → ((x || list_any (starts_opening k) (calls_of then_)) && not (list_any (ends_opening k) (calls_of then_))) ≡ true → (n : ℕ) × (sent_on (actions_of then_) k ≡ take n (stream_header k s))
-      at true e o = (0, subst (λ (j : ℕ). sent_on (actions_of then_) j ≡ []) (eqb-true id k e) (none-sent side log own id i p b c))
-      at false e o = h.begun k s t o d
+      by : (x : Bool) → (id == k) ≡ x → ((x || list_any (starts_opening k) (calls_of then_)) && not (list_any (ends_opening k) (calls_of then_))) ≡ true → (n : ℕ) × (sent_on (actions_of then_) k ≡ take n (stream_header k s))
+      by true e o = (0, subst (λ (j : ℕ). sent_on (actions_of then_) j ≡ []) (eqb-true id k e) (none-sent side log own id i p b c))
+      by false e o = h.begun k s t o d
   new-begun (SessionEstablished id i) p b h c k s t o d = absurd (no-new-session side then_ c.own c.before c.is c.under_way h.given.handshakes (h.in_session k (and_parts (list_any (starts_opening k) (calls_of then_)) _ o).0))
   new-begun (StreamAccepted id) p b h c k s t o d = h.begun k s t (still (list_any (starts_opening k) (calls_of then_)) (id == k) (list_any (ends_opening k) (calls_of then_)) o) d
   new-begun (OpeningFailed id) p b h c k s t o d = h.begun k s t (still (list_any (starts_opening k) (calls_of then_)) (id == k) (list_any (ends_opening k) (calls_of then_)) o) d
@@ -269,11 +269,11 @@ module _ (side : Side) (turn : Turn) (log : Log) (own : List Action) where
 
   new-ungiven : (r : CallRecord) → ControlOut side log → Heads side log → Heads side then_ → CallCause side turn log own r → (k s t : ℕ) → list_any (starts_opening k) (r ∷ calls_of then_) ≡ true → is_accepted (Called r ∷ then_) k ≡ false → established_session (r ∷ calls_of then_) ≡ Some (s, t)
       → (n : ℕ) × (sent_on (actions_of then_) k ≡ take n (stream_header k s))
-  new-ungiven (OpeningStarted id i) p b h c k s t o g d = at (id == k) refl o
+  new-ungiven (OpeningStarted id i) p b h c k s t o g d = by (id == k) refl o
     where
-      at : (x : Bool) → (id == k) ≡ x → (x || list_any (starts_opening k) (calls_of then_)) ≡ true → (n : ℕ) × (sent_on (actions_of then_) k ≡ take n (stream_header k s))
-      at true e o = (0, subst (λ (j : ℕ). sent_on (actions_of then_) j ≡ []) (eqb-true id k e) (none-sent side log own id i p b c))
-      at false e o = h.ungiven k s t o g d
+      by : (x : Bool) → (id == k) ≡ x → (x || list_any (starts_opening k) (calls_of then_)) ≡ true → (n : ℕ) × (sent_on (actions_of then_) k ≡ take n (stream_header k s))
+      by true e o = (0, subst (λ (j : ℕ). sent_on (actions_of then_) j ≡ []) (eqb-true id k e) (none-sent side log own id i p b c))
+      by false e o = h.ungiven k s t o g d
   new-ungiven (SessionEstablished id i) p b h c k s t o g d = absurd (no-new-session side then_ c.own c.before c.is c.under_way h.given.handshakes (h.in_session k o))
   new-ungiven (StreamAccepted id) p b h c k s t o g d = h.ungiven k s t o (or_parts (id == k) (is_accepted then_ k) g).1 d
   new-ungiven _ p b h c k s t o g d = h.ungiven k s t o g d
@@ -282,13 +282,13 @@ module _ (side : Side) (turn : Turn) (log : Log) (own : List Action) where
   all-of-it n xs sent e d = e ∙ whole-covered n xs (ap is_empty (ap (λ ys. drop (length ys) xs) (sym e) ∙ d))
 
   new-whole : (r : CallRecord) → Heads side then_ → RecordCause side turn then_ r → (k s t : ℕ) → is_local side k ≡ true → is_accepted (Called r ∷ then_) k ≡ true → established_session (r ∷ calls_of then_) ≡ Some (s, t) → (rest : List ℕ) × (sent_on (actions_of then_) k ≡ stream_header k s ++ rest)
-  new-whole (StreamAccepted id) h c k s t l a d = at (id == k) refl a c
+  new-whole (StreamAccepted id) h c k s t l a d = by (id == k) refl a c
     where
-      at : (x : Bool) → (id == k) ≡ x → (x || list_any (accepts_stream k) (calls_of then_)) ≡ true → AcceptCause side turn then_ id → (rest : List ℕ) × (sent_on (actions_of then_) k ≡ stream_header k s ++ rest)
-      at false e a c = h.whole k s t l a d
-      at true e a (ByAccept f) =
+      by : (x : Bool) → (id == k) ≡ x → (x || list_any (accepts_stream k) (calls_of then_)) ≡ true → AcceptCause side turn then_ id → (rest : List ℕ) × (sent_on (actions_of then_) k ≡ stream_header k s ++ rest)
+      by false e a c = h.whole k s t l a d
+      by true e a (ByAccept f) =
           absurd (let v = found-sessions side turn then_ id f in let n = local-unclassified side then_ k l in let x = ap (λ j. verdict_of j (stream_table side then_).classified) (eqb-true id k e) in let y = v.1 in cc)
-      at true e a (ByOpening f) =
+      by true e a (ByOpening f) =
           let i = eqb-true id k e in
           let same : f.session ≡ s = ap session_id (sym f.is_established ∙ d) in
           let w = subst (λ (m : ℕ). head_left then_ k (stream_header k m) ≡ []) same (subst (λ (j : ℕ). head_left then_ j (stream_header j f.session) ≡ []) i f.whole) in
@@ -332,10 +332,10 @@ pub record Both (side : Side) (log : Log) : Type 0 where
   pub control : ControlOut side log
   pub heads : Heads side log
 
-pub heads-event : (side : Side) (turn : Turn) (e : Event) (log : Log) → is_open log ≡ true → Brings side turn log e → Heads side log → Heads side (Reported e ∷ log)
+pub heads-event : (side : Side) (turn : Turn) (e : Event) (log : Log) → is_open log ≡ true → EventNow side turn log e → Heads side log → Heads side (Reported e ∷ log)
 heads-event side turn e log o b h = record { given = (given-entries side turn).event log e o b h.given; no_control = h.no_control; count_is = h.count_is; local_accepted = h.local_accepted; in_session = h.in_session; fresh = h.fresh; begun = h.begun; ungiven = h.ungiven; whole = h.whole }
 
-pub heads-late : (side : Side) (turn : Turn) (e : Event) (log : Log) → is_open log ≡ false → Brings side turn log e → Heads side log → Heads side (ReportedLate e ∷ log)
+pub heads-late : (side : Side) (turn : Turn) (e : Event) (log : Log) → is_open log ≡ false → EventNow side turn log e → Heads side log → Heads side (ReportedLate e ∷ log)
 heads-late side turn e log o b h = record { given = (given-entries side turn).late log e o b h.given; no_control = h.no_control; count_is = h.count_is; local_accepted = h.local_accepted; in_session = h.in_session; fresh = h.fresh; begun = h.begun; ungiven = h.ungiven; whole = h.whole }
 
 pub heads-byte : (side : Side) (turn : Turn) (id b : ℕ) (log : Log) → is_open log ≡ true → is_running (end_of (all_events_of log) id) ≡ true → Heads side log → Heads side (Received id b ∷ log)

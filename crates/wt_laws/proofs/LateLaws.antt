@@ -30,7 +30,7 @@ use Rattle.wt_laws.specs.Reachable.{AllLawful}
 use Rattle.wt_laws.specs.Runs.{LateChangesNothing}
 use Rattle.wt_spec.specs.Answers.{actions_since, answer_to, answers_from, call_effect, in_session, is_client, is_first, is_lawful, log_after, may_call, receive, turn_effect}
 use Rattle.wt_spec.specs.Connection.{accept_due, accept_first, accept_stream, accepts_stream, close_connection, ends_opening, first_of, give_or_pass, is_due, is_for_session, is_opening, next_datagram, next_due, open_stream, payload_limit, poll_opening, read_datagram, receive_datagram, receive_first, receive_next, receive_or_pass, send_datagram, starts_opening}
-use Rattle.wt_spec.specs.Driver.{apply_if, call_view, delivers, established_session, flush, log_and_flush, releases, settings_came, settled_datagrams, stream_table, transport_view}
+use Rattle.wt_spec.specs.Driver.{apply_if, call_view, delivers, established_session, flush, log_and_flush, releases, settings_came, released_datagrams, stream_table, transport_view}
 use Rattle.wt_spec.specs.Scan.{scan_order}
 use Rattle.wt_spec.specs.Effect.{Effect, close_when_open, driver_error, error_of_ending, head_left, is_empty, log_call, loss_or_local, pending_or_failed, poll_only, reply_with, transport_error}
 use Rattle.wt_spec.specs.Halves.{all_written_reply, reply_at_end, body_start, exact_at_end, finish, finish_once, gives_up, has_receiving_half, has_sending_half, is_done, on_half, priority, read, read_exact, read_reply, reset, set_priority, stop_receiving, stopped, stopped_reply, total_read, unread_body, write, write_all, write_by, write_error, written_reply}
@@ -150,11 +150,11 @@ module _ (side : Side) (a b : Log) (p : EndedAlike side a b) where
   same-wait = closed-reply (is_open a) (is_open b) _ _ _ _ p.closed p.closed_too (ap (λ e. replies.Failed e) same-driver)
 
   in-session : (call too : ℕ → Effect) → ((s : ℕ) → Alike side a b (call s) (too s)) → Alike side a b (in_session side a call (established_session (calls_of a))) (in_session side b too (established_session (calls_of b)))
-  in-session call too f = subst (λ z. Alike side a b (in_session side a call (established_session (calls_of a))) (in_session side b too z)) (ap established_session p.calls) (at (established_session (calls_of a)))
+  in-session call too f = subst (λ z. Alike side a b (in_session side a call (established_session (calls_of a))) (in_session side b too z)) (ap established_session p.calls) (by (established_session (calls_of a)))
     where
-      at : (o : Option (ℕ × ℕ)) → Alike side a b (in_session side a call o) (in_session side b too o)
-      at None = polled replies.NoSession replies.NoSession refl
-      at (Some s) = f s.0
+      by : (o : Option (ℕ × ℕ)) → Alike side a b (in_session side a call o) (in_session side b too o)
+      by None = polled replies.NoSession replies.NoSession refl
+      by (Some s) = f s.0
 
   on-half : (c d : Bool) (call too : ℕ → Effect) (k : ℕ) → c ≡ d → Alike side a b (call k) (too k) → Alike side a b (on_half c side a call k) (on_half d side b too k)
   on-half true true call too k e q = q
@@ -195,11 +195,11 @@ module _ (side : Side) (a b : Log) (p : EndedAlike side a b) where
 
   alike-due : (reply : ℕ → Reply) (again too : Log → Effect) (kind s : ℕ) (o : Option Classified) → next_due side a kind s ≡ o → Alike side a b (accept_due side reply again s a o) (accept_due side reply too s b o)
   alike-due reply again too kind s None e = polled _ _ same-wait
-  alike-due reply again too kind s (Some c) e = at (is_for_session s c.verdict) refl
+  alike-due reply again too kind s (Some c) e = by (is_for_session s c.verdict) refl
     where
-      at : (m : Bool) → is_for_session s c.verdict ≡ m → Alike side a b (give_or_pass m side reply again a c.id) (give_or_pass m side reply too b c.id)
-      at true f = polls-alike (StreamAccepted c.id) (StreamAccepted c.id) (reply c.id) (reply c.id) refl refl
-      at false f = absurd (let d = next-is-due side a kind s c e in let t = d.turn_has_come in let o = p.closed in due (is_open a) (is_for_session s c.verdict) t o f)
+      by : (m : Bool) → is_for_session s c.verdict ≡ m → Alike side a b (give_or_pass m side reply again a c.id) (give_or_pass m side reply too b c.id)
+      by true f = polls-alike (StreamAccepted c.id) (StreamAccepted c.id) (reply c.id) (reply c.id) refl refl
+      by false f = absurd (let d = next-is-due side a kind s c e in let t = d.turn_has_come in let o = p.closed in due (is_open a) (is_for_session s c.verdict) t o f)
         where
           due : (x y : Bool) → (x || y) ≡ true → x ≡ false → y ≡ false → ⊥
           due true y t o f = absurd (cc)
@@ -212,9 +212,9 @@ module _ (side : Side) (a b : Log) (p : EndedAlike side a b) where
 
   same-datagram : next_datagram side a ≡ next_datagram side b
   same-datagram =
-      ap (λ (cs : List CallRecord). if nat_lt (settled_datagrams cs) (stream_table side a).progress.datagrams then read_datagram (slice_get (datagrams_of (events_of a)) (settled_datagrams cs)) else None) p.calls
-      ∙ ap (λ (t : StreamTable). if nat_lt (settled_datagrams (calls_of b)) t.progress.datagrams then read_datagram (slice_get (datagrams_of (events_of a)) (settled_datagrams (calls_of b))) else None) p.table
-      ∙ ap (λ es. if nat_lt (settled_datagrams (calls_of b)) (stream_table side b).progress.datagrams then read_datagram (slice_get (datagrams_of es) (settled_datagrams (calls_of b))) else None) p.events
+      ap (λ (cs : List CallRecord). if nat_lt (released_datagrams cs) (stream_table side a).progress.datagrams then read_datagram (slice_get (datagrams_of (events_of a)) (released_datagrams cs)) else None) p.calls
+      ∙ ap (λ (t : StreamTable). if nat_lt (released_datagrams (calls_of b)) t.progress.datagrams then read_datagram (slice_get (datagrams_of (events_of a)) (released_datagrams (calls_of b))) else None) p.table
+      ∙ ap (λ es. if nat_lt (released_datagrams (calls_of b)) (stream_table side b).progress.datagrams then read_datagram (slice_get (datagrams_of es) (released_datagrams (calls_of b))) else None) p.events
 
   alike-open : (kind s : ℕ) → Alike side a b (open_stream side a kind s) (open_stream side b kind s)
   alike-open kind s = not-open side a b p (is_open a) (is_open b) _ _ _ _ p.closed p.closed_too (polled _ _ (ap (λ e. replies.Failed e) same-transport))
@@ -242,11 +242,11 @@ module _ (side : Side) (a b : Log) (p : EndedAlike side a b) where
       (subst (λ z. Alike side a b (write_by reply side a k bytes (Some writes.NotConnected)) (write_by reply side b k bytes z)) (sym (ended-write b k p.closed_too)) (polled _ _ refl))
 
   same-stopped : (k : ℕ) (failing : StreamWriteError → Reply) (ended : Reply) → stopped_reply a k failing ended (stop_of (events_of a) k) ≡ stopped_reply b k failing ended (stop_of (events_of b) k)
-  same-stopped k failing ended = at (stop_of (events_of a) k) ∙ ap (λ es. stopped_reply b k failing ended (stop_of es k)) p.events
+  same-stopped k failing ended = by (stop_of (events_of a) k) ∙ ap (λ es. stopped_reply b k failing ended (stop_of es k)) p.events
     where
-      at : (o : Option ℕ) → stopped_reply a k failing ended o ≡ stopped_reply b k failing ended o
-      at (Some code) = refl
-      at None =
+      by : (o : Option ℕ) → stopped_reply a k failing ended o ≡ stopped_reply b k failing ended o
+      by (Some code) = refl
+      by None =
           ap (λ (d : Bool). if d then ended else (if is_open a then replies.Pending else failing writes.NotConnected)) (same-done k)
           ∙ ap (λ (o : Bool). if is_done b k then ended else (if o then replies.Pending else failing writes.NotConnected)) (p.closed ∙ sym p.closed_too)
 
@@ -275,23 +275,23 @@ module _ (side : Side) (a b : Log) (p : EndedAlike side a b) where
   alike-read : (k size : ℕ) → Alike side a b (read side a k size) (read side b k size)
   alike-read k size =
       same-if side a b p (size == 0) (size == 0) _ _ _ _ refl (λ z. polled _ _ refl)
-      (λ z. subst (λ xs. Alike side a b (read_reply side a k size (unread_body side a k)) (read_reply side b k size xs)) (same-unread k) (at (unread_body side a k)))
+      (λ z. subst (λ xs. Alike side a b (read_reply side a k size (unread_body side a k)) (read_reply side b k size xs)) (same-unread k) (by (unread_body side a k)))
     where
-      at : (bytes : List ℕ) → Alike side a b (read_reply side a k size bytes) (read_reply side b k size bytes)
-      at [] = polled _ _ (same-end (end_of (events_of a) k) ∙ ap (λ es. reply_at_end b (end_of es k)) p.events)
-      at (x ∷ bytes) = leaf side a b p [] [] (BytesRead k (length (take size (x ∷ bytes)))) (BytesRead k (length (take size (x ∷ bytes)))) _ _ refl refl refl refl
+      by : (bytes : List ℕ) → Alike side a b (read_reply side a k size bytes) (read_reply side b k size bytes)
+      by [] = polled _ _ (same-end (end_of (events_of a) k) ∙ ap (λ es. reply_at_end b (end_of es k)) p.events)
+      by (x ∷ bytes) = leaf side a b p [] [] (BytesRead k (length (take size (x ∷ bytes)))) (BytesRead k (length (take size (x ∷ bytes)))) _ _ refl refl refl refl
 
   alike-exact : (k size : ℕ) → Alike side a b (read_exact side a k size) (read_exact side b k size)
   alike-exact k size =
       same-if side a b p (nat_lt (length (unread_body side a k)) size) (nat_lt (length (unread_body side b k)) size) _ _ _ _ (ap (λ xs. nat_lt (length xs) size) (same-unread k))
       (λ l. subst (λ xs. Alike side a b (exact_at_end side a k (unread_body side a k) (end_of (events_of a) k)) (exact_at_end side b k xs (end_of (events_of b) k))) (same-unread k)
-      (subst (λ es. Alike side a b (exact_at_end side a k (unread_body side a k) (end_of (events_of a) k)) (exact_at_end side b k (unread_body side a k) (end_of es k))) p.events (at (unread_body side a k) (end_of (events_of a) k))))
+      (subst (λ es. Alike side a b (exact_at_end side a k (unread_body side a k) (end_of (events_of a) k)) (exact_at_end side b k (unread_body side a k) (end_of es k))) p.events (by (unread_body side a k) (end_of (events_of a) k))))
       (λ l. leaf side a b p [] [] _ _ _ _ refl refl (ap (λ xs. BytesRead k (length (take size xs))) (same-unread k)) (ap (λ xs. replies.Exact (take size xs)) (same-unread k)))
     where
-      at : (bytes : List ℕ) (e : StreamEnd) → Alike side a b (exact_at_end side a k bytes e) (exact_at_end side b k bytes e)
-      at bytes ends.Running = polled _ _ (closed-reply (is_open a) (is_open b) _ _ _ _ p.closed p.closed_too refl)
-      at bytes ends.Fin = leaf side a b p [] [] (BytesRead k (length bytes)) (BytesRead k (length bytes)) _ _ refl refl refl refl
-      at bytes (ends.Reset code) = polled _ _ refl
+      by : (bytes : List ℕ) (e : StreamEnd) → Alike side a b (exact_at_end side a k bytes e) (exact_at_end side b k bytes e)
+      by bytes ends.Running = polled _ _ (closed-reply (is_open a) (is_open b) _ _ _ _ p.closed p.closed_too refl)
+      by bytes ends.Fin = leaf side a b p [] [] (BytesRead k (length bytes)) (BytesRead k (length bytes)) _ _ refl refl refl refl
+      by bytes (ends.Reset code) = polled _ _ refl
 
   alike-stop : (k code : ℕ) → Alike side a b (stop_receiving side a k code) (stop_receiving side b k code)
   alike-stop k code = leaf side a b p (if_open a (actions.StopOut k code)) (if_open b (actions.StopOut k code)) (StreamGivenUp k) (StreamGivenUp k) replies.Done replies.Done (none-if a (actions.StopOut k code) p.closed) (none-if b (actions.StopOut k code) p.closed_too) refl refl
@@ -327,7 +327,7 @@ module _ (side : Side) (a b : Log) (p : EndedAlike side a b) where
   alike-walk id (responses.Fault code) = abandoning (code_of code) _ _ refl
   alike-walk id responses.Ended = abandoning 0 _ _ same-lost
   alike-walk id responses.Incomplete = if-open side a b p (is_open a) (is_open b) _ _ _ _ p.closed p.closed_too (failing _ _ same-lost)
-  alike-walk id (responses.Response fields at) =
+  alike-walk id (responses.Response fields by) =
       same-if side a b p (not (has_success fields)) (not (has_success fields)) _ _ _ _ refl (λ s. abandoning 0 _ _ refl)
       (λ s. if-open side a b p (is_open a) (is_open b) _ _ _ _ p.closed p.closed_too (failing _ _ (ap (λ e. connects.ConnectionError e) same-driver)))
 
@@ -371,11 +371,11 @@ module _ (side : Side) (a b : Log) (p : EndedAlike side a b) where
 alike-next : (side : Side) (again too : Log → Effect) (s : ℕ) (a b : Log) (p : EndedAlike side a b) → (EndedAlike side (log_call side a [] DatagramPassed) (log_call side b [] DatagramPassed) → Alike side (log_call side a [] DatagramPassed) (log_call side b [] DatagramPassed) (again (log_call side a [] DatagramPassed)) (too (log_call side b [] DatagramPassed)))
     → (o : Option (ℕ × List ℕ)) → Alike side a b (receive_next side again s a o) (receive_next side too s b o)
 alike-next side again too s a b p f None = polled side a b p _ _ (same-wait side a b p)
-alike-next side again too s a b p f (Some d) = at (4 * d.0 == s)
+alike-next side again too s a b p f (Some d) = by (4 * d.0 == s)
   where
-    at : (m : Bool) → Alike side a b (receive_or_pass m side again a d.1) (receive_or_pass m side too b d.1)
-    at true = polls-alike side a b p DatagramReceived DatagramReceived _ _ refl refl
-    at false =
+    by : (m : Bool) → Alike side a b (receive_or_pass m side again a d.1) (receive_or_pass m side too b d.1)
+    by true = polls-alike side a b p DatagramReceived DatagramReceived _ _ refl refl
+    by false =
         let x = leaf side a b p [] [] DatagramPassed DatagramPassed replies.Done replies.Done refl refl refl refl in
         let y = f x.after in
         record { reply = y.reply; after = y.after; none = y.none ∙ x.none }

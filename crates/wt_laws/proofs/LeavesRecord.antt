@@ -32,7 +32,7 @@ use Rattle.wt_wire.specs.declared.lookup.Lookup.{Lookup}
 use Rattle.wt_wire.specs.declared.side.Side.{Side}
 use Rattle.wt_laws.proofs.During.{why-reply}
 use Rattle.wt_laws.proofs.Steps.{calls-logged, kept-flush}
-use Rattle.wt_laws.proofs.TakenLaws.{by-test, opening-out}
+use Rattle.wt_laws.proofs.WrittenOut.{by-test, opening-out}
 use Rattle.wt_laws.specs.Exactly.{response_by}
 use Rattle.wt_laws.specs.LeavesRecord.{LeavesRecord, is_handshake_call, is_without_session}
 use Rattle.wt_spec.specs.Answers.{answer_to, call_effect, in_session, is_lawful, log_after}
@@ -222,7 +222,7 @@ module _ (side : Side) (log : Log) where
   ends-read id own (responses.Fault code) = ends (own ++ close_when_open log (code_of code)) _
   ends-read id own responses.Ended = ends (own ++ close_when_open log 0) _
   ends-read id own responses.Incomplete = by-test Ends (is_open log) _ _ (λ o. goes-on _ refl) (λ o. ends own _)
-  ends-read id own (responses.Response fields at) = by-test Ends (not (has_success fields)) _ _ (λ s. ends (own ++ close_when_open log 0) _) (λ s. by-test Ends (is_open log) _ _ (λ o. goes-on _ refl) (λ o. ends own _))
+  ends-read id own (responses.Response fields offset) = by-test Ends (not (has_success fields)) _ _ (λ s. ends (own ++ close_when_open log 0) _) (λ s. by-test Ends (is_open log) _ _ (λ o. goes-on _ refl) (λ o. ends own _))
 
   ends-send : (id : ℕ) (own : List Action) (left : List ℕ) → Ends (send_request side log id own left)
   ends-send id own left =

@@ -13,7 +13,7 @@ pub mod RequestLaws
 pub mod SessionLaws
 pub mod ReadLaws
 pub mod DatagramLaws
-pub mod DatagramTold
+pub mod DatagramReported
 pub mod EndLaws
 pub mod AfterEnd
 pub mod Cutting
@@ -22,7 +22,7 @@ pub mod Closings
 pub mod Sends
 pub mod SettingsLaws
 pub mod SendLaws
-pub mod TakenLaws
+pub mod WrittenOut
 pub mod HeaderLaws
 pub mod PendingLaws
 pub mod SessionStream
@@ -38,7 +38,7 @@ pub mod Theorems
 pub mod Recorded
 pub mod TurnCauses
 pub mod GivenOnce
-pub mod RequestTold
+pub mod RequestReported
 pub mod Endings
 pub mod FaultLaws
 pub mod FaultlessLaws

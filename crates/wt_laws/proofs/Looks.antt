@@ -13,7 +13,7 @@ use Rattle.wt_laws.proofs.Classified.{are-peers, is_peers, next-is-due}
 use Rattle.wt_laws.proofs.Steps.{blind-actions, blind-flush, calls-logged}
 use Rattle.wt_laws.specs.Reachable.{is_among}
 use Rattle.wt_spec.specs.Connection.{next_datagram, next_due, read_datagram}
-use Rattle.wt_spec.specs.Driver.{releases, settled_datagrams, stream_table}
+use Rattle.wt_spec.specs.Driver.{releases, released_datagrams, stream_table}
 use Rattle.wt_spec.specs.Effect.{log_call}
 use Rattle.wt_spec.specs.Scan.{stream_ids}
 use Rattle.wt_spec.specs.StreamTable.{Classified}
@@ -64,11 +64,11 @@ tally-drops f g h k kind n (suc count) e t m l u =
 
 ids-long : (f : ℕ → Bool) (kind n count : ℕ) → tally f (stream_ids kind n count) ≤ count
 ids-long f kind n zero = omega arith
-ids-long f kind n (suc count) = at (f (4 * n + kind)) (ids-long f kind (suc n) count)
+ids-long f kind n (suc count) = by (f (4 * n + kind)) (ids-long f kind (suc n) count)
   where
-    at : (b : Bool) → tally f (stream_ids kind (suc n) count) ≤ count → add_unless b (tally f (stream_ids kind (suc n) count)) ≤ suc count
-    at true l = omega arith
-    at false l = omega arith
+    by : (b : Bool) → tally f (stream_ids kind (suc n) count) ≤ count → add_unless b (tally f (stream_ids kind (suc n) count)) ≤ suc count
+    by true l = omega arith
+    by false l = omega arith
 
 -- ---- streams
 
@@ -84,10 +84,10 @@ from-or true b f g e = f refl
 from-or false b f g e = g e
 
 pub among-kind : (side : Side) (events : List Event) (k kind : ℕ) → is_peers side events k ≡ true → (k % 4 == kind) ≡ true → is_among kind (peer_count side events kind) k ≡ true
-among-kind side events k kind p e = from-or (is_among (peer_uni side) _ k) (is_among (peer_bi side) _ k) (at (peer_uni side)) (at (peer_bi side)) p
+among-kind side events k kind p e = from-or (is_among (peer_uni side) _ k) (is_among (peer_bi side) _ k) (by (peer_uni side)) (by (peer_bi side)) p
   where
-    at : (other : ℕ) → is_among other (peer_count side events other) k ≡ true → is_among kind (peer_count side events kind) k ≡ true
-    at other q =
+    by : (other : ℕ) → is_among other (peer_count side events other) k ≡ true → is_among kind (peer_count side events kind) k ≡ true
+    by other q =
         let a = eqb-true (k % 4) other (and_parts (k % 4 == other) _ q).0 in
         let b = eqb-true (k % 4) kind e in
         subst (λ n. is_among n (peer_count side events n) k ≡ true) (sym a ∙ b) q
@@ -108,14 +108,14 @@ pass-drops side log kind s c own e =
 
 -- ---- datagrams
 
-datagram-within : (side : Side) (log : Log) (d : ℕ × List ℕ) (b : Bool) → (if b then read_datagram (slice_get (datagrams_of (events_of log)) (settled_datagrams (calls_of log))) else None) ≡ Some d
-    → settled_datagrams (calls_of log) < length (datagrams_of (events_of log))
-datagram-within side log d true e = at (slice_get (datagrams_of (events_of log)) (settled_datagrams (calls_of log))) refl e
+datagram-within : (side : Side) (log : Log) (d : ℕ × List ℕ) (b : Bool) → (if b then read_datagram (slice_get (datagrams_of (events_of log)) (released_datagrams (calls_of log))) else None) ≡ Some d
+    → released_datagrams (calls_of log) < length (datagrams_of (events_of log))
+datagram-within side log d true e = by (slice_get (datagrams_of (events_of log)) (released_datagrams (calls_of log))) refl e
   where
-    at : (o : Option (List ℕ)) → slice_get (datagrams_of (events_of log)) (settled_datagrams (calls_of log)) ≡ o → read_datagram o ≡ Some d → settled_datagrams (calls_of log) < length (datagrams_of (events_of log))
-    at None i e = absurd (cc)
-    at (Some piece) i e = slice_get_within (datagrams_of (events_of log)) (settled_datagrams (calls_of log)) piece i
+    by : (o : Option (List ℕ)) → slice_get (datagrams_of (events_of log)) (released_datagrams (calls_of log)) ≡ o → read_datagram o ≡ Some d → released_datagrams (calls_of log) < length (datagrams_of (events_of log))
+    by None i e = absurd (cc)
+    by (Some piece) i e = slice_get_within (datagrams_of (events_of log)) (released_datagrams (calls_of log)) piece i
 datagram-within side log d false e = absurd (cc)
 
-pub next-within : (side : Side) (log : Log) (d : ℕ × List ℕ) → next_datagram side log ≡ Some d → settled_datagrams (calls_of log) < length (datagrams_of (events_of log))
-next-within side log d e = datagram-within side log d (nat_lt (settled_datagrams (calls_of log)) (stream_table side log).progress.datagrams) e
+pub next-within : (side : Side) (log : Log) (d : ℕ × List ℕ) → next_datagram side log ≡ Some d → released_datagrams (calls_of log) < length (datagrams_of (events_of log))
+next-within side log d e = datagram-within side log d (nat_lt (released_datagrams (calls_of log)) (stream_table side log).progress.datagrams) e

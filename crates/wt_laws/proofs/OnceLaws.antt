@@ -34,9 +34,9 @@ use Rattle.wt_wire.specs.declared.side.StreamEnd.TheVariants as ends
 
 -- the verdict is that of a stream that comes once
 abbrev pub is_once : Verdict → Bool
-is_once (verdicts.Control at) = true
-is_once (verdicts.Encoder at) = true
-is_once (verdicts.Decoder at) = true
+is_once (verdicts.Control offset) = true
+is_once (verdicts.Encoder offset) = true
+is_once (verdicts.Decoder offset) = true
 is_once _ = false
 
 abbrev NotOnce : Option Verdict → Type 0
@@ -52,13 +52,13 @@ walk-not-once decide d [] s stop (suc rest) q = tt
 walk-not-once decide d [] s stop zero q = q
 walk-not-once decide d (b ∷ bytes) s stop (suc rest) q = walk-not-once decide d bytes s stop rest q
 walk-not-once decide d (b ∷ bytes) s (Some v) zero q = q
-walk-not-once decide d (b ∷ bytes) s None zero q = at (decide s (b ∷ bytes)) (d s (b ∷ bytes)) (walk-not-once decide d bytes)
+walk-not-once decide d (b ∷ bytes) s None zero q = by (decide s (b ∷ bytes)) (d s (b ∷ bytes)) (walk-not-once decide d bytes)
   where
-    at : (x : Step ℕ Verdict) → StopsNotOnce x → ((s : ℕ) (stop : Option Verdict) (n : ℕ) → NotOnce stop → NotOnce (walk decide s stop n bytes).stop)
+    by : (x : Step ℕ Verdict) → StopsNotOnce x → ((s : ℕ) (stop : Option Verdict) (n : ℕ) → NotOnce stop → NotOnce (walk decide s stop n bytes).stop)
         → NotOnce (step_on (record { state = s; stop = None; between = false }) (λ t stop n. walk decide t stop (n - 1) bytes) s x).stop
-    at Cut p f = tt
-    at (Goes t n) p f = f t None (n - 1) tt
-    at (Stops v n) p f = f s (Some v) (n - 1) p
+    by Cut p f = tt
+    by (Goes t n) p f = f t None (n - 1) tt
+    by (Stops v n) p f = f s (Some v) (n - 1) p
 
 session-not-once : (id at_ : ℕ) → is_once (session_verdict id at_) ≡ false
 session-not-once id at_ = by (id % 4 == 0)
@@ -113,11 +113,11 @@ no-offset _ _ _ e = refl
 
 first-none : (offset : Verdict → Option ℕ) (cs : List Classified) (x : Classified) → offset x.verdict ≡ None → first_at offset cs ≡ None → first_at offset (cs ++ x ∷ []) ≡ None
 first-none offset [] x o e = ap (λ (z : Option ℕ). or_later (offset_with_id x.id z) None) o
-first-none offset (c ∷ cs) x o e = at (offset_with_id c.id (offset c.verdict)) e (first-none offset cs x o)
+first-none offset (c ∷ cs) x o e = by (offset_with_id c.id (offset c.verdict)) e (first-none offset cs x o)
   where
-    at : (y : Option (ℕ × ℕ)) → or_later y (first_at offset cs) ≡ None → (first_at offset cs ≡ None → first_at offset (cs ++ x ∷ []) ≡ None) → or_later y (first_at offset (cs ++ x ∷ [])) ≡ None
-    at None e f = f e
-    at (Some y) e f = absurd (cc)
+    by : (y : Option (ℕ × ℕ)) → or_later y (first_at offset cs) ≡ None → (first_at offset cs ≡ None → first_at offset (cs ++ x ∷ []) ≡ None) → or_later y (first_at offset (cs ++ x ∷ [])) ≡ None
+    by None e f = f e
+    by (Some y) e f = absurd (cc)
 
 -- of another kind
 one-other : (offset : Verdict → Option ℕ) (cs : List Classified) (x : Classified) → offset x.verdict ≡ None → AtMostOne offset cs → AtMostOne offset (cs ++ x ∷ [])
@@ -127,11 +127,11 @@ one-other offset (c ∷ cs) x o a = (λ s. first-none offset cs x o (a.0 s), one
 -- the first of its kind
 one-first : (offset : Verdict → Option ℕ) (cs : List Classified) (x : Classified) → first_at offset cs ≡ None → AtMostOne offset (cs ++ x ∷ [])
 one-first offset [] x e = (λ s. refl, tt)
-one-first offset (c ∷ cs) x e = (λ s. absurd (taken (offset c.verdict) s e), one-first offset cs x (later (offset_with_id c.id (offset c.verdict)) e))
+one-first offset (c ∷ cs) x e = (λ s. absurd (none_there (offset c.verdict) s e), one-first offset cs x (later (offset_with_id c.id (offset c.verdict)) e))
   where
-    taken : (o : Option ℕ) → is_some o ≡ true → or_later (offset_with_id c.id o) (first_at offset cs) ≡ None → ⊥
-    taken None s e = absurd (cc)
-    taken (Some n) s e = absurd (cc)
+    none_there : (o : Option ℕ) → is_some o ≡ true → or_later (offset_with_id c.id o) (first_at offset cs) ≡ None → ⊥
+    none_there None s e = absurd (cc)
+    none_there (Some n) s e = absurd (cc)
 
     later : (y : Option (ℕ × ℕ)) → or_later y (first_at offset cs) ≡ None → first_at offset cs ≡ None
     later None e = e

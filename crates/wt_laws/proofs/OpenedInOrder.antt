@@ -32,7 +32,7 @@ one-more _ log n p = p
 -- ---- a call's own
 
 small-kind : (side : Side) (kind : ℕ) → (kind == local_uni side || kind == local_bi side) ≡ true → kind < 4
-small-kind side kind l = at (kind == local_uni side) refl (kind == local_bi side) refl l
+small-kind side kind l = by (kind == local_uni side) refl (kind == local_bi side) refl l
   where
     uni : (side : Side) → local_uni side < 4
     uni Client = omega arith
@@ -42,10 +42,10 @@ small-kind side kind l = at (kind == local_uni side) refl (kind == local_bi side
     bi Client = omega arith
     bi Server = omega arith
 
-    at : (b : Bool) → (kind == local_uni side) ≡ b → (c : Bool) → (kind == local_bi side) ≡ c → (b || c) ≡ true → kind < 4
-    at true e c f l = subst (λ (n : ℕ). n < 4) (sym (eqb-true kind (local_uni side) e)) (uni side)
-    at false e true f l = subst (λ (n : ℕ). n < 4) (sym (eqb-true kind (local_bi side) f)) (bi side)
-    at false e false f l = absurd (cc)
+    by : (b : Bool) → (kind == local_uni side) ≡ b → (c : Bool) → (kind == local_bi side) ≡ c → (b || c) ≡ true → kind < 4
+    by true e c f l = subst (λ (n : ℕ). n < 4) (sym (eqb-true kind (local_uni side) e)) (uni side)
+    by false e true f l = subst (λ (n : ℕ). n < 4) (sym (eqb-true kind (local_bi side) f)) (bi side)
+    by false e false f l = absurd (cc)
 
 own-next : (side : Side) (turn : Turn) (log : Log) (a : Action) → ActionCause side turn log a → IsNext log a
 own-next side turn log (actions.Opened id) c =
@@ -97,20 +97,20 @@ none-order [] log q p = p
 none-order (a ∷ as_) log q p = none-order as_ (Sent a ∷ log) q.1 (one-more a log (q.0 log) p)
 
 -- what the driver sends after an opening
-abbrev Behind : Side → ℕ → ℕ → List Stopped → ℕ → Option Ending → List Action
-Behind side credit sent stops session ending = send_of (local_uni side) (drop sent (take credit local_control_bytes)) ++ stop_actions stops ++ close_actions session ending
+abbrev DriverSends : Side → ℕ → ℕ → List Stopped → ℕ → Option Ending → List Action
+DriverSends side credit sent stops session ending = send_of (local_uni side) (drop sent (take credit local_control_bytes)) ++ stop_actions stops ++ close_actions session ending
 
-none-behind : (side : Side) (credit sent : ℕ) (stops : List Stopped) (session : ℕ) (ending : Option Ending) → NoneOpens (Behind side credit sent stops session ending)
-none-behind side credit sent stops session ending =
+none-after : (side : Side) (credit sent : ℕ) (stops : List Stopped) (session : ℕ) (ending : Option Ending) → NoneOpens (DriverSends side credit sent stops session ending)
+none-after side credit sent stops session ending =
     let piece = send_of (local_uni side) (drop sent (take credit local_control_bytes)) in
     none-append (piece ++ stop_actions stops) (close_actions session ending) (none-append piece (stop_actions stops) (none-send (local_uni side) (drop sent (take credit local_control_bytes))) (none-stops stops)) (none-closes session ending)
 
 driver-order : (side : Side) (log : Log) (b o : Bool) (credit sent : ℕ) (stops : List Stopped) (session : ℕ) (ending : Option Ending) → (o ≡ false → IsNext log (actions.Opened (local_uni side))) → OpenedInOrder log
     → OpenedInOrder (with_actions (control_actions b (local_uni side) credit (record { opened = o; sent = sent }) ++ stop_actions stops ++ close_actions session ending) log)
 driver-order side log false o credit sent stops session ending n p = none-order (stop_actions stops ++ close_actions session ending) log (none-append (stop_actions stops) (close_actions session ending) (none-stops stops) (none-closes session ending)) p
-driver-order side log true true credit sent stops session ending n p = none-order (Behind side credit sent stops session ending) log (none-behind side credit sent stops session ending) p
+driver-order side log true true credit sent stops session ending n p = none-order (DriverSends side credit sent stops session ending) log (none-after side credit sent stops session ending) p
 driver-order side log true false credit sent stops session ending n p =
-    none-order (Behind side credit sent stops session ending) (Sent (actions.Opened (local_uni side)) ∷ log) (none-behind side credit sent stops session ending) (n refl, p)
+    none-order (DriverSends side credit sent stops session ending) (Sent (actions.Opened (local_uni side)) ∷ log) (none-after side credit sent stops session ending) (n refl, p)
 
 first-control : (side : Side) (before : List Action) → local_count before (local_uni side) ≡ 0 → local_uni side / 4 ≡ local_count before (local_uni side % 4)
 first-control Client before z = sym z
@@ -118,11 +118,11 @@ first-control Server before z = sym z
 
 flush-order : (side : Side) (e : Entry) (log : Log) → OpenedInOrder (e ∷ log) → OpenedInOrder (log_and_flush side log e)
 unfolding flush
-flush-order side e log p = at (is_moment e && is_open (e ∷ log))
+flush-order side e log p = by (is_moment e && is_open (e ∷ log))
   where
-    at : (b : Bool) → OpenedInOrder (apply_if b (with_actions (pending_actions side (e ∷ log))) (e ∷ log))
-    at false = p
-    at true =
+    by : (b : Bool) → OpenedInOrder (apply_if b (with_actions (pending_actions side (e ∷ log))) (e ∷ log))
+    by false = p
+    by true =
         driver-order side (e ∷ log) (transport_view side (e ∷ log)).may_open (control_sent side (e ∷ log)).opened (transport_view side (e ∷ log)).credit (control_sent side (e ∷ log)).sent (stream_table side (e ∷ log)).progress.stops (session_id (established_session (calls_of (e ∷ log)))) (stream_table side (e ∷ log)).progress.ending
         (λ o. first-control side (actions_of (e ∷ log)) (eqb-true (local_count (actions_of (e ∷ log)) (local_uni side)) 0 (not-false (local_count (actions_of (e ∷ log)) (local_uni side) == 0) o))) p
 

@@ -20,32 +20,32 @@ IsKnown k cs = is_some (verdict_of k cs) ≡ true
 -- one more stream stays known
 known-more : (k : ℕ) (cs : List Classified) (x : Classified) → IsKnown k cs → IsKnown k (cs ++ x ∷ [])
 known-more k [] x p = absurd (cc)
-known-more k (c ∷ cs) x p = at (c.id == k) p (known-more k cs x)
+known-more k (c ∷ cs) x p = by (c.id == k) p (known-more k cs x)
   where
-    at : (b : Bool) → is_some (if b then Some c.verdict else verdict_of k cs) ≡ true → (IsKnown k cs → IsKnown k (cs ++ x ∷ [])) → is_some (if b then Some c.verdict else verdict_of k (cs ++ x ∷ [])) ≡ true
-    at true p f = refl
-    at false p f = f p
+    by : (b : Bool) → is_some (if b then Some c.verdict else verdict_of k cs) ≡ true → (IsKnown k cs → IsKnown k (cs ++ x ∷ [])) → is_some (if b then Some c.verdict else verdict_of k (cs ++ x ∷ [])) ≡ true
+    by true p f = refl
+    by false p f = f p
 
 known-last : (cs : List Classified) (x : Classified) → IsKnown x.id (cs ++ x ∷ [])
 known-last [] x = ap (λ (b : Bool). is_some (if b then Some x.verdict else None)) (eq-eqb x.id x.id refl)
-known-last (c ∷ cs) x = at (c.id == x.id) (known-last cs x)
+known-last (c ∷ cs) x = by (c.id == x.id) (known-last cs x)
   where
-    at : (b : Bool) → IsKnown x.id (cs ++ x ∷ []) → is_some (if b then Some c.verdict else verdict_of x.id (cs ++ x ∷ [])) ≡ true
-    at true p = refl
-    at false p = p
+    by : (b : Bool) → IsKnown x.id (cs ++ x ∷ []) → is_some (if b then Some c.verdict else verdict_of x.id (cs ++ x ∷ [])) ≡ true
+    by true p = refl
+    by false p = p
 
 -- what is known with one more stream is that one, or was known
 known-before : (k : ℕ) (cs : List Classified) (x : Classified) → (x.id ≡ k → ⊥) → IsKnown k (cs ++ x ∷ []) → IsKnown k cs
-known-before k [] x n p = at (x.id == k) refl p
+known-before k [] x n p = by (x.id == k) refl p
   where
-    at : (b : Bool) → (x.id == k) ≡ b → is_some (if b then Some x.verdict else None) ≡ true → IsKnown k []
-    at true e p = absurd (n (eqb-true x.id k e))
-    at false e p = p
-known-before k (c ∷ cs) x n p = at (c.id == k) p (known-before k cs x n)
+    by : (b : Bool) → (x.id == k) ≡ b → is_some (if b then Some x.verdict else None) ≡ true → IsKnown k []
+    by true e p = absurd (n (eqb-true x.id k e))
+    by false e p = p
+known-before k (c ∷ cs) x n p = by (c.id == k) p (known-before k cs x n)
   where
-    at : (b : Bool) → is_some (if b then Some c.verdict else verdict_of k (cs ++ x ∷ [])) ≡ true → (IsKnown k (cs ++ x ∷ []) → IsKnown k cs) → is_some (if b then Some c.verdict else verdict_of k cs) ≡ true
-    at true p f = refl
-    at false p f = f p
+    by : (b : Bool) → is_some (if b then Some c.verdict else verdict_of k (cs ++ x ∷ [])) ≡ true → (IsKnown k (cs ++ x ∷ []) → IsKnown k cs) → is_some (if b then Some c.verdict else verdict_of k cs) ≡ true
+    by true p f = refl
+    by false p f = f p
 
 -- ---- one more stream after the others
 
@@ -83,11 +83,11 @@ has-self k xs false e = ap (λ (c : Bool). c || has k xs) (eq-eqb k k refl)
 
 has-kept : (k j : ℕ) (xs : List ℕ) (b : Bool) → has j xs ≡ true → has j (if b then xs else k ∷ xs) ≡ true
 has-kept k j xs true e = e
-has-kept k j xs false e = at (k == j)
+has-kept k j xs false e = by (k == j)
   where
-    at : (b : Bool) → (b || has j xs) ≡ true
-    at true = refl
-    at false = e
+    by : (b : Bool) → (b || has j xs) ≡ true
+    by true = refl
+    by false = e
 
 has-either : (k j : ℕ) (xs : List ℕ) (b : Bool) {P : Type 0} → (k ≡ j → P) → (has j xs ≡ true → P) → has j (if b then xs else k ∷ xs) ≡ true → P
 has-either k j xs true f g e = g e
@@ -103,13 +103,13 @@ ordered-dequeued kind k t f p = record {
 ordered-classified : (kind k : ℕ) (v : Verdict) (e : Consequence) (t : StreamTable) → has k t.dequeued ≡ true → (IsKnown k t.classified → ⊥) → Ordered kind t → Ordered kind (with_classified k v e t)
 ordered-classified kind k v e t h n p = record {
   below = λ j i g m o l. known-more i t.classified (record { id = k; verdict = v; surplus = e.surplus }) (p.below j i g m o l);
-  known = λ j q m. at j q m (k == j) refl;
+  known = λ j q m. by j q m (k == j) refl;
   order = in-order-more kind t.classified (record { id = k; verdict = v; surplus = e.surplus }) (λ m j o q. before m j o q) p.order;
 }
   where
-    at : (j : ℕ) → IsKnown j (t.classified ++ record { id = k; verdict = v; surplus = e.surplus } ∷ []) → j % 4 ≡ kind → (b : Bool) → (k == j) ≡ b → has j t.dequeued ≡ true
-    at j q m true i = subst (λ (z : ℕ). has z t.dequeued ≡ true) (eqb-true k j i) h
-    at j q m false i = p.known j (known-before j t.classified (record { id = k; verdict = v; surplus = e.surplus }) (λ z. absurd (let y = eq-eqb k j z in cc)) q) m
+    by : (j : ℕ) → IsKnown j (t.classified ++ record { id = k; verdict = v; surplus = e.surplus } ∷ []) → j % 4 ≡ kind → (b : Bool) → (k == j) ≡ b → has j t.dequeued ≡ true
+    by j q m true i = subst (λ (z : ℕ). has z t.dequeued ≡ true) (eqb-true k j i) h
+    by j q m false i = p.known j (known-before j t.classified (record { id = k; verdict = v; surplus = e.surplus }) (λ z. absurd (let y = eq-eqb k j z in cc)) q) m
 
     before : k % 4 ≡ kind → (j : ℕ) → j % 4 ≡ kind → IsKnown j t.classified → j < k
     before m j o q = less (nat_lt j k) refl (j == k) refl
@@ -166,11 +166,11 @@ module _ (kind : ℕ) (ready : Bool) (calls : CallView) (rule : SlotRule) where
   module _ (one : rule.slots ≡ 1) (small : kind < 4) where
     -- the stream of this index, or one before it
     at-index : (n j : ℕ) (cs : List Classified) → IsKnown (4 * n + kind) cs → ((i : ℕ) → i % 4 ≡ kind → i / 4 < n → IsKnown i cs) → j % 4 ≡ kind → j / 4 < suc n → IsKnown j cs
-    at-index n j cs k f m l = at (nat_lt (j / 4) n) refl
+    at-index n j cs k f m l = by (nat_lt (j / 4) n) refl
       where
-        at : (b : Bool) → nat_lt (j / 4) n ≡ b → IsKnown j cs
-        at true e = f j m (ltb-true (j / 4) n e)
-        at false e = let x = ltb-false (j / 4) n e in let y : 4 * n + kind ≡ j = omega arith in subst (λ (z : ℕ). IsKnown z cs) y k
+        by : (b : Bool) → nat_lt (j / 4) n ≡ b → IsKnown j cs
+        by true e = f j m (ltb-true (j / 4) n e)
+        by false e = let x = ltb-false (j / 4) n e in let y : 4 * n + kind ≡ j = omega arith in subst (λ (z : ℕ). IsKnown z cs) y k
 
     look-classify : (n : ℕ) (b : Bool) (s : Scan) → has (4 * n + kind) s.table.dequeued ≡ true → (IsKnown (4 * n + kind) s.table.classified → ⊥) → Looked n s → Looked (suc n) (classify b calls rule (4 * n + kind) s)
     look-classify n true s h u p =

@@ -43,7 +43,7 @@ use Rattle.wt_laws.specs.ReplyTells.{given_stream}
 use Rattle.wt_spec.specs.Answers.{answer_to, call_effect, in_session, is_client, is_first, is_lawful, may_call, on_session, turn_effect}
 use Rattle.wt_spec.specs.Connect.{address_of, connect_to, outcome_error, port_of, unless_stopped, with_address}
 use Rattle.wt_spec.specs.Connection.{accept_due, accept_first, accept_stream, datagram_allowed, datagram_within, give_or_pass, is_for_session, is_opening, next_datagram, next_due, open_stream, pass_stream, poll_opening, receive_datagram, receive_first, receive_next, receive_or_pass, send_datagram, stream_header}
-use Rattle.wt_spec.specs.Driver.{established_session, session_id, settings_came, settled_datagrams, stream_table}
+use Rattle.wt_spec.specs.Driver.{established_session, session_id, settings_came, released_datagrams, stream_table}
 use Rattle.wt_spec.specs.Effect.{Effect, head_left, is_covered, is_empty, log_call, pending_or_failed, poll_only}
 use Rattle.wt_spec.specs.Halves.{all_written_reply, reply_at_end, exact_at_end, has_receiving_half, has_sending_half, is_done, on_half, read, read_exact, read_reply, reset, stopped_reply, unread_body, write_by, write_error, written_reply}
 use Rattle.wt_spec.specs.Handshake.{Connecting, HandshakeState, Responding, accept_response, continue_by, continue_connect, deliver, handshake_state, has_success, is_continuable, is_refused, open_request, queued_requests, read_response, reject_response, requested_stream, respond, response_head, send_request, unless_reserved}
@@ -116,7 +116,7 @@ module _ (side : Side) (log : Log) where
   waits-read id own (responses.Fault code) = and-false (is_open log)
   waits-read id own responses.Ended = and-false (is_open log)
   waits-read id own responses.Incomplete = if-open (is_open log) _ _ refl refl ∙ and-true (is_open log)
-  waits-read id own (responses.Response fields at) = unless-success (has_success fields) (is_open log) _ _ _ refl refl refl
+  waits-read id own (responses.Response fields offset) = unless-success (has_success fields) (is_open log) _ _ _ refl refl refl
 
   -- no rest, an ended connection, a stop, a covered rest
   sent-in-order : (e o s c w : Bool) (x y z u v : Effect) → (e ≡ true → c ≡ true) → Waits (o && w) x → Waits false y → Waits false z → Waits (o && w) u → Waits true v
@@ -375,7 +375,7 @@ record Decides (side : Side) (turn : Turn) (start : Log) (x : Effect) : Type 0 w
   pub exactly : Waits (is_open decided && has_nothing_left side turn decided) x
   pub gives : (r : Reply) → passing_reply side turn decided ≡ Some r → x.reply ≡ r
 
--- the reply is the one that is told
+-- the reply is the one that is reported
 reported : (o : Option Reply) (x y : Reply) → o ≡ Some x → (r : Reply) → o ≡ Some r → x ≡ y → y ≡ r
 reported o x y e r f g = let z : x ≡ r = cc in sym g ∙ z
 
@@ -388,30 +388,30 @@ module _ (side : Side) (turn : Turn) where
 
   -- ---- accepts
 
-  module _ (kind : ℕ) (a : is_accept turn ≡ true) (n : is_receive turn ≡ false) (i : accepted_kind side turn ≡ kind) (w : (g : Log) → has_nothing_left side turn g ≡ has_no_stream side g kind) (reply : ℕ → Reply) (v : (g : Log) → passing_reply side turn g ≡ Some (session_reply (λ s. stream_reply side g reply (next_due side g kind s)) (established_session (calls_of g)))) (q : (k : ℕ) → is_pending (reply k) ≡ false) (s at : ℕ) where
-    nothing-so : (log : Log) (o : Option Classified) → established_session (calls_of log) ≡ Some (s, at) → next_due side log kind s ≡ o → has_nothing_left side turn log ≡ not (is_some o)
+  module _ (kind : ℕ) (a : is_accept turn ≡ true) (n : is_receive turn ≡ false) (i : accepted_kind side turn ≡ kind) (w : (g : Log) → has_nothing_left side turn g ≡ has_no_stream side g kind) (reply : ℕ → Reply) (v : (g : Log) → passing_reply side turn g ≡ Some (session_reply (λ s. stream_reply side g reply (next_due side g kind s)) (established_session (calls_of g)))) (q : (k : ℕ) → is_pending (reply k) ≡ false) (s offset : ℕ) where
+    nothing-so : (log : Log) (o : Option Classified) → established_session (calls_of log) ≡ Some (s, offset) → next_due side log kind s ≡ o → has_nothing_left side turn log ≡ not (is_some o)
     nothing-so log o d e = w log ∙ ap (of_session (λ j. not (is_some (next_due side log kind j)))) d ∙ ap (λ z. not (is_some z)) e
 
-    gives-so : (log : Log) (o : Option Classified) → established_session (calls_of log) ≡ Some (s, at) → next_due side log kind s ≡ o → passing_reply side turn log ≡ Some (stream_reply side log reply o)
+    gives-so : (log : Log) (o : Option Classified) → established_session (calls_of log) ≡ Some (s, offset) → next_due side log kind s ≡ o → passing_reply side turn log ≡ Some (stream_reply side log reply o)
     gives-so log o d e = v log ∙ ap (λ z. Some (session_reply (λ j. stream_reply side log reply (next_due side log kind j)) z)) d ∙ ap (λ z. Some (stream_reply side log reply z)) e
 
     -- the stream that is found is the one that is due
-    same-found : (log : Log) (k : ℕ) (b : Bool) (o : Option Classified) → established_session (calls_of log) ≡ Some (s, at) → next_due side log kind s ≡ o → (f : FoundStream side turn log k b) → o ≡ Some f.found × (f.session ≡ s)
+    same-found : (log : Log) (k : ℕ) (b : Bool) (o : Option Classified) → established_session (calls_of log) ≡ Some (s, offset) → next_due side log kind s ≡ o → (f : FoundStream side turn log k b) → o ≡ Some f.found × (f.session ≡ s)
     same-found log k b o d e f =
         let same : f.session ≡ s = ap session_id (sym f.is_established ∙ d) in
-        (sym e ∙ ap (λ m. next_due side log m s) (sym i) ∙ ap (λ j. next_due side log (accepted_kind side turn) j) (sym same) ∙ f.next, same)
+        (sym e ∙ ap (λ m. next_due side log m s) (sym i) ∙ ap (λ j. next_due side log (accepted_kind side turn) j) (sym same) ∙ f.is_next, same)
 
-    no-other : (log : Log) (k : ℕ) (c : Classified) → established_session (calls_of log) ≡ Some (s, at) → next_due side log kind s ≡ Some c → is_for_session s c.verdict ≡ true → FoundStream side turn log k false → ⊥
+    no-other : (log : Log) (k : ℕ) (c : Classified) → established_session (calls_of log) ≡ Some (s, offset) → next_due side log kind s ≡ Some c → is_for_session s c.verdict ≡ true → FoundStream side turn log k false → ⊥
     no-other log k c d e t f =
         let x = same-found log k false (Some c) d e f in
         let y : c ≡ f.found = cc in
         absurd (let z = ap (λ (j : Classified). is_for_session s j.verdict) y in let v = ap (λ j. is_for_session j f.found.verdict) x.1 in let u = f.named in cc)
 
-    none-found : (log : Log) (k : ℕ) → established_session (calls_of log) ≡ Some (s, at) → next_due side log kind s ≡ None → FoundStream side turn log k false → ⊥
+    none-found : (log : Log) (k : ℕ) → established_session (calls_of log) ≡ Some (s, offset) → next_due side log kind s ≡ None → FoundStream side turn log k false → ⊥
     none-found log k d e f = absurd (let x = (same-found log k false None d e f).0 in cc)
 
     decides-given : (again : Log → Effect) (log : Log) (c : Classified) (b : Bool) → Decides side turn (pass_stream side log c.id) (again (pass_stream side log c.id))
-        → established_session (calls_of log) ≡ Some (s, at) → next_due side log kind s ≡ Some c → is_for_session s c.verdict ≡ b → Decides side turn log (give_or_pass b side reply again log c.id)
+        → established_session (calls_of log) ≡ Some (s, offset) → next_due side log kind s ≡ Some c → is_for_session s c.verdict ≡ b → Decides side turn log (give_or_pass b side reply again log c.id)
     decides-given again log c true r d e t = record {
       decided = log;
       passes = PassesNone;
@@ -423,7 +423,7 @@ module _ (side : Side) (turn : Turn) where
     }
     decides-given again log c false r d e t = record {
       decided = r.decided;
-      passes = PassesStream c.id (record { accepts = a; session = s; offset = at; is_established = d; found = c; next = ap (λ m. next_due side log m s) i ∙ e; same = refl; named = t }) r.passes;
+      passes = PassesStream c.id (record { accepts = a; session = s; offset = offset; is_established = d; found = c; is_next = ap (λ m. next_due side log m s) i ∙ e; same = refl; named = t }) r.passes;
       reaches = r.reaches;
       no_stream = r.no_stream;
       no_datagram = r.no_datagram;
@@ -432,7 +432,7 @@ module _ (side : Side) (turn : Turn) where
     }
 
     decides-due : (again : Log → Effect) (log : Log) (o : Option Classified) → ((c : Classified) → next_due side log kind s ≡ Some c → Decides side turn (pass_stream side log c.id) (again (pass_stream side log c.id)))
-        → established_session (calls_of log) ≡ Some (s, at) → next_due side log kind s ≡ o → Decides side turn log (accept_due side reply again s log o)
+        → established_session (calls_of log) ≡ Some (s, offset) → next_due side log kind s ≡ o → Decides side turn log (accept_due side reply again s log o)
     decides-due again log None f d e = record {
       decided = log;
       passes = PassesNone;
@@ -444,7 +444,7 @@ module _ (side : Side) (turn : Turn) where
     }
     decides-due again log (Some c) f d e = decides-given again log c (is_for_session s c.verdict) (f c e) d e refl
 
-    decides-first : (m : ℕ) (log : Log) → established_session (calls_of log) ≡ Some (s, at) → left_to_release side log kind < m → Decides side turn log (accept_first m side reply kind s log)
+    decides-first : (m : ℕ) (log : Log) → established_session (calls_of log) ≡ Some (s, offset) → left_to_release side log kind < m → Decides side turn log (accept_first m side reply kind s log)
     decides-first zero log d l = absurd (omega arith)
     decides-first (suc m) log d l =
         decides-due (λ later. accept_first m side reply kind s later) log (next_due side log kind s)
@@ -463,7 +463,7 @@ module _ (side : Side) (turn : Turn) where
     gives = g;
   }
 
-  decides-in : (log : Log) (call : ℕ → Effect) (o : Option (ℕ × ℕ)) → established_session (calls_of log) ≡ o → (established_session (calls_of log) ≡ None → has_nothing_left side turn log ≡ false) → (established_session (calls_of log) ≡ None → (r : Reply) → passing_reply side turn log ≡ Some r → replies.NoSession ≡ r) → ((s at : ℕ) → established_session (calls_of log) ≡ Some (s, at) → Decides side turn log (call s))
+  decides-in : (log : Log) (call : ℕ → Effect) (o : Option (ℕ × ℕ)) → established_session (calls_of log) ≡ o → (established_session (calls_of log) ≡ None → has_nothing_left side turn log ≡ false) → (established_session (calls_of log) ≡ None → (r : Reply) → passing_reply side turn log ≡ Some r → replies.NoSession ≡ r) → ((s offset : ℕ) → established_session (calls_of log) ≡ Some (s, offset) → Decides side turn log (call s))
       → Decides side turn log (in_session side log call o)
   decides-in log call None d w g f = no-session log call d (w d) (g d)
   decides-in log call (Some s) d w g f = f s.0 s.1 d
@@ -474,27 +474,27 @@ module _ (side : Side) (turn : Turn) where
   decides-accept log kind reply a n i w v q =
       decides-in log (accept_stream side reply kind log) (established_session (calls_of log)) refl (λ d. w log ∙ ap (of_session (λ j. not (is_some (next_due side log kind j)))) d)
       (λ d r x. reported (passing_reply side turn log) replies.NoSession _ (v log ∙ ap (λ z. Some (session_reply (λ j. stream_reply side log reply (next_due side log kind j)) z)) d) r x refl)
-      (λ s at d. decides-first kind a n i w reply v q s at (suc (peer_count side (events_of log) kind)) log d (at-first side log kind))
+      (λ s offset d. decides-first kind a n i w reply v q s offset (suc (peer_count side (events_of log) kind)) log d (at-first side log kind))
 
   -- ---- datagrams
 
   module _ (a : is_receive turn ≡ true) (n : is_accept turn ≡ false) (w : (g : Log) → has_nothing_left side turn g ≡ of_session (λ s. not (is_some (next_datagram side g))) (established_session (calls_of g)))
-      (v : (g : Log) → passing_reply side turn g ≡ Some (session_reply (λ s. datagram_reply side g (next_datagram side g)) (established_session (calls_of g)))) (s at : ℕ) where
-    none-so : (log : Log) (o : Option (ℕ × List ℕ)) → established_session (calls_of log) ≡ Some (s, at) → next_datagram side log ≡ o → has_nothing_left side turn log ≡ not (is_some o)
+      (v : (g : Log) → passing_reply side turn g ≡ Some (session_reply (λ s. datagram_reply side g (next_datagram side g)) (established_session (calls_of g)))) (s offset : ℕ) where
+    none-so : (log : Log) (o : Option (ℕ × List ℕ)) → established_session (calls_of log) ≡ Some (s, offset) → next_datagram side log ≡ o → has_nothing_left side turn log ≡ not (is_some o)
     none-so log o d e = w log ∙ ap (of_session (λ j. not (is_some (next_datagram side log)))) d ∙ ap (λ z. not (is_some z)) e
 
-    datagram-so : (log : Log) (o : Option (ℕ × List ℕ)) → established_session (calls_of log) ≡ Some (s, at) → next_datagram side log ≡ o → passing_reply side turn log ≡ Some (datagram_reply side log o)
+    datagram-so : (log : Log) (o : Option (ℕ × List ℕ)) → established_session (calls_of log) ≡ Some (s, offset) → next_datagram side log ≡ o → passing_reply side turn log ≡ Some (datagram_reply side log o)
     datagram-so log o d e = v log ∙ ap (λ z. Some (session_reply (λ j. datagram_reply side log (next_datagram side log)) z)) d ∙ ap (λ z. Some (datagram_reply side log z)) e
 
-    no-other-datagram : (log : Log) (x : ℕ × List ℕ) → established_session (calls_of log) ≡ Some (s, at) → next_datagram side log ≡ Some x → (4 * x.0 == s) ≡ true → FoundDatagram side turn log false → ⊥
+    no-other-datagram : (log : Log) (x : ℕ × List ℕ) → established_session (calls_of log) ≡ Some (s, offset) → next_datagram side log ≡ Some x → (4 * x.0 == s) ≡ true → FoundDatagram side turn log false → ⊥
     no-other-datagram log x d e t f =
         let same : f.session ≡ s = ap session_id (sym f.is_established ∙ d) in
-        let z = f.next in
+        let z = f.is_next in
         let y : x ≡ f.datagram = cc in
         absurd (let u = ap (λ (j : ℕ × List ℕ). 4 * j.0 == s) y in let v = ap (λ j. 4 * f.datagram.0 == j) same in let t2 = f.named in cc)
 
     decides-taken : (again : Log → Effect) (log : Log) (x : ℕ × List ℕ) (b : Bool) → Decides side turn (log_call side log [] DatagramPassed) (again (log_call side log [] DatagramPassed))
-        → established_session (calls_of log) ≡ Some (s, at) → next_datagram side log ≡ Some x → (4 * x.0 == s) ≡ b → Decides side turn log (receive_or_pass b side again log x.1)
+        → established_session (calls_of log) ≡ Some (s, offset) → next_datagram side log ≡ Some x → (4 * x.0 == s) ≡ b → Decides side turn log (receive_or_pass b side again log x.1)
     decides-taken again log x true r d e t = record {
       decided = log;
       passes = PassesNone;
@@ -506,7 +506,7 @@ module _ (side : Side) (turn : Turn) where
     }
     decides-taken again log x false r d e t = record {
       decided = r.decided;
-      passes = PassesDatagram (record { receives = a; session = s; offset = at; is_established = d; datagram = x; next = e; named = t }) r.passes;
+      passes = PassesDatagram (record { receives = a; session = s; offset = offset; is_established = d; datagram = x; is_next = e; named = t }) r.passes;
       reaches = r.reaches;
       no_stream = r.no_stream;
       no_datagram = r.no_datagram;
@@ -514,27 +514,27 @@ module _ (side : Side) (turn : Turn) where
       gives = r.gives;
     }
 
-    none-waits : (log : Log) → established_session (calls_of log) ≡ Some (s, at) → next_datagram side log ≡ None → Decides side turn log (poll_only side log (pending_or_failed side log))
+    none-waits : (log : Log) → established_session (calls_of log) ≡ Some (s, offset) → next_datagram side log ≡ None → Decides side turn log (poll_only side log (pending_or_failed side log))
     none-waits log d e = record {
       decided = log;
       passes = PassesNone;
       reaches = flush-extends side (Called Polled) log;
       no_stream = λ k f. not-accepting log k false n f;
-      no_datagram = λ f. absurd (let x = f.next in cc);
+      no_datagram = λ f. absurd (let x = f.is_next in cc);
       exactly = reply-if side log (is_open log) _ _ refl refl ∙ and-true (is_open log) ∙ ap (λ b. is_open log && b) (sym (none-so log None d e));
       gives = λ r y. reported (passing_reply side turn log) _ _ (datagram-so log None d e) r y refl;
     }
 
     decides-next : (again : Log → Effect) (log : Log) (o : Option (ℕ × List ℕ)) → ((x : ℕ × List ℕ) → next_datagram side log ≡ Some x → Decides side turn (log_call side log [] DatagramPassed) (again (log_call side log [] DatagramPassed)))
-        → established_session (calls_of log) ≡ Some (s, at) → next_datagram side log ≡ o → Decides side turn log (receive_next side again s log o)
+        → established_session (calls_of log) ≡ Some (s, offset) → next_datagram side log ≡ o → Decides side turn log (receive_next side again s log o)
     decides-next again log None f d e = none-waits log d e
     decides-next again log (Some x) f d e = decides-taken again log x (4 * x.0 == s) (f x e) d e refl
 
-    none-next : (log : Log) (o : Option (ℕ × List ℕ)) → next_datagram side log ≡ o → length (datagrams_of (events_of log)) ≤ settled_datagrams (calls_of log) → next_datagram side log ≡ None
+    none-next : (log : Log) (o : Option (ℕ × List ℕ)) → next_datagram side log ≡ o → length (datagrams_of (events_of log)) ≤ released_datagrams (calls_of log) → next_datagram side log ≡ None
     none-next log None e l = e
     none-next log (Some x) e l = let z = next-within side log x e in absurd (omega arith)
 
-    decides-receive : (m : ℕ) (log : Log) → established_session (calls_of log) ≡ Some (s, at) → length (datagrams_of (events_of log)) < settled_datagrams (calls_of log) + m → Decides side turn log (receive_first m side s log)
+    decides-receive : (m : ℕ) (log : Log) → established_session (calls_of log) ≡ Some (s, offset) → length (datagrams_of (events_of log)) < released_datagrams (calls_of log) + m → Decides side turn log (receive_first m side s log)
     decides-receive zero log d l = none-waits log d (none-next log (next_datagram side log) refl (omega arith))
     decides-receive (suc m) log d l =
         decides-next (λ later. receive_first m side s later) log (next_datagram side log)
@@ -563,18 +563,18 @@ decides-passing side log (turns.Call calls.ReceiveDatagram) p =
     let t = turns.Call calls.ReceiveDatagram in
     decides-in side t log (receive_datagram side log) (established_session (calls_of log)) refl (λ d. ap (of_session (λ j. not (is_some (next_datagram side log)))) d)
     (λ d r x. reported (passing_reply side t log) replies.NoSession _ (ap (λ z. Some (session_reply (λ j. datagram_reply side log (next_datagram side log)) z)) d) r x refl)
-    (λ s at d. decides-receive side t refl refl (λ g. refl) (λ g. refl) s at (suc (length (datagrams_of (events_of log)))) log d (omega arith))
+    (λ s offset d. decides-receive side t refl refl (λ g. refl) (λ g. refl) s offset (suc (length (datagrams_of (events_of log)))) log d (omega arith))
 decides-passing side log (turns.Call _) p = absurd (cc)
 decides-passing side log _ p = absurd (cc)
 
 -- where an accept gives no stream, none is due
 module _ (side : Side) (log : Log) (reply : Reply) (s at_ : ℕ) (d : established_session (calls_of log) ≡ Some (s, at_)) (n : given_stream reply ≡ None) where
   none-due : (give : ℕ → Reply) (kind : ℕ) → ((j : ℕ) → given_stream (give j) ≡ Some j) → reply ≡ session_reply (λ (j : ℕ). stream_reply side log give (next_due side log kind j)) (established_session (calls_of log)) → next_due side log kind s ≡ None
-  none-due give kind f e = at (next_due side log kind s) refl
+  none-due give kind f e = by (next_due side log kind s) refl
     where
-      at : (o : Option Classified) → next_due side log kind s ≡ o → o ≡ None
-      at None q = refl
-      at (Some c) q =
+      by : (o : Option Classified) → next_due side log kind s ≡ o → o ≡ None
+      by None q = refl
+      by (Some c) q =
           let x : reply ≡ give c.id = e ∙ ap (session_reply (λ (j : ℕ). stream_reply side log give (next_due side log kind j))) d ∙ ap (stream_reply side log give) q in
           let y = f c.id in let z = ap given_stream x in absurd (cc)
 
@@ -593,28 +593,28 @@ passes-extend (PassesStream k f p) = extend (extend (actions-extend (actions.Sto
 passes-extend (PassesDatagram f p) = extend (flush-extends _ (Called DatagramPassed) _) (passes-extend p)
 
 pub pending-exactly : (side : Side) (log : Log) (turn : Turn) → is_lawful side log turn ≡ true → PendingExactly side log turn
-pending-exactly side log turn l = at (is_accept turn || is_receive turn) refl
+pending-exactly side log turn l = by (is_accept turn || is_receive turn) refl
   where
-    at : (b : Bool) → (is_accept turn || is_receive turn) ≡ b → PendingExactly side log turn
-    at true p = let d = decides-passing side log turn p in record { decided = d.decided; during = record { from_start = passes-extend d.passes; to_end = d.reaches }; passes = d.passes; no_stream = d.no_stream; no_datagram = d.no_datagram; exactly = d.exactly; gives = d.gives; none_left = left-so side turn d.decided _ d.gives }
-    at false p = let d = at-once side turn log (turn_effect side log turn) p (let c = caused side turn log l in extend (steps-extend c.before) (steps-extend c.after)) (waits-turn side log turn l p) in record { decided = d.decided; during = record { from_start = passes-extend d.passes; to_end = d.reaches }; passes = d.passes; no_stream = d.no_stream; no_datagram = d.no_datagram; exactly = d.exactly; gives = d.gives; none_left = left-so side turn d.decided _ d.gives }
+    by : (b : Bool) → (is_accept turn || is_receive turn) ≡ b → PendingExactly side log turn
+    by true p = let d = decides-passing side log turn p in record { decided = d.decided; during = record { from_start = passes-extend d.passes; to_end = d.reaches }; passes = d.passes; no_stream = d.no_stream; no_datagram = d.no_datagram; exactly = d.exactly; gives = d.gives; none_left = left-so side turn d.decided _ d.gives }
+    by false p = let d = at-once side turn log (turn_effect side log turn) p (let c = caused side turn log l in extend (steps-extend c.before) (steps-extend c.after)) (waits-turn side log turn l p) in record { decided = d.decided; during = record { from_start = passes-extend d.passes; to_end = d.reaches }; passes = d.passes; no_stream = d.no_stream; no_datagram = d.no_datagram; exactly = d.exactly; gives = d.gives; none_left = left-so side turn d.decided _ d.gives }
 
 -- ---- a connection that has ended
 
 open-front : (more log : Log) → is_open (more ++ log) ≡ true → is_open log ≡ true
 open-front [] log o = o
-open-front (e ∷ more) log o = open-front more log (at (ends_by e) (list_any ends_by (more ++ log)) o)
+open-front (e ∷ more) log o = open-front more log (by (ends_by e) (list_any ends_by (more ++ log)) o)
   where
-    at : (b c : Bool) → not (b || c) ≡ true → not c ≡ true
-    at true c o = absurd (cc)
-    at false c o = o
+    by : (b c : Bool) → not (b || c) ≡ true → not c ≡ true
+    by true c o = absurd (cc)
+    by false c o = o
 
 pub none-waits-ended : (side : Side) (log : Log) (turn : Turn) → is_lawful side log turn ≡ true → is_open log ≡ false → is_pending (answer_to side log turn).reply ≡ false
-none-waits-ended side log turn l o = p.exactly ∙ ap (λ b. b && has_nothing_left side turn p.decided) (at (is_open p.decided) refl)
+none-waits-ended side log turn l o = p.exactly ∙ ap (λ b. b && has_nothing_left side turn p.decided) (by (is_open p.decided) refl)
   where
     p : PendingExactly side log turn
     p = pending-exactly side log turn l
 
-    at : (b : Bool) → is_open p.decided ≡ b → b ≡ false
-    at false e = refl
-    at true e = absurd (let x = passes-extend p.passes in let y = open-front x.0 log (ap is_open (sym x.1) ∙ e) in cc)
+    by : (b : Bool) → is_open p.decided ≡ b → b ≡ false
+    by false e = refl
+    by true e = absurd (let x = passes-extend p.passes in let y = open-front x.0 log (ap is_open (sym x.1) ∙ e) in cc)

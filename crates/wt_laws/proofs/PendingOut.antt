@@ -43,11 +43,11 @@ module _ (side : Side) (x : Entry) (log : Log) (p : PendingGoesOut side log) whe
 
 out-flush : (side : Side) (x : Entry) (log : Log) → is_moment x ≡ true → PendingGoesOut side log → PendingGoesOut side (log_and_flush side log x)
 unfolding flush
-out-flush side x log i p = at (is_open (x ∷ log)) refl
+out-flush side x log i p = by (is_open (x ∷ log)) refl
   where
-    at : (b : Bool) → is_open (x ∷ log) ≡ b → PendingGoesOut side (apply_if (is_moment x && is_open (x ∷ log)) (with_actions (pending_actions side (x ∷ log))) (x ∷ log))
-    at true c = rw (i, c) (out-open side x log p)
-    at false c = rw (i, c) (out-still side x log p (λ e earlier m o q. let y = ap is_open q in cc))
+    by : (b : Bool) → is_open (x ∷ log) ≡ b → PendingGoesOut side (apply_if (is_moment x && is_open (x ∷ log)) (with_actions (pending_actions side (x ∷ log))) (x ∷ log))
+    by true c = rw (i, c) (out-open side x log p)
+    by false c = rw (i, c) (out-still side x log p (λ e earlier m o q. let y = ap is_open q in cc))
 
 keeps-out : (side : Side) (turn : Turn) → Keeps side turn (PendingGoesOut side)
 keeps-out side turn = record {

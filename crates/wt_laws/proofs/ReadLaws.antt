@@ -21,7 +21,7 @@ use Rattle.wt_laws.specs.Laws.{ReadsFromStart, ReadsInOrder, more_read, read_fro
 use Rattle.wt_laws.specs.Reachable.{AllLawful, Exchange, exchanges, is_among}
 use Rattle.wt_laws.specs.RecordCauses.{RecordCause}
 use Rattle.wt_laws.specs.ReplyCauses.{ReplyCause}
-use Rattle.wt_laws.specs.ReplyTells.{Logged, NoRecord, OneRecord, TellsOf, ThenPolled, datagram_told, given_stream, is_quiet, read_piece, request_told, session_told}
+use Rattle.wt_laws.specs.ReplyTells.{Logged, NoRecord, OneRecord, TellsOf, ThenPolled, datagram_reported, given_stream, is_quiet, read_piece, request_reported, session_reported}
 use Rattle.wt_spec.specs.Answers.{answer_to, is_lawful, log_after, log_from}
 use Rattle.wt_spec.specs.Driver.{stream_table}
 use Rattle.wt_spec.specs.Halves.{body_start, bytes_read, has_receiving_half, is_accepted, total_read, unread_body}
@@ -40,22 +40,22 @@ record IsPrefix (k offset count : ℕ) (bytes : List ℕ) (log : Log) : Type 0 w
 
 prefix-more : (k offset count : ℕ) (bytes more : List ℕ) (log later : Log) → contents later k ≡ contents log k ++ more → IsPrefix k offset count bytes log → IsPrefix k offset count bytes later
 prefix-more k offset count bytes more log later e p =
-    rw-prefix (at offset count (contents log k) more p.within)
+    rw-prefix (by offset count (contents log k) more p.within)
   where
-    at : (o n : ℕ) (xs ys : List ℕ) → n ≤ length (drop o xs) → (take n (drop o (xs ++ ys)) ≡ take n (drop o xs)) × (n ≤ length (drop o (xs ++ ys)))
-    at zero n xs ys l = (take-append-le n xs ys l, omega (arith, length-append xs ys))
-    at (suc o) n [] ys l = let z : n ≡ 0 = omega arith in (rw z refl, rw z (omega arith))
-    at (suc o) n (x ∷ xs) ys l = at o n xs ys l
+    by : (o n : ℕ) (xs ys : List ℕ) → n ≤ length (drop o xs) → (take n (drop o (xs ++ ys)) ≡ take n (drop o xs)) × (n ≤ length (drop o (xs ++ ys)))
+    by zero n xs ys l = (take-append-le n xs ys l, omega (arith, length-append xs ys))
+    by (suc o) n [] ys l = let z : n ≡ 0 = omega arith in (rw z refl, rw z (omega arith))
+    by (suc o) n (x ∷ xs) ys l = by o n xs ys l
 
     rw-prefix : (take count (drop offset (contents log k ++ more)) ≡ take count (drop offset (contents log k))) × (count ≤ length (drop offset (contents log k ++ more))) → IsPrefix k offset count bytes later
     rw-prefix q = record { is = p.is ∙ sym (ap (λ xs. take count (drop offset xs)) e ∙ q.0); within = rw e q.1 }
 
 grows : (k : ℕ) (e : Entry) (log : Log) → (more : List ℕ) × (contents (e ∷ log) k ≡ contents log k ++ more)
-grows k (Received id b) log = at (id == k)
+grows k (Received id b) log = by (id == k)
   where
-    at : (c : Bool) → (more : List ℕ) × ((if c then contents log k ++ b ∷ [] else contents log k) ≡ contents log k ++ more)
-    at true = (b ∷ [], refl)
-    at false = ([], sym (append-nil (contents log k)))
+    by : (c : Bool) → (more : List ℕ) × ((if c then contents log k ++ b ∷ [] else contents log k) ≡ contents log k ++ more)
+    by true = (b ∷ [], refl)
+    by false = ([], sym (append-nil (contents log k)))
 grows k _ log = ([], sym (append-nil (contents log k)))
 
 prefix-entry : (k offset count : ℕ) (bytes : List ℕ) (e : Entry) (log : Log) → IsPrefix k offset count bytes log → IsPrefix k offset count bytes (e ∷ log)
@@ -97,11 +97,11 @@ not-both Client k m n p l = apart (k % 4) 3 1 2 0 (λ e. absurd (omega arith)) (
 not-both Server k m n p l = apart (k % 4) 2 0 3 1 (λ e. absurd (omega arith)) (λ e. absurd (omega arith)) (λ e. absurd (omega arith)) (λ e. absurd (omega arith)) (among-one 2 0 m n k (is_among 2 m k) (is_among 0 n k) refl refl p) (local-one 3 1 k (k % 4 == 3) (k % 4 == 1) refl refl l)
 
 pub local-unclassified : (side : Side) (log : Log) (k : ℕ) → is_local side k ≡ true → verdict_of k (stream_table side log).classified ≡ None
-local-unclassified side log k l = at (verdict_of k (stream_table side log).classified) refl
+local-unclassified side log k l = by (verdict_of k (stream_table side log).classified) refl
   where
-    at : (o : Option Verdict) → verdict_of k (stream_table side log).classified ≡ o → o ≡ None
-    at None e = refl
-    at (Some v) e = absurd (not-both side k _ _ (are-peers side log k v e) l)
+    by : (o : Option Verdict) → verdict_of k (stream_table side log).classified ≡ o → o ≡ None
+    by None e = refl
+    by (Some v) e = absurd (not-both side k _ _ (are-peers side log k v e) l)
 
 anchor-offset : (side : Side) (log : Log) (k offset : ℕ) → Anchored side log k offset → body_start (verdict_of k (stream_table side log).classified) ≡ offset
 anchor-offset side log k offset (OfLocal l e) = ap body_start (local-unclassified side log k l) ∙ sym e
@@ -121,15 +121,15 @@ keeps-anchored side turn k offset = by-entries (record {
 })
 
 from-half : (side : Side) (log : Log) (k : ℕ) → Facts side log → has_receiving_half side log k ≡ true → (offset : ℕ) × Anchored side log k offset
-from-half side log k f h = at (f.accepted k (and_parts (is_accepted log k) _ (and_parts (is_accepted log k && not (k % 4 == local_uni side)) _ h).0).0)
+from-half side log k f h = by (f.accepted k (and_parts (is_accepted log k) _ (and_parts (is_accepted log k && not (k % 4 == local_uni side)) _ h).0).0)
   where
-    at : (is_local side k ≡ true) ⊎ IsSessions side log k → (offset : ℕ) × Anchored side log k offset
-    at (inl l) = (0, OfLocal l refl)
-    at (inr s) = (s.offset, OfSession s.session s.verdict)
+    by : (is_local side k ≡ true) ⊎ IsSessions side log k → (offset : ℕ) × Anchored side log k offset
+    by (inl l) = (0, OfLocal l refl)
+    by (inr s) = (s.offset, OfSession s.session s.verdict)
 
 -- ---- what reads gave so far
 
--- what was read is a prefix of the body, and where something was read the body's begin is settled
+-- what was read is a prefix of the body, and where something was read the body's begin is known
 record ReadSoFar (side : Side) (k : ℕ) (bytes : List ℕ) (log : Log) : Type 0 where
   pub offset : ℕ
   pub prefix : IsPrefix k offset (total_read k (calls_of log)) bytes log
@@ -142,25 +142,25 @@ same-total k r cs e = omega arith
 so-far-record : (side : Side) (k : ℕ) (bytes : List ℕ) (r : CallRecord) (log : Log) → bytes_read k r ≡ 0 → ReadSoFar side k bytes log → ReadSoFar side k bytes (Called r ∷ log)
 so-far-record side k bytes r log z p =
     let t = same-total k r (calls_of log) z in
-    record { offset = p.offset; prefix = rw t (prefix-entry k p.offset (total_read k (calls_of log)) bytes (Called r) log p.prefix); anchor = at p.anchor t }
+    record { offset = p.offset; prefix = rw t (prefix-entry k p.offset (total_read k (calls_of log)) bytes (Called r) log p.prefix); anchor = by p.anchor t }
   where
-    at : (total_read k (calls_of log) ≡ 0) ⊎ Anchored side log k p.offset → total_read k (r ∷ calls_of log) ≡ total_read k (calls_of log) → (total_read k (r ∷ calls_of log) ≡ 0) ⊎ Anchored side (Called r ∷ log) k p.offset
-    at (inl x) t = inl (t ∙ x)
-    at (inr x) t = inr (anchored-entry side k p.offset (Called r) log x)
+    by : (total_read k (calls_of log) ≡ 0) ⊎ Anchored side log k p.offset → total_read k (r ∷ calls_of log) ≡ total_read k (calls_of log) → (total_read k (r ∷ calls_of log) ≡ 0) ⊎ Anchored side (Called r ∷ log) k p.offset
+    by (inl x) t = inl (t ∙ x)
+    by (inr x) t = inr (anchored-entry side k p.offset (Called r) log x)
 
 so-far-entry : (side : Side) (k : ℕ) (bytes : List ℕ) (e : Entry) (log : Log) → calls_of (e ∷ log) ≡ calls_of log → ReadSoFar side k bytes log → ReadSoFar side k bytes (e ∷ log)
-so-far-entry side k bytes e log c p = record { offset = p.offset; prefix = rw c (prefix-entry k p.offset (total_read k (calls_of log)) bytes e log p.prefix); anchor = rw c (at p.anchor) }
+so-far-entry side k bytes e log c p = record { offset = p.offset; prefix = rw c (prefix-entry k p.offset (total_read k (calls_of log)) bytes e log p.prefix); anchor = rw c (by p.anchor) }
   where
-    at : (total_read k (calls_of log) ≡ 0) ⊎ Anchored side log k p.offset → (total_read k (calls_of log) ≡ 0) ⊎ Anchored side (e ∷ log) k p.offset
-    at (inl x) = inl x
-    at (inr x) = inr (anchored-entry side k p.offset e log x)
+    by : (total_read k (calls_of log) ≡ 0) ⊎ Anchored side log k p.offset → (total_read k (calls_of log) ≡ 0) ⊎ Anchored side (e ∷ log) k p.offset
+    by (inl x) = inl x
+    by (inr x) = inr (anchored-entry side k p.offset e log x)
 
 unread-by : (side : Side) (turn : Turn) (log : Log) (k : ℕ) (r : CallRecord) → reads_from k turn ≡ false → RecordCause side turn log r → bytes_read k r ≡ 0
-unread-by side turn log k (BytesRead id n) f c = at (id == k) refl
+unread-by side turn log k (BytesRead id n) f c = by (id == k) refl
   where
-    at : (b : Bool) → (id == k) ≡ b → (if b then n else 0) ≡ 0
-    at true i = absurd (let x = subst (λ (j : ℕ). reads_from j turn ≡ true) (eqb-true id k i) c.reads in cc)
-    at false i = refl
+    by : (b : Bool) → (id == k) ≡ b → (if b then n else 0) ≡ 0
+    by true i = absurd (let x = subst (λ (j : ℕ). reads_from j turn ≡ true) (eqb-true id k i) c.reads in cc)
+    by false i = refl
 unread-by side turn log k _ f c = refl
 
 -- a turn that doesn't read from the stream
@@ -273,11 +273,11 @@ none-added n r k cs e = omega arith
 -- nothing was read
 idle : (side : Side) (k : ℕ) (bytes : List ℕ) (log later : Log) → ReadSoFar side k bytes log → total_read k (calls_of later) ≡ total_read k (calls_of log)
     → ((offset count : ℕ) (xs : List ℕ) → IsPrefix k offset count xs log → IsPrefix k offset count xs later) → ((offset : ℕ) → Anchored side log k offset → Anchored side later k offset) → ReadSoFar side k bytes later
-idle side k bytes log later p t grow keep = record { offset = p.offset; prefix = rw t (grow p.offset _ bytes p.prefix); anchor = at p.anchor }
+idle side k bytes log later p t grow keep = record { offset = p.offset; prefix = rw t (grow p.offset _ bytes p.prefix); anchor = by p.anchor }
   where
-    at : (total_read k (calls_of log) ≡ 0) ⊎ Anchored side log k p.offset → (total_read k (calls_of later) ≡ 0) ⊎ Anchored side later k p.offset
-    at (inl z) = inl (t ∙ z)
-    at (inr a) = inr (keep p.offset a)
+    by : (total_read k (calls_of log) ≡ 0) ⊎ Anchored side log k p.offset → (total_read k (calls_of later) ≡ 0) ⊎ Anchored side later k p.offset
+    by (inl z) = inl (t ∙ z)
+    by (inr a) = inr (keep p.offset a)
 
 -- by the record of the turn
 by-record : (side : Side) (turn : Turn) (k : ℕ) (bytes : List ℕ) (log later : Log) (reply : Reply) (r : CallRecord) → Facts side log → ReadSoFar side k bytes log → reads_from k turn ≡ true → ReplyCause side turn log reply → TellsOf turn r reply
@@ -296,21 +296,21 @@ by-record side turn k bytes log later reply (StreamAccepted j) f p r w t e grow 
     given-read _ j bytes t = refl
 by-record side turn k bytes log later reply DatagramReceived f p r w t e grow keep = subst (λ xs. ReadSoFar side k xs later) (sym (given-read reply t.0 bytes t.1)) (idle side k bytes log later p (omega arith) grow keep)
   where
-    given-read : (reply : Reply) (d bytes : List ℕ) → datagram_told reply ≡ Some d → more_read (read_piece reply) bytes ≡ bytes
+    given-read : (reply : Reply) (d bytes : List ℕ) → datagram_reported reply ≡ Some d → more_read (read_piece reply) bytes ≡ bytes
     given-read (replies.Read (Some p)) d bytes t = absurd (cc)
     given-read (replies.Exact p) d bytes t = absurd (cc)
     given-read (replies.ExactFailed e p) d bytes t = absurd (cc)
     given-read _ d bytes t = refl
-by-record side turn k bytes log later reply (SessionEstablished s at) f p r w t e grow keep = subst (λ xs. ReadSoFar side k xs later) (sym (given-read reply s bytes t)) (idle side k bytes log later p (omega arith) grow keep)
+by-record side turn k bytes log later reply (SessionEstablished s start) f p r w t e grow keep = subst (λ xs. ReadSoFar side k xs later) (sym (given-read reply s bytes t)) (idle side k bytes log later p (omega arith) grow keep)
   where
-    given-read : (reply : Reply) (j : ℕ) (bytes : List ℕ) → session_told reply ≡ Some j → more_read (read_piece reply) bytes ≡ bytes
+    given-read : (reply : Reply) (j : ℕ) (bytes : List ℕ) → session_reported reply ≡ Some j → more_read (read_piece reply) bytes ≡ bytes
     given-read (replies.Read (Some p)) j bytes t = absurd (cc)
     given-read (replies.Exact p) j bytes t = absurd (cc)
     given-read (replies.ExactFailed e p) j bytes t = absurd (cc)
     given-read _ j bytes t = refl
 by-record side turn k bytes log later reply (RequestDelivered j) f p r w t e grow keep = subst (λ xs. ReadSoFar side k xs later) (sym (given-read reply j bytes t)) (idle side k bytes log later p (omega arith) grow keep)
   where
-    given-read : (reply : Reply) (j : ℕ) (bytes : List ℕ) → request_told reply ≡ Some j → more_read (read_piece reply) bytes ≡ bytes
+    given-read : (reply : Reply) (j : ℕ) (bytes : List ℕ) → request_reported reply ≡ Some j → more_read (read_piece reply) bytes ≡ bytes
     given-read (replies.Read (Some p)) j bytes t = absurd (cc)
     given-read (replies.Exact p) j bytes t = absurd (cc)
     given-read (replies.ExactFailed e p) j bytes t = absurd (cc)
@@ -324,15 +324,15 @@ reading : (side : Side) (turn : Turn) (k : ℕ) (bytes : List ℕ) (log : Log) (
 reading side turn k bytes log l f p r =
     let c = caused side turn log l in
     let d = c.at_once (reads-alone k turn r) in
-    at c.logged (subst (λ g. ReplyCause side turn g (answer_to side log turn).reply) d c.why) (ap calls_of d)
+    by c.logged (subst (λ g. ReplyCause side turn g (answer_to side log turn).reply) d c.why) (ap calls_of d)
     (λ o n xs q. keeps-turn (keeps-prefix side turn k o n xs) log l q) (λ o q. keeps-turn (keeps-anchored side turn k o) log l q)
   where
-    at : {before : List CallRecord} → Logged turn before (calls_of (log_after side log turn)) (answer_to side log turn).reply → ReplyCause side turn log (answer_to side log turn).reply → before ≡ calls_of log
+    by : {before : List CallRecord} → Logged turn before (calls_of (log_after side log turn)) (answer_to side log turn).reply → ReplyCause side turn log (answer_to side log turn).reply → before ≡ calls_of log
         → ((offset count : ℕ) (xs : List ℕ) → IsPrefix k offset count xs log → IsPrefix k offset count xs (log_after side log turn)) → ((offset : ℕ) → Anchored side log k offset → Anchored side (log_after side log turn) k offset)
         → ReadSoFar side k (more_read (read_piece (answer_to side log turn).reply) bytes) (log_after side log turn)
-    at (NoRecord e q) w b grow keep = subst (λ xs. ReadSoFar side k xs (log_after side log turn)) (sym (quiet-read (answer_to side log turn).reply bytes q)) (idle side k bytes log (log_after side log turn) p (ap (total_read k) (e ∙ b)) grow keep)
-    at (OneRecord x e t) w b grow keep = by-record side turn k bytes log (log_after side log turn) (answer_to side log turn).reply x f p r w t (ap (total_read k) (e ∙ ap (λ cs. x ∷ cs) b)) grow keep
-    at (ThenPolled x e t) w b grow keep =
+    by (NoRecord e q) w b grow keep = subst (λ xs. ReadSoFar side k xs (log_after side log turn)) (sym (quiet-read (answer_to side log turn).reply bytes q)) (idle side k bytes log (log_after side log turn) p (ap (total_read k) (e ∙ b)) grow keep)
+    by (OneRecord x e t) w b grow keep = by-record side turn k bytes log (log_after side log turn) (answer_to side log turn).reply x f p r w t (ap (total_read k) (e ∙ ap (λ cs. x ∷ cs) b)) grow keep
+    by (ThenPolled x e t) w b grow keep =
         by-record side turn k bytes log (log_after side log turn) (answer_to side log turn).reply x f p r w t (ap (total_read k) (e ∙ ap (λ cs. Polled ∷ x ∷ cs) b) ∙ same-total k Polled (x ∷ calls_of log) refl) grow keep
 
 record ReadsHold (side : Side) (before : List Exchange) (log : Log) : Type 0 where
@@ -351,14 +351,14 @@ reads-law side = record {
 }
 
 in-order : (side : Side) (k : ℕ) (bytes : List ℕ) (log : Log) → ReadSoFar side k bytes log → (rest : List ℕ) × (bytes ++ rest ≡ drop (body_start (verdict_of k (stream_table side log).classified)) (contents log k))
-in-order side k bytes log p = at p.anchor
+in-order side k bytes log p = by p.anchor
   where
     none : (n : ℕ) (xs ys : List ℕ) → ys ≡ take n xs → n ≡ 0 → ys ≡ []
     none n xs ys e z = e ∙ rw z refl
 
-    at : (total_read k (calls_of log) ≡ 0) ⊎ Anchored side log k p.offset → (rest : List ℕ) × (bytes ++ rest ≡ drop (body_start (verdict_of k (stream_table side log).classified)) (contents log k))
-    at (inl z) = (drop (body_start (verdict_of k (stream_table side log).classified)) (contents log k), ap (λ xs. xs ++ drop (body_start (verdict_of k (stream_table side log).classified)) (contents log k)) (none _ _ bytes p.prefix.is z))
-    at (inr a) =
+    by : (total_read k (calls_of log) ≡ 0) ⊎ Anchored side log k p.offset → (rest : List ℕ) × (bytes ++ rest ≡ drop (body_start (verdict_of k (stream_table side log).classified)) (contents log k))
+    by (inl z) = (drop (body_start (verdict_of k (stream_table side log).classified)) (contents log k), ap (λ xs. xs ++ drop (body_start (verdict_of k (stream_table side log).classified)) (contents log k)) (none _ _ bytes p.prefix.is z))
+    by (inr a) =
         let n = total_read k (calls_of log) in
         let body = drop p.offset (contents log k) in
         (drop n body, ap (λ xs. xs ++ drop n body) p.prefix.is ∙ take-append-drop n body ∙ ap (λ o. drop o (contents log k)) (sym (anchor-offset side log k p.offset a)))

@@ -33,11 +33,11 @@ module _ (end : StreamEnd) where
   no-request-if true x y p q = p
   no-request-if false x y p q = q
 
-  no-request-session : (at : ℕ) (o : Option (ℕ × ℕ)) → NoRequest (session_header_at at o)
-  no-request-session at None = ends-no-request end
-  no-request-session at (Some s) = by (s.0 % 4 == 0)
+  no-request-session : (offset : ℕ) (o : Option (ℕ × ℕ)) → NoRequest (session_header_at offset o)
+  no-request-session offset None = ends-no-request end
+  no-request-session offset (Some s) = by (s.0 % 4 == 0)
     where
-      by : (b : Bool) → is_request (if b then verdicts.WebTransport s.0 (at + s.1) else session_verdict 1 0) ≡ false
+      by : (b : Bool) → is_request (if b then verdicts.WebTransport s.0 (offset + s.1) else session_verdict 1 0) ≡ false
       by true = refl
       by false = refl
 
@@ -56,10 +56,10 @@ uni-no-request bytes end = no-request-typed end bytes (varint_at bytes)
 -- ---- so a bidirectional one does
 
 -- the peer opened the stream, which is bidirectional, and its bytes carry a request with these fields
-pub record Carries (side : Side) (log : Log) (k : ℕ) (headers : Fields) (at : ℕ) : Type 0 where
+pub record Carries (side : Side) (log : Log) (k : ℕ) (headers : Fields) (offset : ℕ) : Type 0 where
   pub opened : is_among (peer_bi side) (peer_count side (events_of log) (peer_bi side)) k ≡ true
-  pub bytes : bi_verdict_of (contents log k) (end_of (events_of log) k) ≡ verdicts.Request headers at
+  pub bytes : bi_verdict_of (contents log k) (end_of (events_of log) k) ≡ verdicts.Request headers offset
 
-pub carries : (side : Side) (log : Log) (k : ℕ) (headers : Fields) (at : ℕ) → HasVerdict side log k (verdicts.Request headers at) → Carries side log k headers at
-carries side log k headers at (HasUni a v f) = absurd (let x = uni-no-request (contents log k) (end_of (events_of log) k) in let y = ap is_request v in cc)
-carries side log k headers at (HasBi a v f) = record { opened = a; bytes = v }
+pub carries : (side : Side) (log : Log) (k : ℕ) (headers : Fields) (offset : ℕ) → HasVerdict side log k (verdicts.Request headers offset) → Carries side log k headers offset
+carries side log k headers offset (HasUni a v f) = absurd (let x = uni-no-request (contents log k) (end_of (events_of log) k) in let y = ap is_request v in cc)
+carries side log k headers offset (HasBi a v f) = record { opened = a; bytes = v }

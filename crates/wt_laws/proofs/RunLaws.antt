@@ -11,7 +11,7 @@ use Rattle.wt_turn.specs.declared.action.Action.{Action}
 use Rattle.wt_turn.specs.declared.turn.Turn.{Turn}
 use Rattle.wt_wire.specs.declared.side.Side.{Side}
 use Rattle.wt_laws.proofs.Classified.{classified-stays, of-classified}
-use Rattle.wt_laws.proofs.DatagramTold.{datagrams-same, datagrams-stay}
+use Rattle.wt_laws.proofs.DatagramReported.{datagrams-same, datagrams-stay}
 use Rattle.wt_laws.proofs.Moments.{kept}
 use Rattle.wt_laws.proofs.SessionLaws.{settings-stay}
 use Rattle.wt_laws.specs.Reachable.{AllLawful}
@@ -45,10 +45,10 @@ run-by side log turn later false l = ap (λ (b : Bool). run_by side log turn lat
 
 runs-from : (side : Side) (log : Log) (all : List Turn) → RunsFrom side log all
 runs-from side log [] = record { front = []; rest = []; split = refl; lawful = tt; answers = refl; finished = λ e. refl; stopped = λ e. absurd (cc) }
-runs-from side log (turn ∷ later) = at (is_lawful side log turn) refl (runs-from side (log_after side log turn) later)
+runs-from side log (turn ∷ later) = by (is_lawful side log turn) refl (runs-from side (log_after side log turn) later)
   where
-    at : (b : Bool) → is_lawful side log turn ≡ b → RunsFrom side (log_after side log turn) later → RunsFrom side log (turn ∷ later)
-    at true l r =
+    by : (b : Bool) → is_lawful side log turn ≡ b → RunsFrom side (log_after side log turn) later → RunsFrom side log (turn ∷ later)
+    by true l r =
         let e = run-by side log turn later true l in
         record {
           front = turn ∷ r.front;
@@ -59,7 +59,7 @@ runs-from side log (turn ∷ later) = at (is_lawful side log turn) refl (runs-fr
           finished = λ f. r.finished (sym (ap (λ (x : Run). x.stop) e) ∙ f);
           stopped = λ f. r.stopped (sym (ap (λ (x : Run). x.stop) e) ∙ f);
         }
-    at false l r =
+    by false l r =
         let e = run-by side log turn later false l in
         record {
           front = [];
@@ -102,21 +102,21 @@ dequeued-stays side k e log p = kept (λ t. has k t.dequeued ≡ true) side e lo
   by_classified = λ t j v e x n still p. p;
 }) p
 
-abbrev Behind : List Classified → List Classified → Type 0
-Behind base cs = (more : List Classified) × (cs ≡ base ++ more)
+abbrev Extends : List Classified → List Classified → Type 0
+Extends base cs = (more : List Classified) × (cs ≡ base ++ more)
 
-order-stays : (side : Side) (base : List Classified) (e : Entry) (log : Log) → Behind base (stream_table side log).classified → Behind base (stream_table side (e ∷ log)).classified
+order-stays : (side : Side) (base : List Classified) (e : Entry) (log : Log) → Extends base (stream_table side log).classified → Extends base (stream_table side (e ∷ log)).classified
 order-stays side base e log p =
-    kept (λ t. Behind base t.classified) side e log (of-classified _ (Behind base) (λ t j u x c n q. (q.0 ++ record { id = j; verdict = u; surplus = x.surplus } ∷ [], ap (λ cs. cs ++ record { id = j; verdict = u; surplus = x.surplus } ∷ []) q.1 ∙ append_assoc base q.0 (record { id = j; verdict = u; surplus = x.surplus } ∷ [])))) p
+    kept (λ t. Extends base t.classified) side e log (of-classified _ (Extends base) (λ t j u x c n q. (q.0 ++ record { id = j; verdict = u; surplus = x.surplus } ∷ [], ap (λ cs. cs ++ record { id = j; verdict = u; surplus = x.surplus } ∷ []) q.1 ∙ append_assoc base q.0 (record { id = j; verdict = u; surplus = x.surplus } ∷ [])))) p
 
 call-stays : (test : CallRecord → Bool) (e : Entry) (log : Log) → list_any test (calls_of log) ≡ true → list_any test (calls_of (e ∷ log)) ≡ true
 call-stays test (Called r) log p = or_right (test r) _ p
 call-stays test _ log p = p
 
-pub stays-behind : (side : Side) (more log : Log) → StaysSo side log (more ++ log)
-stays-behind side [] log = record { dequeued = λ k p. p; verdict = λ k v p. p; order = ([], sym (append-nil (stream_table side log).classified)); released = λ k p. p; delivered = λ k p. p; settings = λ p. p; datagrams = datagrams-same side log }
-stays-behind side (e ∷ more) log =
-    let s = stays-behind side more log in
+pub stays-after : (side : Side) (more log : Log) → StaysSo side log (more ++ log)
+stays-after side [] log = record { dequeued = λ k p. p; verdict = λ k v p. p; order = ([], sym (append-nil (stream_table side log).classified)); released = λ k p. p; delivered = λ k p. p; settings = λ p. p; datagrams = datagrams-same side log }
+stays-after side (e ∷ more) log =
+    let s = stays-after side more log in
     record {
       dequeued = λ k p. dequeued-stays side k e (more ++ log) (s.dequeued k p);
       verdict = λ k v p. classified-stays side k v e (more ++ log) (s.verdict k v p);

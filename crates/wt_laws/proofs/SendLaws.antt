@@ -64,11 +64,11 @@ pending-other side log k e =
 
 pub flush-other : (side : Side) (e : Entry) (log : Log) (k : ℕ) → (local_uni side == k) ≡ false → sent_on (actions_of (log_and_flush side log e)) k ≡ sent_on (actions_of (e ∷ log)) k
 unfolding flush
-flush-other side e log k n = at (is_moment e && is_open (e ∷ log))
+flush-other side e log k n = by (is_moment e && is_open (e ∷ log))
   where
-    at : (b : Bool) → sent_on (actions_of (apply_if b (with_actions (pending_actions side (e ∷ log))) (e ∷ log))) k ≡ sent_on (actions_of (e ∷ log)) k
-    at true = sent-with k (pending_actions side (e ∷ log)) (e ∷ log) ∙ ap (λ xs. sent_on (actions_of (e ∷ log)) k ++ xs) (pending-other side (e ∷ log) k n) ∙ append-nil (sent_on (actions_of (e ∷ log)) k)
-    at false = refl
+    by : (b : Bool) → sent_on (actions_of (apply_if b (with_actions (pending_actions side (e ∷ log))) (e ∷ log))) k ≡ sent_on (actions_of (e ∷ log)) k
+    by true = sent-with k (pending_actions side (e ∷ log)) (e ∷ log) ∙ ap (λ xs. sent_on (actions_of (e ∷ log)) k ++ xs) (pending-other side (e ∷ log) k n) ∙ append-nil (sent_on (actions_of (e ∷ log)) k)
+    by false = refl
 
 -- ---- a stream that was given
 
@@ -131,14 +131,14 @@ alone side log k g a = record {
     request (inr s) w e = absurd (let n = s.verdict in let x = ap (λ j. verdict_of j (stream_table side log).classified) e in let v = w.verdict in cc)
 
 other-piece : (side : Side) (turn : Turn) (k : ℕ) (a : Action) (log : Log) → bytes_for k turn ≡ None → Alone side k (calls_of log) → ActionCause side turn log a → piece_on k a ≡ []
-other-piece side turn k (actions.Send id piece) log n s c = at (id == k) refl c.1
+other-piece side turn k (actions.Send id piece) log n s c = by (id == k) refl c.1
   where
-    at : (b : Bool) → (id == k) ≡ b → SendCause side turn log id piece → (if b then piece else []) ≡ []
-    at false e x = refl
-    at true e (OfWrite bytes h w m p) = absurd (let y = ap (λ j. bytes_for j turn) (eqb-true id k e) in cc)
-    at true e (OfHeader session t z d o p) = absurd (let y = s.no_opening in let q = ap (λ j. list_any (starts_opening j) (calls_of log) && not (list_any (ends_opening j) (calls_of log))) (eqb-true id k e) in cc)
-    at true e (OfResponse accepts head f i p) = absurd (s.no_request (from-request turn (calls_of log) accepts head f) (sym i ∙ eqb-true id k e))
-    at true e (OfRequest head c h i z p) = absurd (s.no_connect None head h)
+    by : (b : Bool) → (id == k) ≡ b → SendCause side turn log id piece → (if b then piece else []) ≡ []
+    by false e x = refl
+    by true e (OfWrite bytes h w m p) = absurd (let y = ap (λ j. bytes_for j turn) (eqb-true id k e) in cc)
+    by true e (OfHeader session t z d o p) = absurd (let y = s.no_opening in let q = ap (λ j. list_any (starts_opening j) (calls_of log) && not (list_any (ends_opening j) (calls_of log))) (eqb-true id k e) in cc)
+    by true e (OfResponse accepts head f i p) = absurd (s.no_request (from-request turn (calls_of log) accepts head f) (sym i ∙ eqb-true id k e))
+    by true e (OfRequest head c h i z p) = absurd (s.no_connect None head h)
 other-piece side turn k _ log n s c = refl
 
 pub other-own : (side : Side) (turn : Turn) (k : ℕ) (own : List Action) (log : Log) → bytes_for k turn ≡ None → Alone side k (calls_of log) → OwnCauses side turn log own → sends_of k own ≡ []
@@ -211,20 +211,20 @@ half-sends side k bytes log call false c p = idle-call side k bytes log replies.
 
 writing-turn : (side : Side) (k : ℕ) (bytes : List ℕ) (log : Log) (turn : Turn) → (local_uni side == k) ≡ false → bytes_for k turn ≡ Some bytes → SendsBy k bytes log (turn_effect side log turn)
 unfolding call_effect
-writing-turn side k bytes log (turns.Call (calls.Write id bs)) c e = at (id == k) refl e
+writing-turn side k bytes log (turns.Call (calls.Write id bs)) c e = by (id == k) refl e
   where
-    at : (b : Bool) → (id == k) ≡ b → (if b then Some bs else None) ≡ Some bytes → SendsBy k bytes log (on_half (has_sending_half side log id) side log (λ j. write side log j bs) id)
-    at false i e = absurd (cc)
-    at true i e =
+    by : (b : Bool) → (id == k) ≡ b → (if b then Some bs else None) ≡ Some bytes → SendsBy k bytes log (on_half (has_sending_half side log id) side log (λ j. write side log j bs) id)
+    by false i e = absurd (cc)
+    by true i e =
         let x : bs ≡ bytes = cc in
         subst (λ (j : ℕ). SendsBy k bytes log (on_half (has_sending_half side log j) side log (λ m. write side log m bs) j)) (sym (eqb-true id k i))
         (subst (λ ys. SendsBy k bytes log (on_half (has_sending_half side log k) side log (λ m. write side log m ys) k)) (sym x)
         (half-sends side k bytes log (λ m. write side log m bytes) (has_sending_half side log k) c (write-sends written_reply side k bytes log (write_error log k) c (accepted-written (credit_left log k) bytes (length (bytes_within_credit log k bytes)) refl))))
-writing-turn side k bytes log (turns.Call (calls.WriteAll id bs)) c e = at (id == k) refl e
+writing-turn side k bytes log (turns.Call (calls.WriteAll id bs)) c e = by (id == k) refl e
   where
-    at : (b : Bool) → (id == k) ≡ b → (if b then Some bs else None) ≡ Some bytes → SendsBy k bytes log (on_half (has_sending_half side log id) side log (λ j. write_all side log j bs) id)
-    at false i e = absurd (cc)
-    at true i e =
+    by : (b : Bool) → (id == k) ≡ b → (if b then Some bs else None) ≡ Some bytes → SendsBy k bytes log (on_half (has_sending_half side log id) side log (λ j. write_all side log j bs) id)
+    by false i e = absurd (cc)
+    by true i e =
         let x : bs ≡ bytes = cc in
         subst (λ (j : ℕ). SendsBy k bytes log (on_half (has_sending_half side log j) side log (λ m. write_all side log m bs) j)) (sym (eqb-true id k i))
         (subst (λ ys. SendsBy k bytes log (on_half (has_sending_half side log k) side log (λ m. write_all side log m ys) k)) (sym x)
@@ -236,29 +236,29 @@ writing-turn side k bytes log _ c e = absurd (cc)
 -- ---- the law
 
 pub not-same : (a k : ℕ) → k ≢ a → (a == k) ≡ false
-not-same a k n = at (a == k) refl
+not-same a k n = by (a == k) refl
   where
-    at : (b : Bool) → (a == k) ≡ b → b ≡ false
-    at true e = absurd (n (sym (eqb-true a k e)))
-    at false e = refl
+    by : (b : Bool) → (a == k) ≡ b → b ≡ false
+    by true e = absurd (n (sym (eqb-true a k e)))
+    by false e = refl
 
 pub given-sends : (side : Side) (log : Log) (turn : Turn) → IsReachable side log → is_lawful side log turn ≡ true → (k : ℕ) → k ≢ local_uni side → is_accepted log k ≡ true
     → sent_on (actions_of (log_after side log turn)) k ≡ sent_on (actions_of log) k ++ accepted_by (bytes_for k turn) (answer_to side log turn).reply
-given-sends side log turn r l k n a = at (bytes_for k turn) refl
+given-sends side log turn r l k n a = by (bytes_for k turn) refl
   where
-    at : (o : Option (List ℕ)) → bytes_for k turn ≡ o → sent_on (actions_of (log_after side log turn)) k ≡ sent_on (actions_of log) k ++ accepted_by o (answer_to side log turn).reply
-    at None e =
+    by : (o : Option (List ℕ)) → bytes_for k turn ≡ o → sent_on (actions_of (log_after side log turn)) k ≡ sent_on (actions_of log) k ++ accepted_by o (answer_to side log turn).reply
+    by None e =
         (keeps-turn (keeps-unsent side turn k (sent_on (actions_of log) k) (not-same (local_uni side) k n) e) log l (record { given = given-holds side log r; accepted = a; same = refl })).same ∙ sym (append-nil (sent_on (actions_of log) k))
-    at (Some bytes) e = writing-turn side k bytes log turn (not-same (local_uni side) k n) e
+    by (Some bytes) e = writing-turn side k bytes log turn (not-same (local_uni side) k n) e
 
 -- ---- after a finish or a reset
 
 closed-error : (log : Log) (k : ℕ) → (is_finished (actions_of log) k || is_reset log k) ≡ true → is_some (write_error log k) ≡ true
-closed-error log k e = rw e (at (is_open log))
+closed-error log k e = rw e (by (is_open log))
   where
-    at : (o : Bool) → is_some (if not o then Some writes.NotConnected else Some writes.Closed) ≡ true
-    at true = refl
-    at false = refl
+    by : (o : Bool) → is_some (if not o then Some writes.NotConnected else Some writes.Closed) ≡ true
+    by true = refl
+    by false = refl
 
 closed-write : (reply : List ℕ → ℕ → Reply) (side : Side) (k : ℕ) (bytes : List ℕ) (log : Log) (o : Option StreamWriteError) → is_some o ≡ true → accepted_of bytes (write_by reply side log k bytes o).reply ≡ []
 closed-write reply side k bytes log None s = absurd (cc)
@@ -270,20 +270,20 @@ closed-half side k bytes log call false p = refl
 
 closed-turn : (side : Side) (k : ℕ) (bytes : List ℕ) (log : Log) (turn : Turn) → is_some (write_error log k) ≡ true → bytes_for k turn ≡ Some bytes → accepted_of bytes (turn_effect side log turn).reply ≡ []
 unfolding call_effect
-closed-turn side k bytes log (turns.Call (calls.Write id bs)) s e = at (id == k) refl e
+closed-turn side k bytes log (turns.Call (calls.Write id bs)) s e = by (id == k) refl e
   where
-    at : (b : Bool) → (id == k) ≡ b → (if b then Some bs else None) ≡ Some bytes → accepted_of bytes (on_half (has_sending_half side log id) side log (λ j. write side log j bs) id).reply ≡ []
-    at false i e = absurd (cc)
-    at true i e =
+    by : (b : Bool) → (id == k) ≡ b → (if b then Some bs else None) ≡ Some bytes → accepted_of bytes (on_half (has_sending_half side log id) side log (λ j. write side log j bs) id).reply ≡ []
+    by false i e = absurd (cc)
+    by true i e =
         let x : bs ≡ bytes = cc in
         subst (λ (j : ℕ). accepted_of bytes (on_half (has_sending_half side log j) side log (λ m. write side log m bs) j).reply ≡ []) (sym (eqb-true id k i))
         (subst (λ ys. accepted_of bytes (on_half (has_sending_half side log k) side log (λ m. write side log m ys) k).reply ≡ []) (sym x)
         (closed-half side k bytes log (λ m. write side log m bytes) (has_sending_half side log k) (closed-write written_reply side k bytes log (write_error log k) s)))
-closed-turn side k bytes log (turns.Call (calls.WriteAll id bs)) s e = at (id == k) refl e
+closed-turn side k bytes log (turns.Call (calls.WriteAll id bs)) s e = by (id == k) refl e
   where
-    at : (b : Bool) → (id == k) ≡ b → (if b then Some bs else None) ≡ Some bytes → accepted_of bytes (on_half (has_sending_half side log id) side log (λ j. write_all side log j bs) id).reply ≡ []
-    at false i e = absurd (cc)
-    at true i e =
+    by : (b : Bool) → (id == k) ≡ b → (if b then Some bs else None) ≡ Some bytes → accepted_of bytes (on_half (has_sending_half side log id) side log (λ j. write_all side log j bs) id).reply ≡ []
+    by false i e = absurd (cc)
+    by true i e =
         let x : bs ≡ bytes = cc in
         subst (λ (j : ℕ). accepted_of bytes (on_half (has_sending_half side log j) side log (λ m. write_all side log m bs) j).reply ≡ []) (sym (eqb-true id k i))
         (subst (λ ys. accepted_of bytes (on_half (has_sending_half side log k) side log (λ m. write_all side log m ys) k).reply ≡ []) (sym x)
@@ -298,24 +298,24 @@ no-half side bytes log call k false n = refl
 
 no-half-turn : (side : Side) (k : ℕ) (bytes : List ℕ) (log : Log) (turn : Turn) → has_sending_half side log k ≡ false → bytes_for k turn ≡ Some bytes → accepted_of bytes (turn_effect side log turn).reply ≡ []
 unfolding call_effect
-no-half-turn side k bytes log (turns.Call (calls.Write id bs)) n e = at (id == k) refl e
+no-half-turn side k bytes log (turns.Call (calls.Write id bs)) n e = by (id == k) refl e
   where
-    at : (b : Bool) → (id == k) ≡ b → (if b then Some bs else None) ≡ Some bytes → accepted_of bytes (on_half (has_sending_half side log id) side log (λ j. write side log j bs) id).reply ≡ []
-    at false i e = absurd (cc)
-    at true i e = no-half side bytes log (λ j. write side log j bs) id (has_sending_half side log id) (ap (has_sending_half side log) (eqb-true id k i) ∙ n)
-no-half-turn side k bytes log (turns.Call (calls.WriteAll id bs)) n e = at (id == k) refl e
+    by : (b : Bool) → (id == k) ≡ b → (if b then Some bs else None) ≡ Some bytes → accepted_of bytes (on_half (has_sending_half side log id) side log (λ j. write side log j bs) id).reply ≡ []
+    by false i e = absurd (cc)
+    by true i e = no-half side bytes log (λ j. write side log j bs) id (has_sending_half side log id) (ap (has_sending_half side log) (eqb-true id k i) ∙ n)
+no-half-turn side k bytes log (turns.Call (calls.WriteAll id bs)) n e = by (id == k) refl e
   where
-    at : (b : Bool) → (id == k) ≡ b → (if b then Some bs else None) ≡ Some bytes → accepted_of bytes (on_half (has_sending_half side log id) side log (λ j. write_all side log j bs) id).reply ≡ []
-    at false i e = absurd (cc)
-    at true i e = no-half side bytes log (λ j. write_all side log j bs) id (has_sending_half side log id) (ap (has_sending_half side log) (eqb-true id k i) ∙ n)
+    by : (b : Bool) → (id == k) ≡ b → (if b then Some bs else None) ≡ Some bytes → accepted_of bytes (on_half (has_sending_half side log id) side log (λ j. write_all side log j bs) id).reply ≡ []
+    by false i e = absurd (cc)
+    by true i e = no-half side bytes log (λ j. write_all side log j bs) id (has_sending_half side log id) (ap (has_sending_half side log) (eqb-true id k i) ∙ n)
 no-half-turn side k bytes log (turns.Call _) n e = absurd (cc)
 no-half-turn side k bytes log _ n e = absurd (cc)
 
 -- nothing is accepted for a stream that wasn't given, or was ended
 pub none-accepted : (side : Side) (k : ℕ) (log : Log) (turn : Turn) → (has_sending_half side log k ≡ false) ⊎ ((is_finished (actions_of log) k || is_reset log k) ≡ true) → accepted_by (bytes_for k turn) (answer_to side log turn).reply ≡ []
-none-accepted side k log turn w = at (bytes_for k turn) refl w
+none-accepted side k log turn w = by (bytes_for k turn) refl w
   where
-    at : (o : Option (List ℕ)) → bytes_for k turn ≡ o → (has_sending_half side log k ≡ false) ⊎ ((is_finished (actions_of log) k || is_reset log k) ≡ true) → accepted_by o (answer_to side log turn).reply ≡ []
-    at None e w = refl
-    at (Some bytes) e (inl n) = no-half-turn side k bytes log turn n e
-    at (Some bytes) e (inr f) = closed-turn side k bytes log turn (closed-error log k f) e
+    by : (o : Option (List ℕ)) → bytes_for k turn ≡ o → (has_sending_half side log k ≡ false) ⊎ ((is_finished (actions_of log) k || is_reset log k) ≡ true) → accepted_by o (answer_to side log turn).reply ≡ []
+    by None e w = refl
+    by (Some bytes) e (inl n) = no-half-turn side k bytes log turn n e
+    by (Some bytes) e (inr f) = closed-turn side k bytes log turn (closed-error log k f) e

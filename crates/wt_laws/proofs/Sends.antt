@@ -19,11 +19,11 @@ sends_of k [] = []
 sends_of k (a ∷ later) = piece_on k a ++ sends_of k later
 
 pub with-piece : (k : ℕ) (a : Action) (xs : List ℕ) → with_sent_piece k a xs ≡ xs ++ piece_on k a
-with-piece k (actions.Send id piece) xs = at (id == k)
+with-piece k (actions.Send id piece) xs = by (id == k)
   where
-    at : (b : Bool) → (if b then xs ++ piece else xs) ≡ xs ++ (if b then piece else [])
-    at true = refl
-    at false = sym (append-nil xs)
+    by : (b : Bool) → (if b then xs ++ piece else xs) ≡ xs ++ (if b then piece else [])
+    by true = refl
+    by false = sym (append-nil xs)
 with-piece k _ xs = sym (append-nil xs)
 
 pub sent-with : (k : ℕ) (as_ : List Action) (log : Log) → sent_on (actions_of (with_actions as_ log)) k ≡ sent_on (actions_of log) k ++ sends_of k as_

@@ -24,10 +24,10 @@ use Rattle.wt_laws.proofs.Reached.{keeps-turn, reached}
 use Rattle.wt_laws.proofs.RequestLaws.{Carries, carries}
 use Rattle.wt_laws.proofs.Steps.{Keeps, KeepsEntries, blind-actions, by-entries, calls-with}
 use Rattle.wt_laws.specs.Causes.{ByAcceptance, ByAnswer, ByRejection, ByResponse, EstablishCause, EstablishedBy, FromBefore, ResponseFrom, is_under_way}
-use Rattle.wt_laws.specs.Laws.{AfterRequest, AfterResponse, EstablishedHow, EstablishedRightly, GoesOnFrom, OneSession, SessionTold, SessionsRightly, WasDelivered}
+use Rattle.wt_laws.specs.Laws.{AfterRequest, AfterResponse, EstablishedHow, EstablishedRightly, GoesOnFrom, OneSession, SessionReported, SessionsRightly, WasDelivered}
 use Rattle.wt_laws.specs.Reachable.{IsReachable, is_among}
 use Rattle.wt_laws.specs.RecordCauses.{DeliverCause, RecordCause}
-use Rattle.wt_laws.specs.ReplyTells.{Logged, NoRecord, OneRecord, TellsOf, ThenPolled, datagram_told, given_stream, is_quiet, read_piece, request_told, session_told}
+use Rattle.wt_laws.specs.ReplyTells.{Logged, NoRecord, OneRecord, TellsOf, ThenPolled, datagram_reported, given_stream, is_quiet, read_piece, request_reported, session_reported}
 use Rattle.wt_spec.specs.Answers.{is_client, is_lawful, log_after}
 use Rattle.wt_spec.specs.Connection.{first_of}
 use Rattle.wt_spec.specs.Driver.{call_view, delivers, established_session, session_id, settings_came, stream_table}
@@ -103,7 +103,7 @@ accepted-head side turn log head f (ByRejection id a t s) = absurd (cc)
 accepted-head side turn log head f (FromBefore t s) = f.acceptance head s
 
 new-none : (side : Side) (turn : Turn) (log : Log) (r : CallRecord) → Handshakes side log → RecordCause side turn log r → is_under_way (handshake_state (r ∷ calls_of log)) ≡ true → established_session (r ∷ calls_of log) ≡ None
-new-none side turn log (SessionEstablished id at) f c e = absurd (cc)
+new-none side turn log (SessionEstablished id offset) f c e = absurd (cc)
 new-none side turn log HandshakeOver f c e = absurd (cc)
 new-none side turn log (RequestDelivered k) f c e = f.none_yet (ap is_under_way c.under_way)
 new-none side turn log (ResponseStarted accepts head) f c e = f.none_yet (ap is_under_way c.2)
@@ -114,14 +114,14 @@ new-acceptance : (side : Side) (turn : Turn) (log : Log) (r : CallRecord) (head 
 new-acceptance side turn log (ResponseStarted accepts h) head f c e =
     let i : accepts ≡ true = cc in let j : h ≡ head = cc in
     accepted-head side turn log head f (subst (λ z. ResponseFrom turn (calls_of log) true z) j (subst (λ b. ResponseFrom turn (calls_of log) b h) i c.0))
-new-acceptance side turn log (SessionEstablished id at) head f c e = absurd (cc)
+new-acceptance side turn log (SessionEstablished id offset) head f c e = absurd (cc)
 new-acceptance side turn log HandshakeOver head f c e = absurd (cc)
 new-acceptance side turn log (RequestDelivered k) head f c e = absurd (cc)
 new-acceptance side turn log (ConnectStarted reserved h) head f c e = absurd (cc)
 new-acceptance side turn log _ head f c e = f.acceptance head e
 
-request-verdict : (v : Verdict) → is_request v ≡ true → (headers : Fields) × (at : ℕ) × (v ≡ verdicts.Request headers at)
-request-verdict (verdicts.Request headers at) e = (headers, at, refl)
+request-verdict : (v : Verdict) → is_request v ≡ true → (headers : Fields) × (offset : ℕ) × (v ≡ verdicts.Request headers offset)
+request-verdict (verdicts.Request headers offset) e = (headers, offset, refl)
 request-verdict _ e = absurd (cc)
 
 -- the first request that is queued waits for its delivery
@@ -131,16 +131,16 @@ pub record FirstQueued (side : Side) (log : Log) (c : Classified) : Type 0 where
   pub fresh : list_any (delivers c.id) (calls_of log) ≡ false
 
 pub first-queued : (side : Side) (log : Log) (c : Classified) (later : List Classified) → queued_requests side log ≡ c ∷ later → FirstQueued side log c
-first-queued side log c later q = at (settings_came side log) refl q
+first-queued side log c later q = by (settings_came side log) refl q
   where
-    at : (b : Bool) → settings_came side log ≡ b → (if b then (dispatched_streams (call_view log) (stream_table side log).classified).requests else []) ≡ c ∷ later → FirstQueued side log c
-    at true s e =
+    by : (b : Bool) → settings_came side log ≡ b → (if b then (dispatched_streams (call_view log) (stream_table side log).classified).requests else []) ≡ c ∷ later → FirstQueued side log c
+    by true s e =
         let keep = awaits_delivery (call_view log).delivered in
         let p = first-picked keep (λ x. true) (stream_table side log).classified c (once side log) (ap (first_of (λ x. true)) e) in
         let a = and_parts (not (list_any (delivers c.id) (calls_of log))) _ p.kept_for in
         let v = request-verdict c.verdict (and_parts (is_request c.verdict) _ a.1).0 in
         record { request = record { settings = s; headers = v.0; offset = v.1; verdict = p.among ∙ ap Some v.2 }; same = ap request_fields_of v.2; fresh = not-true _ a.0 }
-    at false s e = absurd (cc)
+    by false s e = absurd (cc)
 
 pub was-delivered : (side : Side) {turn : Turn} (log : Log) (k : ℕ) → DeliverCause side turn log k → HadRequest side log k
 was-delivered side log k c = subst (λ (n : ℕ). HadRequest side log n) c.same (first-queued side log c.queued c.later c.first).request
@@ -152,7 +152,7 @@ new-delivered side turn log k _ c e = absurd (cc)
 new-has-one : (side : Side) (turn : Turn) (log : Log) (r : CallRecord) → Handshakes side log → RecordCause side turn log r → has_request (handshake_state (r ∷ calls_of log)) ≡ true → list_any (delivers (requested_stream (r ∷ calls_of log))) (r ∷ calls_of log) ≡ true
 new-has-one side turn log (RequestDelivered k) f c e = or_left (k == k) _ (eq-eqb k k refl)
 new-has-one side turn log (ResponseStarted accepts head) f c e = f.has_one (from-request turn (calls_of log) accepts head c.0)
-new-has-one side turn log (SessionEstablished id at) f c e = absurd (cc)
+new-has-one side turn log (SessionEstablished id offset) f c e = absurd (cc)
 new-has-one side turn log HandshakeOver f c e = absurd (cc)
 new-has-one side turn log (ConnectStarted reserved head) f c e = absurd (cc)
 new-has-one side turn log _ f c e = f.has_one e
@@ -160,7 +160,7 @@ new-has-one side turn log _ f c e = f.has_one e
 new-server : (side : Side) (turn : Turn) (log : Log) (r : CallRecord) → Handshakes side log → RecordCause side turn log r → has_request (handshake_state (r ∷ calls_of log)) ≡ true → is_client side ≡ false
 new-server side turn log (RequestDelivered k) f c e = c.by_server
 new-server side turn log (ResponseStarted accepts head) f c e = f.by_server (from-request turn (calls_of log) accepts head c.0)
-new-server side turn log (SessionEstablished id at) f c e = absurd (cc)
+new-server side turn log (SessionEstablished id offset) f c e = absurd (cc)
 new-server side turn log HandshakeOver f c e = absurd (cc)
 new-server side turn log (ConnectStarted reserved head) f c e = absurd (cc)
 new-server side turn log _ f c e = f.by_server e
@@ -169,7 +169,7 @@ new-client : (side : Side) (turn : Turn) (log : Log) (r : CallRecord) (reserved 
 new-client side turn log (ConnectStarted o h) reserved head f c e = c.by_client
 new-client side turn log (RequestDelivered k) reserved head f c e = absurd (cc)
 new-client side turn log (ResponseStarted accepts h) reserved head f c e = absurd (cc)
-new-client side turn log (SessionEstablished id at) reserved head f c e = absurd (cc)
+new-client side turn log (SessionEstablished id offset) reserved head f c e = absurd (cc)
 new-client side turn log HandshakeOver reserved head f c e = absurd (cc)
 new-client side turn log _ reserved head f c e = f.by_client reserved head e
 
@@ -238,35 +238,35 @@ one-delivered side turn log own head s f g x i =
     let c = carried-before side own log s y g in
     record { delivered = d; settings = y.settings; headers = y.headers; offset = y.offset; opened = c.opened; bytes = c.bytes; verdict = y.verdict }
 
-established-how : (side : Side) (turn : Turn) (log : Log) (own : List Action) (s at : ℕ) → Handshakes side log → Facts side (with_actions own log) → EstablishCause side turn log own s at → EstablishedHow side log own s at
-established-how side turn log own s at f g (ByAnswer head x i c o a) =
+established-how : (side : Side) (turn : Turn) (log : Log) (own : List Action) (s offset : ℕ) → Handshakes side log → Facts side (with_actions own log) → EstablishCause side turn log own s offset → EstablishedHow side log own s offset
+established-how side turn log own s offset f g (ByAnswer head x i c o a) =
     let h = accepted-head side turn log head f x in
     let d = one-delivered side turn log own head s f g x i in
     AfterRequest h.0 d (f.by_server (from-request turn (calls_of log) true head x)) (a ∙ ap request_end d.verdict)
     (subst (λ z. is_covered log s (head_left log s z) ≡ true) h.1 c) (subst (λ z. own ≡ send_of s (head_left log s z)) h.1 o)
     (subst (λ z. head_left (with_actions own log) s z ≡ []) h.1 (subst (λ as_. head_left (with_actions as_ log) s head ≡ []) (sym o) (head-out log s head)))
-established-how side turn log own s at f g (ByResponse head fields t z w r c i n l) = AfterResponse head fields (f.by_client None head z) i n z l w r c
+established-how side turn log own s offset f g (ByResponse head fields t z w r c i n l) = AfterResponse head fields (f.by_client None head z) i n z l w r c
 
-settings-of : (side : Side) (log : Log) (own : List Action) (s at : ℕ) → EstablishedHow side log own s at → settings_came side log ≡ true
-settings-of side log own s at (AfterRequest headers w b e c o h) = w.settings
-settings-of side log own s at (AfterResponse head fields b i n z l w r c) = w
+settings-of : (side : Side) (log : Log) (own : List Action) (s offset : ℕ) → EstablishedHow side log own s offset → settings_came side log ≡ true
+settings-of side log own s offset (AfterRequest headers w b e c o h) = w.settings
+settings-of side log own s offset (AfterResponse head fields b i n z l w r c) = w
 
-pub established-rightly : (side : Side) (turn : Turn) (log later : Log) (s at : ℕ) → GoesOnFrom (Called (SessionEstablished s at) ∷ log) later → Handshakes side log → Facts side log → EstablishedBy side turn log s at → EstablishedRightly side later s at
-established-rightly side turn log later s at g f v c =
+pub established-rightly : (side : Side) (turn : Turn) (log later : Log) (s offset : ℕ) → GoesOnFrom (Called (SessionEstablished s offset) ∷ log) later → Handshakes side log → Facts side log → EstablishedBy side turn log s offset → EstablishedRightly side later s offset
+established-rightly side turn log later s offset g f v c =
     let h = handshakes-before side c.own c.before (subst (Handshakes side) c.is f) in
-    let how = established-how side turn c.before c.own s at h (subst (Facts side) c.is v) c.how in
+    let how = established-how side turn c.before c.own s offset h (subst (Facts side) c.is v) c.how in
     record {
       before = c.before;
       own = c.own;
-      follows = subst (λ z. GoesOnFrom (Called (SessionEstablished s at) ∷ z) later) c.is g;
+      follows = subst (λ z. GoesOnFrom (Called (SessionEstablished s offset) ∷ z) later) c.is g;
       was_open = c.was_open;
-      settings = settings-of side c.before c.own s at how;
+      settings = settings-of side c.before c.own s offset how;
       none_before = h.none_yet c.under_way;
       how = how;
     }
 
-rightly-later : (side : Side) (e : Entry) (log : Log) (s at : ℕ) → EstablishedRightly side log s at → EstablishedRightly side (e ∷ log) s at
-rightly-later side e log s at x = record { before = x.before; own = x.own; follows = (e ∷ x.follows.0, ap (λ z. e ∷ z) x.follows.1); was_open = x.was_open; settings = x.settings; none_before = x.none_before; how = x.how }
+rightly-later : (side : Side) (e : Entry) (log : Log) (s offset : ℕ) → EstablishedRightly side log s offset → EstablishedRightly side (e ∷ log) s offset
+rightly-later side e log s offset x = record { before = x.before; own = x.own; follows = (e ∷ x.follows.0, ap (λ z. e ∷ z) x.follows.1); was_open = x.was_open; settings = x.settings; none_before = x.none_before; how = x.how }
 
 record Sessions (side : Side) (log : Log) : Type 0 where
   pub facts_hold : Facts side log
@@ -277,66 +277,66 @@ begins_at : Option (ℕ × ℕ) → ℕ
 begins_at None = 0
 begins_at (Some s) = s.1
 
-new-session : (side : Side) (turn : Turn) (log : Log) (r : CallRecord) → RecordCause side turn log r → Sessions side log → (s at : ℕ) → established_session (r ∷ calls_of log) ≡ Some (s, at) → EstablishedRightly side (Called r ∷ log) s at
+new-session : (side : Side) (turn : Turn) (log : Log) (r : CallRecord) → RecordCause side turn log r → Sessions side log → (s offset : ℕ) → established_session (r ∷ calls_of log) ≡ Some (s, offset) → EstablishedRightly side (Called r ∷ log) s offset
 unfolding begins_at
-new-session side turn log (SessionEstablished i a) c f s at e =
-    let x : i ≡ s = ap session_id e in let y : a ≡ at = ap begins_at e in
-    subst (λ (n : ℕ). EstablishedRightly side (Called (SessionEstablished i a) ∷ log) n at) x (subst (λ (m : ℕ). EstablishedRightly side (Called (SessionEstablished i a) ∷ log) i m) y
+new-session side turn log (SessionEstablished i a) c f s offset e =
+    let x : i ≡ s = ap session_id e in let y : a ≡ offset = ap begins_at e in
+    subst (λ (n : ℕ). EstablishedRightly side (Called (SessionEstablished i a) ∷ log) n offset) x (subst (λ (m : ℕ). EstablishedRightly side (Called (SessionEstablished i a) ∷ log) i m) y
     (established-rightly side turn log (Called (SessionEstablished i a) ∷ log) i a ([], refl) f.handshakes f.facts_hold c))
-new-session side turn log _ c f s at e = rightly-later side _ log s at (f.rightly s at e)
+new-session side turn log _ c f s offset e = rightly-later side _ log s offset (f.rightly s offset e)
 
 sessions-entries : (side : Side) (turn : Turn) → KeepsEntries side turn (Sessions side)
 sessions-entries side turn = record {
-  action = λ log a f. record { facts_hold = (facts-entries side turn).action log a f.facts_hold; handshakes = handshakes-same side (Sent a) log refl f.handshakes; rightly = λ s at e. rightly-later side (Sent a) log s at (f.rightly s at e) };
-  event = λ log v o b f. record { facts_hold = (facts-entries side turn).event log v o b f.facts_hold; handshakes = handshakes-same side (Reported v) log refl f.handshakes; rightly = λ s at e. rightly-later side (Reported v) log s at (f.rightly s at e) };
-  late = λ log v o b f. record { facts_hold = (facts-entries side turn).late log v o b f.facts_hold; handshakes = handshakes-same side (ReportedLate v) log refl f.handshakes; rightly = λ s at e. rightly-later side (ReportedLate v) log s at (f.rightly s at e) };
-  byte = λ log id b o r f. record { facts_hold = (facts-entries side turn).byte log id b o r f.facts_hold; handshakes = handshakes-same side (Received id b) log refl f.handshakes; rightly = λ s at e. rightly-later side (Received id b) log s at (f.rightly s at e) };
+  action = λ log a f. record { facts_hold = (facts-entries side turn).action log a f.facts_hold; handshakes = handshakes-same side (Sent a) log refl f.handshakes; rightly = λ s offset e. rightly-later side (Sent a) log s offset (f.rightly s offset e) };
+  event = λ log v o b f. record { facts_hold = (facts-entries side turn).event log v o b f.facts_hold; handshakes = handshakes-same side (Reported v) log refl f.handshakes; rightly = λ s offset e. rightly-later side (Reported v) log s offset (f.rightly s offset e) };
+  late = λ log v o b f. record { facts_hold = (facts-entries side turn).late log v o b f.facts_hold; handshakes = handshakes-same side (ReportedLate v) log refl f.handshakes; rightly = λ s offset e. rightly-later side (ReportedLate v) log s offset (f.rightly s offset e) };
+  byte = λ log id b o r f. record { facts_hold = (facts-entries side turn).byte log id b o r f.facts_hold; handshakes = handshakes-same side (Received id b) log refl f.handshakes; rightly = λ s offset e. rightly-later side (Received id b) log s offset (f.rightly s offset e) };
   record_ = λ log r c f. record { facts_hold = (facts-entries side turn).record_ log r c f.facts_hold; handshakes = handshakes-record side turn log r c f.handshakes; rightly = new-session side turn log r c f };
 }
 
 pub sessions-rightly : (side : Side) (log : Log) → IsReachable side log → SessionsRightly side log
 sessions-rightly side log r =
-    (reached (Sessions side) (record { facts_hold = facts-first side; handshakes = handshakes-first side; rightly = λ s at e. absurd (cc) }) (λ turn. by-entries (sessions-entries side turn)) log r).rightly
+    (reached (Sessions side) (record { facts_hold = facts-first side; handshakes = handshakes-first side; rightly = λ s offset e. absurd (cc) }) (λ turn. by-entries (sessions-entries side turn)) log r).rightly
 
 -- ---- at most one
 
-record EstablishedAs (side : Side) (s at : ℕ) (log : Log) : Type 0 where
+record EstablishedAs (side : Side) (s offset : ℕ) (log : Log) : Type 0 where
   pub handshakes : Handshakes side log
-  pub is : established_session (calls_of log) ≡ Some (s, at)
+  pub is : established_session (calls_of log) ≡ Some (s, offset)
 
-no-other : (side : Side) (turn : Turn) (log : Log) (s at : ℕ) (r : CallRecord) → RecordCause side turn log r → EstablishedAs side s at log → established_session (r ∷ calls_of log) ≡ Some (s, at)
-no-other side turn log s at (SessionEstablished i a) c p =
+no-other : (side : Side) (turn : Turn) (log : Log) (s offset : ℕ) (r : CallRecord) → RecordCause side turn log r → EstablishedAs side s offset log → established_session (r ∷ calls_of log) ≡ Some (s, offset)
+no-other side turn log s offset (SessionEstablished i a) c p =
     absurd (let n = (handshakes-before side c.own c.before (subst (Handshakes side) c.is p.handshakes)).none_yet c.under_way in
     let e = ap established_session (ap calls_of c.is ∙ calls-with c.own c.before) in let q = p.is in cc)
-no-other side turn log s at _ c p = p.is
+no-other side turn log s offset _ c p = p.is
 
-established-entries : (side : Side) (turn : Turn) (s at : ℕ) → KeepsEntries side turn (EstablishedAs side s at)
-established-entries side turn s at = record {
+established-entries : (side : Side) (turn : Turn) (s offset : ℕ) → KeepsEntries side turn (EstablishedAs side s offset)
+established-entries side turn s offset = record {
   action = λ log a p. record { handshakes = handshakes-same side (Sent a) log refl p.handshakes; is = p.is };
   event = λ log v o b p. record { handshakes = handshakes-same side (Reported v) log refl p.handshakes; is = p.is };
   late = λ log v o b p. record { handshakes = handshakes-same side (ReportedLate v) log refl p.handshakes; is = p.is };
   byte = λ log id b o r p. record { handshakes = handshakes-same side (Received id b) log refl p.handshakes; is = p.is };
-  record_ = λ log r c p. record { handshakes = handshakes-record side turn log r c p.handshakes; is = no-other side turn log s at r c p };
+  record_ = λ log r c p. record { handshakes = handshakes-record side turn log r c p.handshakes; is = no-other side turn log s offset r c p };
 }
 
 pub one-session : (side : Side) (log : Log) (turn : Turn) → IsReachable side log → is_lawful side log turn ≡ true → OneSession side log turn
-one-session side log turn r l s at e =
-    (keeps-turn (by-entries (established-entries side turn s at)) log l (record { handshakes = handshakes-hold side log r; is = e })).is
+one-session side log turn r l s offset e =
+    (keeps-turn (by-entries (established-entries side turn s offset)) log l (record { handshakes = handshakes-hold side log r; is = e })).is
 
 -- ---- the reply
 
-tells-session : (turn : Turn) (s : ℕ) (reply : Reply) → reply ≡ replies.Session s → (r : CallRecord) → TellsOf turn r reply → (at : ℕ) × ((cs : List CallRecord) → established_session (r ∷ cs) ≡ Some (s, at))
-tells-session turn s reply e (SessionEstablished i a) t = let q = ap session_told e in let x : i ≡ s = cc in (a, λ cs. ap (λ n. Some (n, a)) x)
+tells-session : (turn : Turn) (s : ℕ) (reply : Reply) → reply ≡ replies.Session s → (r : CallRecord) → TellsOf turn r reply → (offset : ℕ) × ((cs : List CallRecord) → established_session (r ∷ cs) ≡ Some (s, offset))
+tells-session turn s reply e (SessionEstablished i a) t = let q = ap session_reported e in let x : i ≡ s = cc in (a, λ cs. ap (λ n. Some (n, a)) x)
 tells-session turn s reply e (BytesRead k n) t = absurd (let y = ap read_piece e in let z = t.1 in cc)
 tells-session turn s reply e (StreamAccepted k) t = absurd (let y = ap given_stream e in cc)
-tells-session turn s reply e DatagramReceived t = absurd (let y = ap datagram_told e in let z = t.1 in cc)
-tells-session turn s reply e (RequestDelivered k) t = absurd (let y = ap request_told e in cc)
+tells-session turn s reply e DatagramReceived t = absurd (let y = ap datagram_reported e in let z = t.1 in cc)
+tells-session turn s reply e (RequestDelivered k) t = absurd (let y = ap request_reported e in cc)
 tells-session turn s reply e _ t = absurd (let y = ap is_quiet e in cc)
 
-told-by : (turn : Turn) (s : ℕ) (before after : List CallRecord) (reply : Reply) → reply ≡ replies.Session s → Logged turn before after reply → (at : ℕ) × (established_session after ≡ Some (s, at))
-told-by turn s before after reply e (NoRecord c q) = absurd (let x = ap is_quiet e in cc)
-told-by turn s before after reply e (OneRecord r c t) = let x = tells-session turn s reply e r t in (x.0, ap established_session c ∙ x.1 before)
-told-by turn s before after reply e (ThenPolled r c t) = let x = tells-session turn s reply e r t in (x.0, ap established_session c ∙ x.1 before)
+reported-by : (turn : Turn) (s : ℕ) (before after : List CallRecord) (reply : Reply) → reply ≡ replies.Session s → Logged turn before after reply → (offset : ℕ) × (established_session after ≡ Some (s, offset))
+reported-by turn s before after reply e (NoRecord c q) = absurd (let x = ap is_quiet e in cc)
+reported-by turn s before after reply e (OneRecord r c t) = let x = tells-session turn s reply e r t in (x.0, ap established_session c ∙ x.1 before)
+reported-by turn s before after reply e (ThenPolled r c t) = let x = tells-session turn s reply e r t in (x.0, ap established_session c ∙ x.1 before)
 
-pub session-told : (side : Side) (log : Log) (turn : Turn) → is_lawful side log turn ≡ true → SessionTold side log turn
-session-told side log turn l s e = let c = caused side turn log l in told-by turn s (calls_of c.decided) (calls_of (log_after side log turn)) _ e c.logged
+pub session-reported : (side : Side) (log : Log) (turn : Turn) → is_lawful side log turn ≡ true → SessionReported side log turn
+session-reported side log turn l s e = let c = caused side turn log l in reported-by turn s (calls_of c.decided) (calls_of (log_after side log turn)) _ e c.logged

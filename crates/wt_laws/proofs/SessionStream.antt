@@ -53,7 +53,7 @@ pub record FrameOut (side : Side) (frame : Option (List ℕ)) (log : Log) : Type
   pub untouched : (k : ℕ) → is_local side k ≡ false → is_accepted log k ≡ false → list_any (delivers k) (calls_of log) ≡ false → (sent_on (actions_of log) k ≡ []) × (is_finished (actions_of log) k ≡ false)
   pub opened : is_client side ≡ true → is_some (established_session (calls_of log)) ≡ true → local_count (actions_of log) (local_bi side) ≢ 0
   pub no_opening : is_client side ≡ true → list_any (starts_opening (local_bi side)) (calls_of log) ≡ false
-  pub whole : (s at : ℕ) → established_session (calls_of log) ≡ Some (s, at) → (is_session_stream side (calls_of log) s ≡ true) × (frame ≡ Some (sent_on (actions_of log) s))
+  pub whole : (s offset : ℕ) → established_session (calls_of log) ≡ Some (s, offset) → (is_session_stream side (calls_of log) s ≡ true) × (frame ≡ Some (sent_on (actions_of log) s))
   pub finished : (k : ℕ) → is_session_stream side (calls_of log) k ≡ true → is_finished (actions_of log) k ≡ true → frame ≡ Some (sent_on (actions_of log) k)
 
 -- ---- which stream it is
@@ -74,11 +74,11 @@ for-server side cs k c e = ap (λ (b : Bool). if b then k == local_bi side else 
 
 -- a stream of the session stays so
 pub more-sessions : (side : Side) (cs : List CallRecord) (r : CallRecord) (k : ℕ) → is_session_stream side cs k ≡ true → is_session_stream side (r ∷ cs) k ≡ true
-more-sessions side cs r k i = at (is_client side) refl
+more-sessions side cs r k i = by (is_client side) refl
   where
-    at : (b : Bool) → is_client side ≡ b → is_session_stream side (r ∷ cs) k ≡ true
-    at true c = for-client side (r ∷ cs) k c (on-client side cs k true c refl i)
-    at false c = for-server side (r ∷ cs) k c (or_right (delivers k r) _ (on-server side cs k false c refl i))
+    by : (b : Bool) → is_client side ≡ b → is_session_stream side (r ∷ cs) k ≡ true
+    by true c = for-client side (r ∷ cs) k c (on-client side cs k true c refl i)
+    by false c = for-server side (r ∷ cs) k c (or_right (delivers k r) _ (on-server side cs k false c refl i))
 
 is-local-bi : (side : Side) → is_local side (local_bi side) ≡ true
 is-local-bi Client = refl
@@ -139,39 +139,39 @@ module _ (side : Side) (frame : Option (List ℕ)) where
   request-not-local log k h d l = absurd (let w = (h.heads.given.handshakes.delivered k d).verdict in let n = local-unclassified side log k l in cc)
 
   request-not-given : (log : Log) (k : ℕ) → FrameOut side frame log → list_any (delivers k) (calls_of log) ≡ true → is_accepted log k ≡ true → ⊥
-  request-not-given log k h d a = at (h.heads.given.facts_hold.accepted k a)
+  request-not-given log k h d a = by (h.heads.given.facts_hold.accepted k a)
     where
-      at : (is_local side k ≡ true) ⊎ IsSessions side log k → ⊥
-      at (inl l) = request-not-local log k h d l
-      at (inr s) = absurd (let w = (h.heads.given.handshakes.delivered k d).verdict in let v = s.verdict in cc)
+      by : (is_local side k ≡ true) ⊎ IsSessions side log k → ⊥
+      by (inl l) = request-not-local log k h d l
+      by (inr s) = absurd (let w = (h.heads.given.handshakes.delivered k d).verdict in let v = s.verdict in cc)
 
   not-started : (log : Log) (k : ℕ) → FrameOut side frame log → is_session_stream side (calls_of log) k ≡ true → list_any (starts_opening k) (calls_of log) ≡ true → ⊥
-  not-started log k h i o = at (is_client side) refl
+  not-started log k h i o = by (is_client side) refl
     where
-      at : (b : Bool) → is_client side ≡ b → ⊥
-      at true c = absurd (let e = on-client side (calls_of log) k true c refl i in let x = ap (λ j. list_any (starts_opening j) (calls_of log)) e in let y = h.no_opening c in cc)
-      at false c = request-not-local log k h (on-server side (calls_of log) k false c refl i) (h.heads.given.facts_hold.openings k o)
+      by : (b : Bool) → is_client side ≡ b → ⊥
+      by true c = absurd (let e = on-client side (calls_of log) k true c refl i in let x = ap (λ j. list_any (starts_opening j) (calls_of log)) e in let y = h.no_opening c in cc)
+      by false c = request-not-local log k h (on-server side (calls_of log) k false c refl i) (h.heads.given.facts_hold.openings k o)
 
   pub not-given : (log : Log) (k : ℕ) → FrameOut side frame log → is_session_stream side (calls_of log) k ≡ true → is_accepted log k ≡ true → ⊥
-  not-given log k h i a = at (is_client side) refl
+  not-given log k h i a = by (is_client side) refl
     where
-      at : (b : Bool) → is_client side ≡ b → ⊥
-      at true c =
+      by : (b : Bool) → is_client side ≡ b → ⊥
+      by true c =
           let e = on-client side (calls_of log) k true c refl i in
           let l : is_local side k ≡ true = ap (is_local side) e ∙ is-local-bi side in
           not-started log k h i (h.heads.local_accepted k l a)
-      at false c = request-not-given log k h (on-server side (calls_of log) k false c refl i) a
+      by false c = request-not-given log k h (on-server side (calls_of log) k false c refl i) a
 
   pub not-control-stream : (log : Log) (k : ℕ) → FrameOut side frame log → is_session_stream side (calls_of log) k ≡ true → k ≢ local_uni side
-  not-control-stream log k h i e = at (is_client side) refl
+  not-control-stream log k h i e = by (is_client side) refl
     where
       other : (sd : Side) → local_bi sd ≢ local_uni sd
       other Client e = absurd (omega arith)
       other Server e = absurd (omega arith)
 
-      at : (b : Bool) → is_client side ≡ b → ⊥
-      at true c = other side (sym (on-client side (calls_of log) k true c refl i) ∙ e)
-      at false c = request-not-local log k h (on-server side (calls_of log) k false c refl i) (ap (is_local side) e ∙ is-local-uni side)
+      by : (b : Bool) → is_client side ≡ b → ⊥
+      by true c = other side (sym (on-client side (calls_of log) k true c refl i) ∙ e)
+      by false c = request-not-local log k h (on-server side (calls_of log) k false c refl i) (ap (is_local side) e ∙ is-local-uni side)
 
   -- ---- an action of a call's own
 
@@ -180,8 +180,8 @@ module _ (side : Side) (frame : Option (List ℕ)) where
   under-way-request (Responding accepts head) e = refl
   under-way-request _ e = absurd (cc)
 
-  nothing-behind : (c : ℕ) (xs ys : List ℕ) → xs ≡ ys → take c (drop (length ys) xs) ≡ []
-  nothing-behind c xs ys e = ap (take c) (ap (λ zs. drop (length ys) zs) e ∙ drop_all (length ys) ys (omega arith)) ∙ none-of c
+  nothing-after : (c : ℕ) (xs ys : List ℕ) → xs ≡ ys → take c (drop (length ys) xs) ≡ []
+  nothing-after c xs ys e = ap (take c) (ap (λ zs. drop (length ys) zs) e ∙ drop_all (length ys) ys (omega arith)) ∙ none-of c
     where
       none-of : (n : ℕ) → take {A = ℕ} n [] ≡ []
       none-of zero = refl
@@ -212,19 +212,19 @@ module _ (side : Side) (frame : Option (List ℕ)) where
     sends-written log id k e w = subst (λ (j : ℕ). is_accepted log j ≡ true) (eqb-true id k e) (and_parts (is_accepted log id) _ w).0
 
     action-begun : (log : Log) (k : ℕ) (a : Action) → FrameOut side frame log → is_session_stream side (calls_of log) k ≡ true → ActionCause side turn log a → (n : ℕ) × (sent_on (actions_of log) k ++ piece_on k a ≡ take n (unwrap_or frame []))
-    action-begun log k (actions.Send id piece) h i c = at (id == k) refl c.1
+    action-begun log k (actions.Send id piece) h i c = by (id == k) refl c.1
       where
-        at : (b : Bool) → (id == k) ≡ b → SendCause side turn log id piece → (n : ℕ) × (sent_on (actions_of log) k ++ (if b then piece else []) ≡ take n (unwrap_or frame []))
-        at false e x = ((h.begun k i).0, append-nil (sent_on (actions_of log) k) ∙ (h.begun k i).1)
-        at true e (OfWrite bytes b w m q) = absurd (not-given log k h i (sends-written log id k e w))
-        at true e (OfHeader session u z d o q) = absurd (not-started log k h i (subst (λ (j : ℕ). list_any (starts_opening j) (calls_of log) ≡ true) (eqb-true id k e) (and_parts (list_any (starts_opening id) (calls_of log)) _ o).0))
-        at true e (OfResponse accepts head f r q) = goes-on log k head piece (response-frame log accepts head h f) (h.begun k i) (moved log id k head piece e q)
-        at true e (OfRequest head c s r z q) = goes-on log k head piece (h.connecting None head s).0 (h.begun k i) (moved log id k head piece e q)
+        by : (b : Bool) → (id == k) ≡ b → SendCause side turn log id piece → (n : ℕ) × (sent_on (actions_of log) k ++ (if b then piece else []) ≡ take n (unwrap_or frame []))
+        by false e x = ((h.begun k i).0, append-nil (sent_on (actions_of log) k) ∙ (h.begun k i).1)
+        by true e (OfWrite bytes b w m q) = absurd (not-given log k h i (sends-written log id k e w))
+        by true e (OfHeader session u z d o q) = absurd (not-started log k h i (subst (λ (j : ℕ). list_any (starts_opening j) (calls_of log) ≡ true) (eqb-true id k e) (and_parts (list_any (starts_opening id) (calls_of log)) _ o).0))
+        by true e (OfResponse accepts head f r q) = goes-on log k head piece (response-frame log accepts head h f) (h.begun k i) (moved log id k head piece e q)
+        by true e (OfRequest head c s r z q) = goes-on log k head piece (h.connecting None head s).0 (h.begun k i) (moved log id k head piece e q)
     action-begun log k _ h i c = ((h.begun k i).0, append-nil (sent_on (actions_of log) k) ∙ (h.begun k i).1)
 
     -- nothing more goes out on it once the session is established
     action-whole : (log : Log) (k at_ : ℕ) (a : Action) → FrameOut side frame log → established_session (calls_of log) ≡ Some (k, at_) → ActionCause side turn log a → piece_on k a ≡ []
-    action-whole log k at_ (actions.Send id piece) h d c = at (id == k) refl c.1
+    action-whole log k at_ (actions.Send id piece) h d c = by (id == k) refl c.1
       where
         i : is_session_stream side (calls_of log) k ≡ true
         i = (h.whole k at_ d).0
@@ -232,39 +232,39 @@ module _ (side : Side) (frame : Option (List ℕ)) where
         none-under-way : is_under_way (handshake_state (calls_of log)) ≡ true → ⊥
         none-under-way u = absurd (let n = h.heads.given.handshakes.none_yet u in cc)
 
-        at : (b : Bool) → (id == k) ≡ b → SendCause side turn log id piece → (if b then piece else []) ≡ []
-        at false e x = refl
-        at true e (OfWrite bytes b w m q) = absurd (not-given log k h i (sends-written log id k e w))
-        at true e (OfHeader session u z d o q) = absurd (not-started log k h i (subst (λ (j : ℕ). list_any (starts_opening j) (calls_of log) ≡ true) (eqb-true id k e) (and_parts (list_any (starts_opening id) (calls_of log)) _ o).0))
-        at true e (OfResponse accepts head f r q) = absurd (none-under-way (under-way-request (handshake_state (calls_of log)) (from-request turn (calls_of log) accepts head f)))
-        at true e (OfRequest head c s r z q) = absurd (none-under-way (ap is_under_way s))
+        by : (b : Bool) → (id == k) ≡ b → SendCause side turn log id piece → (if b then piece else []) ≡ []
+        by false e x = refl
+        by true e (OfWrite bytes b w m q) = absurd (not-given log k h i (sends-written log id k e w))
+        by true e (OfHeader session u z d o q) = absurd (not-started log k h i (subst (λ (j : ℕ). list_any (starts_opening j) (calls_of log) ≡ true) (eqb-true id k e) (and_parts (list_any (starts_opening id) (calls_of log)) _ o).0))
+        by true e (OfResponse accepts head f r q) = absurd (none-under-way (under-way-request (handshake_state (calls_of log)) (from-request turn (calls_of log) accepts head f)))
+        by true e (OfRequest head c s r z q) = absurd (none-under-way (ap is_under_way s))
     action-whole log k at_ _ h d c = refl
 
     -- nor once the response is finished
     action-finished : (log : Log) (k : ℕ) (a : Action) → FrameOut side frame log → is_session_stream side (calls_of log) k ≡ true → is_finished (actions_of log) k ≡ true → ActionCause side turn log a → piece_on k a ≡ []
-    action-finished log k (actions.Send id piece) h i d c = at (id == k) refl c.1
+    action-finished log k (actions.Send id piece) h i d c = by (id == k) refl c.1
       where
         none : (head : List ℕ) → frame ≡ Some head → piece ≡ bytes_within_credit log k (head_left log k head) → piece ≡ []
         none head f q =
             let x = h.finished k i d in
             let y : head ≡ sent_on (actions_of log) k = cc in
-            q ∙ nothing-behind (credit_left log k) head (sent_on (actions_of log) k) y
+            q ∙ nothing-after (credit_left log k) head (sent_on (actions_of log) k) y
 
-        at : (b : Bool) → (id == k) ≡ b → SendCause side turn log id piece → (if b then piece else []) ≡ []
-        at false e x = refl
-        at true e (OfWrite bytes b w m q) = absurd (not-given log k h i (sends-written log id k e w))
-        at true e (OfHeader session u z d o q) = absurd (not-started log k h i (subst (λ (j : ℕ). list_any (starts_opening j) (calls_of log) ≡ true) (eqb-true id k e) (and_parts (list_any (starts_opening id) (calls_of log)) _ o).0))
-        at true e (OfResponse accepts head f r q) = none head (response-frame log accepts head h f) (moved log id k head piece e q)
-        at true e (OfRequest head c s r z q) = none head (h.connecting None head s).0 (moved log id k head piece e q)
+        by : (b : Bool) → (id == k) ≡ b → SendCause side turn log id piece → (if b then piece else []) ≡ []
+        by false e x = refl
+        by true e (OfWrite bytes b w m q) = absurd (not-given log k h i (sends-written log id k e w))
+        by true e (OfHeader session u z d o q) = absurd (not-started log k h i (subst (λ (j : ℕ). list_any (starts_opening j) (calls_of log) ≡ true) (eqb-true id k e) (and_parts (list_any (starts_opening id) (calls_of log)) _ o).0))
+        by true e (OfResponse accepts head f r q) = none head (response-frame log accepts head h f) (moved log id k head piece e q)
+        by true e (OfRequest head c s r z q) = none head (h.connecting None head s).0 (moved log id k head piece e q)
     action-finished log k _ h i d c = refl
 
     -- the response is finished once all of it is out
     new-finished : (log : Log) (k : ℕ) (a : Action) → FrameOut side frame log → is_session_stream side (calls_of log) k ≡ true → finishes k a ≡ true → ActionCause side turn log a → frame ≡ Some (sent_on (actions_of (Sent a ∷ log)) k)
-    new-finished log k (actions.Finish id) h i e c = at c.1
+    new-finished log k (actions.Finish id) h i e c = by c.1
       where
-        at : FinishCause side turn log id → frame ≡ Some (sent_on (actions_of log) k)
-        at (OfCall x w n m s) = absurd (not-given log k h i (sends-written log id k e w))
-        at (OfRejection head f r l n) =
+        by : FinishCause side turn log id → frame ≡ Some (sent_on (actions_of log) k)
+        by (OfCall x w n m s) = absurd (not-given log k h i (sends-written log id k e w))
+        by (OfRejection head f r l n) =
             let g = response-frame log false head h f in
             let p = h.begun k i in
             let u : unwrap_or frame [] ≡ head = ap (λ (o : Option (List ℕ)). unwrap_or o []) g in
@@ -272,23 +272,23 @@ module _ (side : Side) (frame : Option (List ℕ)) where
     new-finished log k _ h i e c = absurd (cc)
 
     untouched-send : (log : Log) (k : ℕ) (a : Action) → FrameOut side frame log → is_local side k ≡ false → is_accepted log k ≡ false → list_any (delivers k) (calls_of log) ≡ false → ActionCause side turn log a → piece_on k a ≡ []
-    untouched-send log k (actions.Send id piece) h l n d c = at (id == k) refl c.1
+    untouched-send log k (actions.Send id piece) h l n d c = by (id == k) refl c.1
       where
-        at : (b : Bool) → (id == k) ≡ b → SendCause side turn log id piece → (if b then piece else []) ≡ []
-        at false e x = refl
-        at true e (OfWrite bytes b w m q) = absurd (let x = sends-written log id k e w in cc)
-        at true e (OfHeader session u z s o q) = absurd (let x = h.heads.given.facts_hold.openings k (subst (λ (j : ℕ). list_any (starts_opening j) (calls_of log) ≡ true) (eqb-true id k e) (and_parts (list_any (starts_opening id) (calls_of log)) _ o).0) in cc)
-        at true e (OfResponse accepts head f r q) = absurd (let x = subst (λ (j : ℕ). list_any (delivers j) (calls_of log) ≡ true) (sym r ∙ eqb-true id k e) (h.heads.given.handshakes.has_one (from-request turn (calls_of log) accepts head f)) in cc)
-        at true e (OfRequest head c s r z q) = absurd (let x = is-local-bi side in let y = ap (is_local side) (sym r ∙ eqb-true id k e) in cc)
+        by : (b : Bool) → (id == k) ≡ b → SendCause side turn log id piece → (if b then piece else []) ≡ []
+        by false e x = refl
+        by true e (OfWrite bytes b w m q) = absurd (let x = sends-written log id k e w in cc)
+        by true e (OfHeader session u z s o q) = absurd (let x = h.heads.given.facts_hold.openings k (subst (λ (j : ℕ). list_any (starts_opening j) (calls_of log) ≡ true) (eqb-true id k e) (and_parts (list_any (starts_opening id) (calls_of log)) _ o).0) in cc)
+        by true e (OfResponse accepts head f r q) = absurd (let x = subst (λ (j : ℕ). list_any (delivers j) (calls_of log) ≡ true) (sym r ∙ eqb-true id k e) (h.heads.given.handshakes.has_one (from-request turn (calls_of log) accepts head f)) in cc)
+        by true e (OfRequest head c s r z q) = absurd (let x = is-local-bi side in let y = ap (is_local side) (sym r ∙ eqb-true id k e) in cc)
     untouched-send log k _ h l n d c = refl
 
     untouched-finish : (log : Log) (k : ℕ) (a : Action) → FrameOut side frame log → is_accepted log k ≡ false → list_any (delivers k) (calls_of log) ≡ false → ActionCause side turn log a → finishes k a ≡ false
-    untouched-finish log k (actions.Finish id) h n d c = at (id == k) refl c.1
+    untouched-finish log k (actions.Finish id) h n d c = by (id == k) refl c.1
       where
-        at : (b : Bool) → (id == k) ≡ b → FinishCause side turn log id → b ≡ false
-        at false e x = refl
-        at true e (OfCall x w m r s) = absurd (let y = sends-written log id k e w in cc)
-        at true e (OfRejection head f r l m) = absurd (let x = subst (λ (j : ℕ). list_any (delivers j) (calls_of log) ≡ true) (sym r ∙ eqb-true id k e) (h.heads.given.handshakes.has_one (from-request turn (calls_of log) false head f)) in cc)
+        by : (b : Bool) → (id == k) ≡ b → FinishCause side turn log id → b ≡ false
+        by false e x = refl
+        by true e (OfCall x w m r s) = absurd (let y = sends-written log id k e w in cc)
+        by true e (OfRejection head f r l m) = absurd (let x = subst (λ (j : ℕ). list_any (delivers j) (calls_of log) ≡ true) (sym r ∙ eqb-true id k e) (h.heads.given.handshakes.has_one (from-request turn (calls_of log) false head f)) in cc)
     untouched-finish log k _ h n d c = refl
 
     same-sent : (log : Log) (k : ℕ) (a : Action) → piece_on k a ≡ [] → sent_on (actions_of (Sent a ∷ log)) k ≡ sent_on (actions_of log) k
@@ -305,12 +305,12 @@ module _ (side : Side) (frame : Option (List ℕ)) where
       opened = λ b s z. h.opened b s (let m = more-or-same (opens (local_bi side) a) (local_count (actions_of log) (local_bi side)) in omega arith);
       no_opening = h.no_opening;
       whole = λ s u d. let w = h.whole s u d in (w.0, w.1 ∙ ap Some (sym (same-sent log s a (action-whole log s u a h d c))));
-      finished = λ k i f. at k i (is_finished (actions_of log) k) refl f;
+      finished = λ k i f. by k i (is_finished (actions_of log) k) refl f;
     }
       where
-        at : (k : ℕ) → is_session_stream side (calls_of log) k ≡ true → (b : Bool) → is_finished (actions_of log) k ≡ b → (finishes k a || b) ≡ true → frame ≡ Some (sent_on (actions_of (Sent a ∷ log)) k)
-        at k i true e f = h.finished k i e ∙ ap Some (sym (same-sent log k a (action-finished log k a h i e c)))
-        at k i false e f = new-finished log k a h i (from-or (finishes k a) false (λ x. x) (λ x. absurd (cc)) f) c
+        by : (k : ℕ) → is_session_stream side (calls_of log) k ≡ true → (b : Bool) → is_finished (actions_of log) k ≡ b → (finishes k a || b) ≡ true → frame ≡ Some (sent_on (actions_of (Sent a ∷ log)) k)
+        by k i true e f = h.finished k i e ∙ ap Some (sym (same-sent log k a (action-finished log k a h i e c)))
+        by k i false e f = new-finished log k a h i (from-or (finishes k a) false (λ x. x) (λ x. absurd (cc)) f) c
 
     pub out-own : (own : List Action) (log : Log) → OwnCauses side turn log own → FrameOut side frame log → FrameOut side frame (with_actions own log)
     out-own [] log c h = h
@@ -341,11 +341,11 @@ module _ (side : Side) (frame : Option (List ℕ)) where
 
   out-flush : (e : Entry) (log : Log) → FrameOut side frame (e ∷ log) → FrameOut side frame (log_and_flush side log e)
   unfolding flush
-  out-flush e log h = at (is_moment e && is_open (e ∷ log))
+  out-flush e log h = by (is_moment e && is_open (e ∷ log))
     where
-      at : (b : Bool) → FrameOut side frame (apply_if b (with_actions (pending_actions side (e ∷ log))) (e ∷ log))
-      at true = out-driver (pending_actions side (e ∷ log)) (e ∷ log) (pending-quiet side (e ∷ log)) h
-      at false = h
+      by : (b : Bool) → FrameOut side frame (apply_if b (with_actions (pending_actions side (e ∷ log))) (e ∷ log))
+      by true = out-driver (pending_actions side (e ∷ log)) (e ∷ log) (pending-quiet side (e ∷ log)) h
+      by false = h
 
   -- ---- a record
 
@@ -355,11 +355,11 @@ module _ (side : Side) (frame : Option (List ℕ)) where
 
     -- a stream of the session, or one whose request is delivered now
     new-stream : (r : CallRecord) (k : ℕ) → is_session_stream side (r ∷ calls_of then_) k ≡ true → (is_session_stream side (calls_of then_) k ≡ true) ⊎ ((is_client side ≡ false) × (delivers k r ≡ true) × (list_any (delivers k) (calls_of then_) ≡ false))
-    new-stream r k i = at (is_client side) refl
+    new-stream r k i = by (is_client side) refl
       where
-        at : (b : Bool) → is_client side ≡ b → (is_session_stream side (calls_of then_) k ≡ true) ⊎ ((is_client side ≡ false) × (delivers k r ≡ true) × (list_any (delivers k) (calls_of then_) ≡ false))
-        at true c = inl (for-client side (calls_of then_) k c (on-client side (r ∷ calls_of then_) k true c refl i))
-        at false c = older (list_any (delivers k) (calls_of then_)) refl (on-server side (r ∷ calls_of then_) k false c refl i)
+        by : (b : Bool) → is_client side ≡ b → (is_session_stream side (calls_of then_) k ≡ true) ⊎ ((is_client side ≡ false) × (delivers k r ≡ true) × (list_any (delivers k) (calls_of then_) ≡ false))
+        by true c = inl (for-client side (calls_of then_) k c (on-client side (r ∷ calls_of then_) k true c refl i))
+        by false c = older (list_any (delivers k) (calls_of then_)) refl (on-server side (r ∷ calls_of then_) k false c refl i)
           where
             older : (b : Bool) → list_any (delivers k) (calls_of then_) ≡ b → (delivers k r || b) ≡ true → (is_session_stream side (calls_of then_) k ≡ true) ⊎ ((is_client side ≡ false) × (delivers k r ≡ true) × (list_any (delivers k) (calls_of then_) ≡ false))
             older true e d = inl (for-server side (calls_of then_) k c e)
@@ -380,23 +380,23 @@ module _ (side : Side) (frame : Option (List ℕ)) where
     had-request _ k c e = absurd (cc)
 
     record-begun : (r : CallRecord) → FrameOut side frame then_ → RecordCause side turn then_ r → (k : ℕ) → is_session_stream side (r ∷ calls_of then_) k ≡ true → (n : ℕ) × (sent_on (actions_of then_) k ≡ take n (unwrap_or frame []))
-    record-begun r h c k i = at (new-stream r k i)
+    record-begun r h c k i = by (new-stream r k i)
       where
-        at : (is_session_stream side (calls_of then_) k ≡ true) ⊎ ((is_client side ≡ false) × (delivers k r ≡ true) × (list_any (delivers k) (calls_of then_) ≡ false)) → (n : ℕ) × (sent_on (actions_of then_) k ≡ take n (unwrap_or frame []))
-        at (inl j) = h.begun k j
-        at (inr x) = (0, (new-untouched r k h (had-request r k c x.1) x.2).0)
+        by : (is_session_stream side (calls_of then_) k ≡ true) ⊎ ((is_client side ≡ false) × (delivers k r ≡ true) × (list_any (delivers k) (calls_of then_) ≡ false)) → (n : ℕ) × (sent_on (actions_of then_) k ≡ take n (unwrap_or frame []))
+        by (inl j) = h.begun k j
+        by (inr x) = (0, (new-untouched r k h (had-request r k c x.1) x.2).0)
 
     record-finished : (r : CallRecord) → FrameOut side frame then_ → RecordCause side turn then_ r → (k : ℕ) → is_session_stream side (r ∷ calls_of then_) k ≡ true → is_finished (actions_of then_) k ≡ true → frame ≡ Some (sent_on (actions_of then_) k)
-    record-finished r h c k i f = at (new-stream r k i)
+    record-finished r h c k i f = by (new-stream r k i)
       where
-        at : (is_session_stream side (calls_of then_) k ≡ true) ⊎ ((is_client side ≡ false) × (delivers k r ≡ true) × (list_any (delivers k) (calls_of then_) ≡ false)) → frame ≡ Some (sent_on (actions_of then_) k)
-        at (inl j) = h.finished k j f
-        at (inr x) = absurd (let y = (new-untouched r k h (had-request r k c x.1) x.2).1 in cc)
+        by : (is_session_stream side (calls_of then_) k ≡ true) ⊎ ((is_client side ≡ false) × (delivers k r ≡ true) × (list_any (delivers k) (calls_of then_) ≡ false)) → frame ≡ Some (sent_on (actions_of then_) k)
+        by (inl j) = h.finished k j f
+        by (inr x) = absurd (let y = (new-untouched r k h (had-request r k c x.1) x.2).1 in cc)
 
     record-responding : (r : CallRecord) → FrameOut side frame then_ → RecordCause side turn then_ r → (accepts : Bool) (head : List ℕ) → handshake_state (r ∷ calls_of then_) ≡ Responding accepts head → frame ≡ Some head
     record-responding (ResponseStarted a hd) h c accepts head e =
         let x : hd ≡ head = cc in response-frame turn t then_ a hd h c.0 ∙ ap Some x
-    record-responding (SessionEstablished id at) h c accepts head e = absurd (cc)
+    record-responding (SessionEstablished id offset) h c accepts head e = absurd (cc)
     record-responding HandshakeOver h c accepts head e = absurd (cc)
     record-responding (RequestDelivered k) h c accepts head e = absurd (cc)
     record-responding (ConnectStarted reserved hd) h c accepts head e = absurd (cc)
@@ -404,7 +404,7 @@ module _ (side : Side) (frame : Option (List ℕ)) where
 
     record-connecting : (r : CallRecord) → FrameOut side frame then_ → RecordCause side turn then_ r → (reserved : Option (List ℕ)) (head : List ℕ) → handshake_state (r ∷ calls_of then_) ≡ Connecting reserved head → (frame ≡ Some head) × (is_client side ≡ true)
     record-connecting (ConnectStarted o hd) h c reserved head e = let x : hd ≡ head = cc in (t hd (ap head_frame_of c.dials.to.connects_to ∙ ap (request_to c.dials.to.headers) c.dials.to.parsed ∙ ap Some (sym c.request)) ∙ ap Some x, c.by_client)
-    record-connecting (SessionEstablished id at) h c reserved head e = absurd (cc)
+    record-connecting (SessionEstablished id offset) h c reserved head e = absurd (cc)
     record-connecting HandshakeOver h c reserved head e = absurd (cc)
     record-connecting (RequestDelivered k) h c reserved head e = absurd (cc)
     record-connecting (ResponseStarted a hd) h c reserved head e = absurd (cc)
@@ -414,7 +414,7 @@ module _ (side : Side) (frame : Option (List ℕ)) where
     record-asked (RequestDelivered k) h c e = c.by_server
     record-asked (ResponseStarted a hd) h c e = h.asked (from-request turn (calls_of then_) a hd c.0)
     record-asked (ConnectStarted o hd) h c e = absurd (cc)
-    record-asked (SessionEstablished id at) h c e = absurd (cc)
+    record-asked (SessionEstablished id offset) h c e = absurd (cc)
     record-asked HandshakeOver h c e = absurd (cc)
     record-asked _ h c e = h.asked e
 
@@ -455,15 +455,15 @@ module _ (side : Side) (frame : Option (List ℕ)) where
             }
 
     record-opened : (r : CallRecord) → FrameOut side frame then_ → RecordCause side turn then_ r → is_client side ≡ true → is_some (established_session (r ∷ calls_of then_)) ≡ true → local_count (actions_of then_) (local_bi side) ≢ 0
-    record-opened (SessionEstablished id at) h c b e = (session-is id at h c).opened b
+    record-opened (SessionEstablished id offset) h c b e = (session-is id offset h c).opened b
     record-opened _ h c b e = h.opened b e
 
-    record-whole : (r : CallRecord) → FrameOut side frame then_ → RecordCause side turn then_ r → (s at : ℕ) → established_session (r ∷ calls_of then_) ≡ Some (s, at) → (is_session_stream side (r ∷ calls_of then_) s ≡ true) × (frame ≡ Some (sent_on (actions_of then_) s))
-    record-whole (SessionEstablished id at_) h c s at e =
+    record-whole : (r : CallRecord) → FrameOut side frame then_ → RecordCause side turn then_ r → (s offset : ℕ) → established_session (r ∷ calls_of then_) ≡ Some (s, offset) → (is_session_stream side (r ∷ calls_of then_) s ≡ true) × (frame ≡ Some (sent_on (actions_of then_) s))
+    record-whole (SessionEstablished id at_) h c s offset e =
         let x : id ≡ s = ap session_id e in
         let y = session-is id at_ h c in
         (more-sessions side (calls_of then_) (SessionEstablished id at_) s (subst (λ (j : ℕ). is_session_stream side (calls_of then_) j ≡ true) x y.of_session), y.is_out ∙ ap (λ j. Some (sent_on (actions_of then_) j)) x)
-    record-whole r h c s at e = let w = h.whole s at e in (more-sessions side (calls_of then_) r s w.0, w.1)
+    record-whole r h c s offset e = let w = h.whole s offset e in (more-sessions side (calls_of then_) r s w.0, w.1)
 
     record-no-opening : (r : CallRecord) → FrameOut side frame log → CallCause side turn log own r → is_client side ≡ true → starts_opening (local_bi side) r ≡ true → ⊥
     record-no-opening (OpeningStarted id s) h c b e =
@@ -549,7 +549,7 @@ out-first side frame = record {
   untouched = λ k l n d. (refl, refl);
   opened = λ b e. absurd (cc);
   no_opening = λ b. refl;
-  whole = λ s at e. absurd (cc);
+  whole = λ s offset e. absurd (cc);
   finished = λ k i e. absurd (cc);
 }
 
@@ -565,7 +565,7 @@ answered-record : (side : Side) (turn : Turn) (log : Log) (r : CallRecord) → R
 answered-record side turn log (RequestDelivered id) c e = absurd (let x = ap is_unanswered c.under_way in cc)
 answered-record side turn log (ResponseStarted accepts head) c e = refl
 answered-record side turn log (ConnectStarted reserved head) c e = refl
-answered-record side turn log (SessionEstablished id at) c e = refl
+answered-record side turn log (SessionEstablished id offset) c e = refl
 answered-record side turn log HandshakeOver c e = refl
 answered-record side turn log _ c e = e
 
@@ -574,11 +574,11 @@ answered-entries side turn = record { action = λ log a p. p; event = λ log e o
 
 -- where a request is unanswered after a turn, it was before
 unanswered-before : (side : Side) (log : Log) (turn : Turn) → is_lawful side log turn ≡ true → is_unanswered (handshake_state (calls_of (log_after side log turn))) ≡ true → is_unanswered (handshake_state (calls_of log)) ≡ true
-unanswered-before side log turn l u = at (is_unanswered (handshake_state (calls_of log))) refl
+unanswered-before side log turn l u = by (is_unanswered (handshake_state (calls_of log))) refl
   where
-    at : (b : Bool) → is_unanswered (handshake_state (calls_of log)) ≡ b → b ≡ true
-    at true e = refl
-    at false e = absurd (let x = keeps-turn {P = λ (g : Log). is_unanswered (handshake_state (calls_of g)) ≡ false} (by-entries (answered-entries side turn)) log l e in cc)
+    by : (b : Bool) → is_unanswered (handshake_state (calls_of log)) ≡ b → b ≡ true
+    by true e = refl
+    by false e = absurd (let x = keeps-turn {P = λ (g : Log). is_unanswered (handshake_state (calls_of g)) ≡ false} (by-entries (answered-entries side turn)) log l e in cc)
 
 module _ (side : Side) (log : Log) where
   abbrev IsAnswered : Effect → Type 0
@@ -620,11 +620,11 @@ empty-log [] e = refl
 empty-log (x ∷ log) e = absurd (cc)
 
 answers : (side : Side) (log : Log) (turn : Turn) → may_respond side log ≡ true → is_unanswered (handshake_state (calls_of (log_after side log turn))) ≡ false → Begins side log turn
-answers side log turn l n = let a = and_parts (not (is_client side)) _ l in at (handshake_state (calls_of log)) refl a.1 (not-true _ a.0)
+answers side log turn l n = let a = and_parts (not (is_client side)) _ l in by (handshake_state (calls_of log)) refl a.1 (not-true _ a.0)
   where
-    at : (s : HandshakeState) → handshake_state (calls_of log) ≡ s → awaits_answer s ≡ true → is_client side ≡ false → Begins side log turn
-    at (Requested id) e w c = Answers id c e n
-    at _ e w c = absurd (cc)
+    by : (s : HandshakeState) → handshake_state (calls_of log) ≡ s → awaits_answer s ≡ true → is_client side ≡ false → Begins side log turn
+    by (Requested id) e w c = Answers id c e n
+    by _ e w c = absurd (cc)
 
 pub begins : (side : Side) (log : Log) (turn : Turn) (head : List ℕ) → head_frame_of turn ≡ Some head → is_lawful side log turn ≡ true → Begins side log turn
 unfolding call_effect
@@ -653,7 +653,7 @@ reframed side frame log id s h = record {
   untouched = h.untouched;
   opened = h.opened;
   no_opening = h.no_opening;
-  whole = λ t at e. absurd (let n = h.heads.given.handshakes.none_yet (ap is_under_way s) in cc);
+  whole = λ t offset e. absurd (let n = h.heads.given.handshakes.none_yet (ap is_under_way s) in cc);
   finished = λ k i f. absurd (let x = h.finished k i f in cc);
 }
   where
@@ -672,14 +672,14 @@ begun-so side before log t f p e (Connects c n) = subst (λ g. Both side (Some f
 begun-so side before log t f p e (Answers id c s n) = record { control = p.both.control; out = reframed side (Some f) log id s (subst (λ o. FrameOut side o log) (p.unanswered c (ap is_unanswered s)) p.both.out) }
 
 pub start-of-turn : (side : Side) (before : List Exchange) (log : Log) (t : Turn) → is_lawful side log t ≡ true → SoFar side before log → TurnStart side log t
-start-of-turn side before log t l p = at (head_frame_of t) refl
+start-of-turn side before log t l p = by (head_frame_of t) refl
   where
-    at : (o : Option (List ℕ)) → head_frame_of t ≡ o → TurnStart side log t
-    at None e = record { frame = session_frame before; for_turn = λ head f. absurd (cc); both = p.both }
-    at (Some f) e = record { frame = Some f; for_turn = λ head x. sym e ∙ x; both = begun-so side before log t f p e (begins side log t f e l) }
+    by : (o : Option (List ℕ)) → head_frame_of t ≡ o → TurnStart side log t
+    by None e = record { frame = session_frame before; for_turn = λ head f. absurd (cc); both = p.both }
+    by (Some f) e = record { frame = Some f; for_turn = λ head x. sym e ∙ x; both = begun-so side before log t f p e (begins side log t f e l) }
 
 pub so-far-turn : (side : Side) (before : List Exchange) (log : Log) (t : Turn) → is_lawful side log t ≡ true → SoFar side before log → SoFar side (record { turn = t; answer = answer_to side log t } ∷ before) (log_after side log t)
-so-far-turn side before log t l p = at (head_frame_of t) refl
+so-far-turn side before log t l p = by (head_frame_of t) refl
   where
     kept-so : (frame : Option (List ℕ)) → ((head : List ℕ) → head_frame_of t ≡ Some head → frame ≡ Some head) → Both side frame log → Both side frame (log_after side log t)
     kept-so frame f b = keeps-turn (keeps-out side frame t f) log l b
@@ -692,14 +692,14 @@ so-far-turn side before log t l p = at (head_frame_of t) refl
     not-after (Connects c n) d u = absurd (cc)
     not-after (Answers id c s n) d u = absurd (cc)
 
-    at : (o : Option (List ℕ)) → head_frame_of t ≡ o → SoFar side (record { turn = t; answer = answer_to side log t } ∷ before) (log_after side log t)
-    at None e =
+    by : (o : Option (List ℕ)) → head_frame_of t ≡ o → SoFar side (record { turn = t; answer = answer_to side log t } ∷ before) (log_after side log t)
+    by None e =
         let q : later ≡ session_frame before = ap (λ o. option_or o (session_frame before)) e in
         record {
           both = subst (λ o. Both side o (log_after side log t)) (sym q) (kept-so (session_frame before) (λ head x. absurd (cc)) p.both);
           unanswered = λ c u. q ∙ p.unanswered c (unanswered-before side log t l u);
         }
-    at (Some f) e =
+    by (Some f) e =
         let q : later ≡ Some f = ap (λ o. option_or o (session_frame before)) e in
         let b = begins side log t f e l in
         record { both = subst (λ o. Both side o (log_after side log t)) (sym q) (kept-so (Some f) (λ head x. sym e ∙ x) (begun-so side before log t f p e b)); unanswered = not-after b }

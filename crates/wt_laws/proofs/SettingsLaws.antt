@@ -23,7 +23,7 @@ use Rattle.wt_laws.proofs.Reached.{reached}
 use Rattle.wt_laws.proofs.ReadLaws.{local-unclassified, not-both}
 use Rattle.wt_laws.proofs.Sends.{counts-with, piece_on, send-on, sends-append, sends_of, sent-with}
 use Rattle.wt_laws.proofs.SessionLaws.{Handshakes, from-request, handshakes-entries, handshakes-first, handshakes-same, has_request}
-use Rattle.wt_laws.proofs.Steps.{Brings, Keeps, blind-actions, kept-actions, of-record}
+use Rattle.wt_laws.proofs.Steps.{EventNow, Keeps, blind-actions, kept-actions, of-record}
 use Rattle.wt_laws.specs.Causes.{ActionCause, ByAccept, ByOpening, OfHeader, OfRequest, OfResponse, OfWrite, OwnCauses, SendCause}
 use Rattle.wt_turn.specs.Turns.{event_of}
 use Rattle.wt_laws.specs.Laws.{SettingsOut}
@@ -70,14 +70,14 @@ not-same-kind Client e = absurd (omega arith)
 not-same-kind Server e = absurd (omega arith)
 
 own-piece : (side : Side) (turn : Turn) (a : Action) (log : Log) → Silent side (calls_of log) → ActionCause side turn log a → piece_on (local_uni side) a ≡ []
-own-piece side turn (actions.Send id piece) log s c = at (id == local_uni side) refl c.1
+own-piece side turn (actions.Send id piece) log s c = by (id == local_uni side) refl c.1
   where
-    at : (b : Bool) → (id == local_uni side) ≡ b → SendCause side turn log id piece → (if b then piece else []) ≡ []
-    at false e x = refl
-    at true e (OfWrite bytes h w n p) = absurd (let y = (and_parts (is_accepted log id) _ w).0 in let z = s.accepted in let q = ap (λ k. list_any (accepts_stream k) (calls_of log)) (eqb-true id (local_uni side) e) in cc)
-    at true e (OfHeader session t x d o p) = absurd (let y = (and_parts (list_any (starts_opening id) (calls_of log)) _ o).0 in let z = s.opening in let q = ap (λ k. list_any (starts_opening k) (calls_of log)) (eqb-true id (local_uni side) e) in cc)
-    at true e (OfResponse accepts head f k p) = absurd (s.requests (from-request turn (calls_of log) accepts head f) (sym k ∙ eqb-true id (local_uni side) e))
-    at true e (OfRequest head x h k z p) = absurd (not-same-kind side (sym k ∙ eqb-true id (local_uni side) e))
+    by : (b : Bool) → (id == local_uni side) ≡ b → SendCause side turn log id piece → (if b then piece else []) ≡ []
+    by false e x = refl
+    by true e (OfWrite bytes h w n p) = absurd (let y = (and_parts (is_accepted log id) _ w).0 in let z = s.accepted in let q = ap (λ k. list_any (accepts_stream k) (calls_of log)) (eqb-true id (local_uni side) e) in cc)
+    by true e (OfHeader session t x d o p) = absurd (let y = (and_parts (list_any (starts_opening id) (calls_of log)) _ o).0 in let z = s.opening in let q = ap (λ k. list_any (starts_opening k) (calls_of log)) (eqb-true id (local_uni side) e) in cc)
+    by true e (OfResponse accepts head f k p) = absurd (s.requests (from-request turn (calls_of log) accepts head f) (sym k ∙ eqb-true id (local_uni side) e))
+    by true e (OfRequest head x h k z p) = absurd (not-same-kind side (sym k ∙ eqb-true id (local_uni side) e))
 own-piece side turn _ log s c = refl
 
 own-silent : (side : Side) (turn : Turn) (own : List Action) (log : Log) → Silent side (calls_of log) → OwnCauses side turn log own → sends_of (local_uni side) own ≡ []
@@ -159,11 +159,11 @@ first-opens side log as_ rest e z =
     absurd (omega arith)
 
 opens-control : (side : Side) (log : Log) → nat_lt 0 (unis_allowed (events_of log)) ≡ true → local_count (actions_of (with_actions (pending_actions side log) log)) (local_uni side) ≢ 0
-opens-control side log a z = at (local_count (actions_of log) (local_uni side) == 0) refl
+opens-control side log a z = by (local_count (actions_of log) (local_uni side) == 0) refl
   where
-    at : (b : Bool) → (local_count (actions_of log) (local_uni side) == 0) ≡ b → ⊥
-    at false e = let l = counts-with (local_uni side) (pending_actions side log) log in eqb-false (local_count (actions_of log) (local_uni side)) 0 e (omega arith)
-    at true e =
+    by : (b : Bool) → (local_count (actions_of log) (local_uni side) == 0) ≡ b → ⊥
+    by false e = let l = counts-with (local_uni side) (pending_actions side log) log in eqb-false (local_count (actions_of log) (local_uni side)) 0 e (omega arith)
+    by true e =
         first-opens side log (pending_actions side log) _
         (begins-open (nat_lt 0 (unis_allowed (events_of log))) (local_count (actions_of log) (local_uni side) == 0) (local_uni side) (credit (events_of log) (local_uni side)) (length (sent_on (actions_of log) (local_uni side)))
         (stop_actions (stream_table side log).progress.stops) (close_actions (session_id (established_session (calls_of log))) (stream_table side log).progress.ending) a e) z
@@ -188,12 +188,12 @@ keeps-untouched side as_ log u = kept-actions (Untouched side) (λ g a p. record
 
 out-of : (side : Side) (log : Log) (b : Bool) → nat_lt 0 (unis_allowed (events_of log)) ≡ b → Ready side log → sent_on (actions_of (with_actions (pending_actions side log) log)) (local_uni side) ≡ (if b then take (credit (events_of log) (local_uni side)) local_control_bytes else sent_on (actions_of log) (local_uni side))
 out-of side log b a r =
-    sent-with (local_uni side) (pending_actions side log) log ∙ ap (λ xs. sent_on (actions_of log) (local_uni side) ++ xs) (pending-on side log ∙ ap (λ (c : Bool). if c then rest_of side log else []) a) ∙ at b
+    sent-with (local_uni side) (pending_actions side log) log ∙ ap (λ xs. sent_on (actions_of log) (local_uni side) ++ xs) (pending-on side log ∙ ap (λ (c : Bool). if c then rest_of side log else []) a) ∙ by b
   where
-    at : (b : Bool) → sent_on (actions_of log) (local_uni side) ++ (if b then rest_of side log else []) ≡ (if b then take (credit (events_of log) (local_uni side)) local_control_bytes else sent_on (actions_of log) (local_uni side))
-    at true =
+    by : (b : Bool) → sent_on (actions_of log) (local_uni side) ++ (if b then rest_of side log else []) ≡ (if b then take (credit (events_of log) (local_uni side)) local_control_bytes else sent_on (actions_of log) (local_uni side))
+    by true =
         ap (λ xs. xs ++ drop (length xs) (take (credit (events_of log) (local_uni side)) local_control_bytes)) r.is ∙ take-on r.count (credit (events_of log) (local_uni side)) local_control_bytes r.within
-    at false = append-nil (sent_on (actions_of log) (local_uni side))
+    by false = append-nil (sent_on (actions_of log) (local_uni side))
 
 same-events-with : (as_ : List Action) (log : Log) → events_of (with_actions as_ log) ≡ events_of log
 same-events-with as_ log = blind-actions events_of (λ a g. refl) as_ log
@@ -202,13 +202,13 @@ same-all-with : (as_ : List Action) (log : Log) → all_events_of (with_actions 
 same-all-with as_ log = blind-actions all_events_of (λ a g. refl) as_ log
 
 sent-now : (side : Side) (log : Log) → Ready side log → ControlOut side (with_actions (pending_actions side log) log)
-sent-now side log r = at (nat_lt 0 (unis_allowed (events_of log))) refl
+sent-now side log r = by (nat_lt 0 (unis_allowed (events_of log))) refl
   where
     as_ : List Action
     as_ = pending_actions side log
 
-    at : (b : Bool) → nat_lt 0 (unis_allowed (events_of log)) ≡ b → ControlOut side (with_actions (pending_actions side log) log)
-    at true a = record {
+    by : (b : Bool) → nat_lt 0 (unis_allowed (events_of log)) ≡ b → ControlOut side (with_actions (pending_actions side log) log)
+    by true a = record {
       untouched = keeps-untouched side (pending_actions side log) log r.untouched;
       count = credit (events_of log) (local_uni side);
       is = out-of side log true a r;
@@ -219,7 +219,7 @@ sent-now side log r = at (nat_lt 0 (unis_allowed (events_of log))) refl
         out = λ n. out-of side log true a r ∙ ap (λ es. take (credit es (local_uni side)) local_control_bytes) (sym (same-events-with (pending_actions side log) log));
       };
     }
-    at false a = record {
+    by false a = record {
       untouched = keeps-untouched side (pending_actions side log) log r.untouched;
       count = r.count;
       is = out-of side log false a r ∙ r.is;
@@ -232,17 +232,17 @@ sent-now side log r = at (nat_lt 0 (unis_allowed (events_of log))) refl
     }
 
 -- after a moment: sent where the connection is open, else it was sent before
-behind-moment : (side : Side) (e : Entry) (log : Log) → is_moment e ≡ true → Ready side (e ∷ log) → (is_open (e ∷ log) ≡ false → AsAllowed side (e ∷ log)) → ControlOut side (log_and_flush side log e)
+after-moment : (side : Side) (e : Entry) (log : Log) → is_moment e ≡ true → Ready side (e ∷ log) → (is_open (e ∷ log) ≡ false → AsAllowed side (e ∷ log)) → ControlOut side (log_and_flush side log e)
 unfolding flush
-behind-moment side e log m r f = at (is_open (e ∷ log)) refl
+after-moment side e log m r f = by (is_open (e ∷ log)) refl
   where
-    at : (b : Bool) → is_open (e ∷ log) ≡ b → ControlOut side (apply_if (is_moment e && is_open (e ∷ log)) (with_actions (pending_actions side (e ∷ log))) (e ∷ log))
-    at true o = rw (m, o) (sent-now side (e ∷ log) r)
-    at false o = rw (m, o) (record { untouched = r.untouched; count = r.count; is = r.is; within = r.within; unconnected = r.unconnected; as_allowed = f o })
+    by : (b : Bool) → is_open (e ∷ log) ≡ b → ControlOut side (apply_if (is_moment e && is_open (e ∷ log)) (with_actions (pending_actions side (e ∷ log))) (e ∷ log))
+    by true o = rw (m, o) (sent-now side (e ∷ log) r)
+    by false o = rw (m, o) (record { untouched = r.untouched; count = r.count; is = r.is; within = r.within; unconnected = r.unconnected; as_allowed = f o })
 
 -- ---- each entry
 
-untouched-event : (side : Side) (turn : Turn) (e : Event) (log : Log) → is_open log ≡ true → Brings side turn log e → Untouched side log → Untouched side (Reported e ∷ log)
+untouched-event : (side : Side) (turn : Turn) (e : Event) (log : Log) → is_open log ≡ true → EventNow side turn log e → Untouched side log → Untouched side (Reported e ∷ log)
 untouched-event side turn e log o b u = record {
   facts_hold = (facts-entries side turn).event log e o b u.facts_hold;
   handshakes = (handshakes-entries side turn).event log e o b u.handshakes;
@@ -277,26 +277,26 @@ data-fits side log (turns.MaxData j m) id total e l =
     subst (λ (x : ℕ). credit (all_events_of log) id ≤ x) n (subst (λ (x : ℕ). credit (all_events_of log) x ≤ m) i c)
 data-fits side log _ id total e l = absurd (cc)
 
-credit-event : (side : Side) (turn : Turn) (log : Log) (e : Event) → Brings side turn log e → all_events_of log ≡ events_of log → (count : ℕ) → count ≤ credit (events_of log) (local_uni side)
+credit-event : (side : Side) (turn : Turn) (log : Log) (e : Event) → EventNow side turn log e → all_events_of log ≡ events_of log → (count : ℕ) → count ≤ credit (events_of log) (local_uni side)
     → (is_connected (all_events_of log) ≡ false → count ≡ 0) → count ≤ credit (e ∷ events_of log) (local_uni side)
 credit-event side turn log (Connected u b c d) x q n l z = let y = z (connected-fits side log turn u b c d x.reported x.lawful) in omega arith
-credit-event side turn log (MaxData id total) x q n l z = at (id == local_uni side) refl (subst (λ es. credit es id ≤ total) q (data-fits side log turn id total x.reported x.lawful))
+credit-event side turn log (MaxData id total) x q n l z = by (id == local_uni side) refl (subst (λ es. credit es id ≤ total) q (data-fits side log turn id total x.reported x.lawful))
   where
-    at : (b : Bool) → (id == local_uni side) ≡ b → credit (events_of log) id ≤ total → n ≤ credit (MaxData id total ∷ events_of log) (local_uni side)
-    at true i d = let y : credit (events_of log) (local_uni side) ≤ total = subst (λ (k : ℕ). credit (events_of log) k ≤ total) (eqb-true id (local_uni side) i) d in rw i (omega arith)
-    at false i d = rw i l
+    by : (b : Bool) → (id == local_uni side) ≡ b → credit (events_of log) id ≤ total → n ≤ credit (MaxData id total ∷ events_of log) (local_uni side)
+    by true i d = let y : credit (events_of log) (local_uni side) ≤ total = subst (λ (k : ℕ). credit (events_of log) k ≤ total) (eqb-true id (local_uni side) i) d in rw i (omega arith)
+    by false i d = rw i l
 credit-event side turn log _ x q n l z = l
 
-connected-event : (side : Side) (turn : Turn) (log : Log) (e : Event) → Brings side turn log e → is_connected (e ∷ all_events_of log) ≡ false → unis_allowed (events_of log) ≡ 0 → (is_connected (all_events_of log) ≡ false) × (unis_allowed (e ∷ events_of log) ≡ 0)
+connected-event : (side : Side) (turn : Turn) (log : Log) (e : Event) → EventNow side turn log e → is_connected (e ∷ all_events_of log) ≡ false → unis_allowed (events_of log) ≡ 0 → (is_connected (all_events_of log) ≡ false) × (unis_allowed (e ∷ events_of log) ≡ 0)
 connected-event side turn log (Connected u b c d) x f z = absurd (cc)
 connected-event side turn log (MaxUni total) x f z = absurd (let y = uni-fits side log turn total x.reported x.lawful in cc)
 connected-event side turn log _ x f z = (f, z)
 
-pub before-connected : (side : Side) (turn : Turn) (log : Log) (e : Event) → Brings side turn log e → is_connected (e ∷ all_events_of log) ≡ false → is_connected (all_events_of log) ≡ false
+pub before-connected : (side : Side) (turn : Turn) (log : Log) (e : Event) → EventNow side turn log e → is_connected (e ∷ all_events_of log) ≡ false → is_connected (all_events_of log) ≡ false
 before-connected side turn log (Connected u b c d) x f = absurd (cc)
 before-connected side turn log _ x f = f
 
-ready-event : (side : Side) (turn : Turn) (e : Event) (log : Log) → is_open log ≡ true → Brings side turn log e → ControlOut side log → Ready side (Reported e ∷ log)
+ready-event : (side : Side) (turn : Turn) (e : Event) (log : Log) → is_open log ≡ true → EventNow side turn log e → ControlOut side log → Ready side (Reported e ∷ log)
 ready-event side turn e log o b p =
     let q = p.untouched.facts_hold.same_events o in
     record {
@@ -312,7 +312,7 @@ lost-event : (side : Side) (e : Event) (log : Log) → is_open log ≡ true → 
 lost-event side (Loss reason) log o p c = record { opened = p.opened; out = p.out }
 lost-event side _ log o p c = absurd (cc)
 
-late-event : (side : Side) (turn : Turn) (e : Event) (log : Log) → is_open log ≡ false → Brings side turn log e → ControlOut side log → ControlOut side (ReportedLate e ∷ log)
+late-event : (side : Side) (turn : Turn) (e : Event) (log : Log) → is_open log ≡ false → EventNow side turn log e → ControlOut side log → ControlOut side (ReportedLate e ∷ log)
 late-event side turn e log o b p = record {
   untouched = record {
     facts_hold = (facts-entries side turn).late log e o b p.untouched.facts_hold;
@@ -331,13 +331,13 @@ late-event side turn e log o b p = record {
 
 -- an opened stream isn't the control stream, which was opened before
 pub not-control : (side : Side) {turn : Turn} (log : Log) (own : List Action) (k s : ℕ) → ControlOut side log → NewOpening side turn log own k s → (k == local_uni side) ≡ false
-not-control side log own k s p c = at (k == local_uni side) refl
+not-control side log own k s p c = by (k == local_uni side) refl
   where
     parts : (is_open log ≡ true) × (nat_lt (stream_count side log c.kind) (streams_allowed side log c.kind) ≡ true)
     parts = and_parts (is_open log) _ c.may
 
     none : k ≡ local_uni side → (c.kind ≡ local_uni side) × (stream_count side log c.kind ≡ 0)
-    none e = by-side side (c.next) e (ltb-true c.kind 4 c.small)
+    none e = by-side side (c.is_next) e (ltb-true c.kind 4 c.small)
       where
         by-side : (sd : Side) → k ≡ 4 * stream_count side log c.kind + c.kind → k ≡ local_uni side → c.kind < 4 → (c.kind ≡ local_uni side) × (stream_count side log c.kind ≡ 0)
         by-side sd n e l = of-small (local_uni side) (small-local side) n e l
@@ -358,27 +358,27 @@ not-control side log own k s p c = at (k == local_uni side) refl
         let y : stream_count side log (local_uni side) ≡ 0 = ap (stream_count side log) (sym e) ∙ z in
         p.as_allowed.opened (lt-ltb 0 (unis_allowed (events_of log)) h) (omega arith)
 
-    at : (b : Bool) → (k == local_uni side) ≡ b → b ≡ false
-    at false e = refl
-    at true e = let n = none (eqb-true k (local_uni side) e) in absurd (allowed n.0 n.1)
+    by : (b : Bool) → (k == local_uni side) ≡ b → b ≡ false
+    by false e = refl
+    by true e = let n = none (eqb-true k (local_uni side) e) in absurd (allowed n.0 n.1)
 
 pub new-opening-record : (side : Side) (turn : Turn) (log : Log) (own : List Action) (r : CallRecord) → ControlOut side log → CallCause side turn log own r → starts_opening (local_uni side) r ≡ false
 new-opening-record side turn log own (OpeningStarted k s) p c = not-control side log own k s p c
 new-opening-record side turn log own _ p c = refl
 
 new-accept-record : (side : Side) (turn : Turn) (log : Log) (r : CallRecord) → list_any (starts_opening (local_uni side)) (calls_of log) ≡ false → RecordCause side turn log r → accepts_stream (local_uni side) r ≡ false
-new-accept-record side turn log (StreamAccepted k) n (ByAccept f) = at (k == local_uni side) refl
+new-accept-record side turn log (StreamAccepted k) n (ByAccept f) = by (k == local_uni side) refl
   where
-    at : (b : Bool) → (k == local_uni side) ≡ b → b ≡ false
-    at false e = refl
-    at true e =
+    by : (b : Bool) → (k == local_uni side) ≡ b → b ≡ false
+    by false e = refl
+    by true e =
         let v = found-sessions side turn log k f in
         absurd (not-both side k _ _ (are-peers side log k _ v.1) (subst (λ (j : ℕ). is_local side j ≡ true) (sym (eqb-true k (local_uni side) e)) (or_left (local_uni side % 4 == local_uni side) _ (self-kind side))))
-new-accept-record side turn log (StreamAccepted k) n (ByOpening f) = at (k == local_uni side) refl
+new-accept-record side turn log (StreamAccepted k) n (ByOpening f) = by (k == local_uni side) refl
   where
-    at : (b : Bool) → (k == local_uni side) ≡ b → b ≡ false
-    at false e = refl
-    at true e = absurd (let x = (and_parts (list_any (starts_opening k) (calls_of log)) _ f.opening).0 in let y = ap (λ j. list_any (starts_opening j) (calls_of log)) (eqb-true k (local_uni side) e) in cc)
+    by : (b : Bool) → (k == local_uni side) ≡ b → b ≡ false
+    by false e = refl
+    by true e = absurd (let x = (and_parts (list_any (starts_opening k) (calls_of log)) _ f.opening).0 in let y = ap (λ j. list_any (starts_opening j) (calls_of log)) (eqb-true k (local_uni side) e) in cc)
 new-accept-record side turn log _ n c = refl
 
 pub none-either : (a b : Bool) → a ≡ false → b ≡ false → (a || b) ≡ false
@@ -431,10 +431,10 @@ ready-byte side turn id b log o r p = record {
 
 pub keeps-control : (side : Side) (turn : Turn) → Keeps side turn (ControlOut side)
 keeps-control side turn = record {
-  event = λ log e o b p. behind-moment side (Reported e) log refl (ready-event side turn e log o b p) (lost-event side e log o p.as_allowed);
+  event = λ log e o b p. after-moment side (Reported e) log refl (ready-event side turn e log o b p) (lost-event side e log o p.as_allowed);
   late = λ log e o b p. late-event side turn e log o b p;
-  byte = λ log id b o r p. behind-moment side (Received id b) log refl (ready-byte side turn id b log o r p) (λ c. absurd (cc));
-  call = λ log own r c d p. behind-moment side (Called r) (with_actions own log) refl (ready-call side turn log own r c d p) (λ z. closed-call side turn log own r c p);
+  byte = λ log id b o r p. after-moment side (Received id b) log refl (ready-byte side turn id b log o r p) (λ c. absurd (cc));
+  call = λ log own r c d p. after-moment side (Called r) (with_actions own log) refl (ready-call side turn log own r c d p) (λ z. closed-call side turn log own r c p);
 }
 
 pub first-control : (side : Side) → ControlOut side []

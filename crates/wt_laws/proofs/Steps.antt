@@ -16,16 +16,16 @@ use Rattle.wt_turn.specs.declared.turn.Turn.TheVariants as turns
 
 -- ---- a turn's moments
 
--- a lawful turn brings this event now
-pub record Brings (side : Side) (turn : Turn) (log : Log) (e : Event) : Type 0 where
+-- a lawful turn reports this event now
+pub record EventNow (side : Side) (turn : Turn) (log : Log) (e : Event) : Type 0 where
   pub reported : event_of turn ≡ Some e
   pub lawful : fits side log turn ≡ true
 
 -- from one log to another, in the moments of one turn
 pub data Steps (side : Side) (turn : Turn) (last : Log) : Log → Type 0 where
   Nothing : Steps side turn last last
-  ByEvent : {log : Log} (e : Event) → is_open log ≡ true → Brings side turn log e → Steps side turn last (log_and_flush side log (Reported e)) → Steps side turn last log
-  ByLate : {log : Log} (e : Event) → is_open log ≡ false → Brings side turn log e → Steps side turn last (ReportedLate e ∷ log) → Steps side turn last log
+  ByEvent : {log : Log} (e : Event) → is_open log ≡ true → EventNow side turn log e → Steps side turn last (log_and_flush side log (Reported e)) → Steps side turn last log
+  ByLate : {log : Log} (e : Event) → is_open log ≡ false → EventNow side turn log e → Steps side turn last (ReportedLate e ∷ log) → Steps side turn last log
   ByByte : {log : Log} (id b : ℕ) (piece : List ℕ) → turn ≡ turns.Bytes id piece → is_open log ≡ true → is_running (end_of (all_events_of log) id) ≡ true → Steps side turn last (log_and_flush side log (Received id b)) → Steps side turn last log
   ByCall : {log : Log} (own : List Action) (r : CallRecord) → OwnCauses side turn log own → CallCause side turn log own r
       → Steps side turn last (log_call side log own r) → Steps side turn last log
@@ -41,8 +41,8 @@ and_then (ByCall own r c d s) t = ByCall own r c d (and_then s t)
 
 -- what every moment of a turn keeps
 pub record Keeps (side : Side) (turn : Turn) (P : Log → Type 0) : Type 0 where
-  pub event : (log : Log) (e : Event) → is_open log ≡ true → Brings side turn log e → P log → P (log_and_flush side log (Reported e))
-  pub late : (log : Log) (e : Event) → is_open log ≡ false → Brings side turn log e → P log → P (ReportedLate e ∷ log)
+  pub event : (log : Log) (e : Event) → is_open log ≡ true → EventNow side turn log e → P log → P (log_and_flush side log (Reported e))
+  pub late : (log : Log) (e : Event) → is_open log ≡ false → EventNow side turn log e → P log → P (ReportedLate e ∷ log)
   pub byte : (log : Log) (id b : ℕ) → is_open log ≡ true → is_running (end_of (all_events_of log) id) ≡ true → P log → P (log_and_flush side log (Received id b))
   pub call : (log : Log) (own : List Action) (r : CallRecord) → OwnCauses side turn log own → CallCause side turn log own r → P log → P (log_call side log own r)
 
@@ -56,8 +56,8 @@ keeps-steps k (ByCall own r c d s) p = keeps-steps k s (k.call _ own r c d p)
 -- the same, entry by entry, where it is all one which action goes out
 pub record KeepsEntries (side : Side) (turn : Turn) (P : Log → Type 0) : Type 0 where
   pub action : (log : Log) (a : Action) → P log → P (Sent a ∷ log)
-  pub event : (log : Log) (e : Event) → is_open log ≡ true → Brings side turn log e → P log → P (Reported e ∷ log)
-  pub late : (log : Log) (e : Event) → is_open log ≡ false → Brings side turn log e → P log → P (ReportedLate e ∷ log)
+  pub event : (log : Log) (e : Event) → is_open log ≡ true → EventNow side turn log e → P log → P (Reported e ∷ log)
+  pub late : (log : Log) (e : Event) → is_open log ≡ false → EventNow side turn log e → P log → P (ReportedLate e ∷ log)
   pub byte : (log : Log) (id b : ℕ) → is_open log ≡ true → is_running (end_of (all_events_of log) id) ≡ true → P log → P (Received id b ∷ log)
   pub record_ : (log : Log) (r : CallRecord) → RecordCause side turn log r → P log → P (Called r ∷ log)
 

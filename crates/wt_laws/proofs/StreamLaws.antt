@@ -56,7 +56,7 @@ up-to-later test x cs c n u = record { earlier = x ∷ u.earlier; later = u.late
 -- what is kept and passes the test for the first time is the first for which a narrower test holds, if that holds of it
 up-to : (keep test narrow : Classified → Bool) → ((x : Classified) → narrow x ≡ true → (keep x ≡ true) × (test x ≡ true)) → (cs : List Classified) (c : Classified) → narrow c ≡ true → first_of test (only keep cs) ≡ Some c → UpTo narrow cs c
 up-to keep test narrow m [] c h e = absurd (cc)
-up-to keep test narrow m (x ∷ cs) c h e = at (keep x) refl e (up-to keep test narrow m cs c h)
+up-to keep test narrow m (x ∷ cs) c h e = by (keep x) refl e (up-to keep test narrow m cs c h)
   where
     not-narrow : (a b : Bool) → keep x ≡ a → test x ≡ b → (a && b) ≡ false → (d : Bool) → narrow x ≡ d → d ≡ false
     not-narrow a b k t f false n = refl
@@ -66,12 +66,12 @@ up-to keep test narrow m (x ∷ cs) c h e = at (keep x) refl e (up-to keep test 
     tested true k t e f = let i : x ≡ c = cc in subst (λ z. UpTo narrow (x ∷ cs) z) i (record { earlier = []; later = cs; order = refl; holds = ap narrow i ∙ h; none_before = refl })
     tested false k t e f = up-to-later narrow x cs c (not-narrow true false k t refl (narrow x) refl) (f e)
 
-    at : (a : Bool) → keep x ≡ a → first_of test (kept_if a x ++ only keep cs) ≡ Some c → (first_of test (only keep cs) ≡ Some c → UpTo narrow cs c) → UpTo narrow (x ∷ cs) c
-    at true k e f = tested (test x) k refl e f
-    at false k e f = up-to-later narrow x cs c (not-narrow false (test x) k refl refl (narrow x) refl) (f e)
+    by : (a : Bool) → keep x ≡ a → first_of test (kept_if a x ++ only keep cs) ≡ Some c → (first_of test (only keep cs) ≡ Some c → UpTo narrow cs c) → UpTo narrow (x ∷ cs) c
+    by true k e f = tested (test x) k refl e f
+    by false k e f = up-to-later narrow x cs c (not-narrow false (test x) k refl refl (narrow x) refl) (f e)
 
 of-a-session : (s : ℕ) (v : Verdict) → is_for_session s v ≡ true → is_webtransport v ≡ true
-of-a-session s (verdicts.WebTransport session at) e = refl
+of-a-session s (verdicts.WebTransport session offset) e = refl
 of-a-session s _ e = absurd (cc)
 
 -- what is left for an accept has its turn
@@ -84,7 +84,7 @@ left-is-due log kind session x e =
 -- where none of those that are kept passes the test, the narrower one holds of none
 none-narrow : (keep test narrow : Classified → Bool) → ((x : Classified) → narrow x ≡ true → (keep x ≡ true) × (test x ≡ true)) → (cs : List Classified) → first_of test (only keep cs) ≡ None → list_any narrow cs ≡ false
 none-narrow keep test narrow m [] e = refl
-none-narrow keep test narrow m (x ∷ cs) e = at (narrow x) refl (none-narrow keep test narrow m cs (of-later (keep x) e))
+none-narrow keep test narrow m (x ∷ cs) e = by (narrow x) refl (none-narrow keep test narrow m cs (of-later (keep x) e))
   where
     tested : (b : Bool) → (if b then Some x else first_of test (only keep cs)) ≡ None → first_of test (only keep cs) ≡ None
     tested true e = absurd (cc)
@@ -94,12 +94,12 @@ none-narrow keep test narrow m (x ∷ cs) e = at (narrow x) refl (none-narrow ke
     of-later true e = tested (test x) e
     of-later false e = e
 
-    at : (b : Bool) → narrow x ≡ b → list_any narrow cs ≡ false → (b || list_any narrow cs) ≡ false
-    at true n r =
+    by : (b : Bool) → narrow x ≡ b → list_any narrow cs ≡ false → (b || list_any narrow cs) ≡ false
+    by true n r =
         let y = m x n in
         let f : first_of test (kept_if true x ++ only keep cs) ≡ None = ap (λ a. first_of test (kept_if a x ++ only keep cs)) (sym y.0) ∙ e in
         let g : Some x ≡ None = ap (λ (b : Bool). if b then Some x else first_of test (only keep cs)) (sym y.1) ∙ f in absurd (cc)
-    at false n r = r
+    by false n r = r
 
 -- where no stream is due, none is left
 pub none-left : (side : Side) (log : Log) (kind session : ℕ) → next_due side log kind session ≡ None → list_any (is_left_for log kind session) (stream_table side log).classified ≡ false
@@ -117,7 +117,7 @@ pub given-rightly : (side : Side) (turn : Turn) (log : Log) (kind k : ℕ) → F
 given-rightly side turn log kind k f g =
     let x = g.0 in
     let v = found-sessions side turn log k x in
-    let n : next_due side log kind x.session ≡ Some x.found = rw⁻¹ g.1 x.next in
+    let n : next_due side log kind x.session ≡ Some x.found = rw⁻¹ g.1 x.is_next in
     let d = next-is-due side log kind x.session x.found n in
     let kd : (k % 4 == kind) ≡ true = subst (λ j. (j % 4 == kind) ≡ true) x.same d.of_kind in
     let a = among-kind side (events_of log) k kind (are-peers side log k _ v.1) kd in

@@ -33,14 +33,14 @@ module _ (side : Side) (id : ℕ) where
 
   piece-arrives : (piece : List ℕ) (log : Log) → PieceArrives log (receive side log id piece) id piece
   piece-arrives [] log = record { has_come = []; rest = []; order = refl; is_in = sym (append-nil (contents log id)); whole = λ o. refl }
-  piece-arrives (b ∷ piece) log = at (is_open log) refl (λ g. piece-arrives piece g)
+  piece-arrives (b ∷ piece) log = by (is_open log) refl (λ g. piece-arrives piece g)
     where
-      at : (o : Bool) → is_open log ≡ o → ((g : Log) → PieceArrives g (receive side g id piece) id piece)
+      by : (o : Bool) → is_open log ≡ o → ((g : Log) → PieceArrives g (receive side g id piece) id piece)
           → PieceArrives log (receive side (if o then log_and_flush side log (Received id b) else log) id piece) id (b ∷ piece)
-      at true o f =
+      by true o f =
           let p = f (log_and_flush side log (Received id b)) in
           record { has_come = b ∷ p.has_come; rest = p.rest; order = ap (λ z. b ∷ z) p.order; is_in = p.is_in ∙ ap (λ z. z ++ p.has_come) (byte-in log b) ∙ append_assoc (contents log id) (b ∷ []) p.has_come; whole = p.whole }
-      at false o f = record {
+      by false o f = record {
         has_come = [];
         rest = b ∷ piece;
         order = refl;

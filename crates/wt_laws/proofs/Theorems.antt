@@ -24,15 +24,15 @@ use Rattle.wt_laws.proofs.PendingLaws.{none-waits-ended, pending-exactly}
 use Rattle.wt_laws.proofs.Reached.{reachable}
 use Rattle.wt_laws.proofs.ReadLaws.{reads-from-start, reads-in-order}
 use Rattle.wt_laws.proofs.AllSends.{sends-end, sends-in-order}
-use Rattle.wt_laws.proofs.SessionLaws.{one-session, session-told, sessions-rightly}
-use Rattle.wt_laws.proofs.RunLaws.{done-late, runs-lawful, runs-longest, stays-behind}
+use Rattle.wt_laws.proofs.SessionLaws.{one-session, session-reported, sessions-rightly}
+use Rattle.wt_laws.proofs.RunLaws.{done-late, runs-lawful, runs-longest, stays-after}
 use Rattle.wt_laws.proofs.SessionStream.{session-stream-out}
 use Rattle.wt_laws.proofs.SettingsLaws.{settings-out}
 use Rattle.wt_laws.proofs.StreamLaws.{streams-accepted-rightly}
-use Rattle.wt_laws.proofs.TakenLaws.{taken-goes-out}
+use Rattle.wt_laws.proofs.WrittenOut.{written-goes-out}
 use Rattle.wt_laws.proofs.WrittenLaws.{sends-all}
 use Rattle.wt_laws.specs.Exactly.{AsksFirst, ConnectGoesOn, ConnectsAnswer, HeadsGoOut, MaySend, ReceivingCallsAnswer, RequestGoesOn, RequestsAnswer, ResponsesAnswer, SendingCallsAnswer, SessionCallsAnswer}
-use Rattle.wt_laws.specs.Laws.{CutsWell, DatagramsInOrder, FaultCloses, HeadersOut, NothingAfterEnd, OneSession, OpenExactly, ReadsFromStart, ReadsInOrder, ReplyHasCause, ResultStays, SendsAll, SendsEnd, SendsInOrder, SessionStreamOut, SessionTold, SessionsRightly, SettingsOut, StreamsAcceptedRightly, TakenGoesOut, WithinCredit}
+use Rattle.wt_laws.specs.Laws.{CutsWell, DatagramsInOrder, FaultCloses, HeadersOut, NothingAfterEnd, OneSession, OpenExactly, ReadsFromStart, ReadsInOrder, ReplyHasCause, ResultStays, SendsAll, SendsEnd, SendsInOrder, SessionStreamOut, SessionReported, SessionsRightly, SettingsOut, StreamsAcceptedRightly, WrittenGoesOut, WithinCredit}
 use Rattle.wt_laws.specs.Left.{PendingExactly, is_pending}
 use Rattle.wt_laws.specs.Reachable.{AllLawful, IsReachable, exchanges}
 use Rattle.wt_turn.specs.Turns.{is_call}
@@ -49,8 +49,8 @@ sessions_theorem = sessions-rightly
 pub one_session_theorem : (side : Side) (log : Log) (turn : Turn) → IsReachable side log → is_lawful side log turn ≡ true → OneSession side log turn
 one_session_theorem = one-session
 
-pub session_told_theorem : (side : Side) (log : Log) (turn : Turn) → is_lawful side log turn ≡ true → SessionTold side log turn
-session_told_theorem = session-told
+pub session_reported_theorem : (side : Side) (log : Log) (turn : Turn) → is_lawful side log turn ≡ true → SessionReported side log turn
+session_reported_theorem = session-reported
 
 pub accepted_theorem : (side : Side) (log : Log) (turn : Turn) → IsReachable side log → is_lawful side log turn ≡ true → StreamsAcceptedRightly side log turn
 accepted_theorem = streams-accepted-rightly
@@ -91,8 +91,8 @@ after_end_theorem = nothing-after-end
 pub sends_end_theorem : (side : Side) (log : Log) (turn : Turn) → IsReachable side log → is_lawful side log turn ≡ true → SendsEnd side log turn
 sends_end_theorem = sends-end
 
-pub taken_theorem : (side : Side) (log : Log) → TakenGoesOut side log
-taken_theorem = taken-goes-out
+pub written_theorem : (side : Side) (log : Log) → WrittenGoesOut side log
+written_theorem = written-goes-out
 
 pub headers_theorem : (side : Side) (log : Log) → IsReachable side log → HeadersOut side log
 headers_theorem = headers-out
@@ -113,7 +113,7 @@ pub lawful_runs_theorem : (side : Side) (all : List Turn) → RunsLawful side al
 lawful_runs_theorem = runs-lawful
 
 pub stays_theorem : (side : Side) (more earlier : Log) → StaysSo side earlier (more ++ earlier)
-stays_theorem = stays-behind
+stays_theorem = stays-after
 
 pub late_theorem : (side : Side) (log : Log) (turn : Turn) → is_call turn ≡ false → is_open log ≡ false → DoneLate side log turn
 late_theorem = done-late
@@ -121,7 +121,7 @@ late_theorem = done-late
 pub asks_first_theorem : (side : Side) (log : Log) (call : Call) → AsksFirst side log call
 asks_first_theorem = asks-first
 
-pub session_calls_theorem : (side : Side) (log : Log) (s at : ℕ) → established_session (calls_of log) ≡ Some (s, at) → SessionCallsAnswer side log s
+pub session_calls_theorem : (side : Side) (log : Log) (s offset : ℕ) → established_session (calls_of log) ≡ Some (s, offset) → SessionCallsAnswer side log s
 session_calls_theorem = session-calls
 
 pub sending_calls_theorem : (side : Side) (log : Log) (k : ℕ) → has_sending_half side log k ≡ true → SendingCallsAnswer side log k
@@ -145,8 +145,8 @@ connect_theorem = connect-goes-on
 pub request_theorem : (side : Side) (log : Log) (head : List ℕ) → MaySend side log head → RequestGoesOn side log head
 request_theorem = request-goes-on
 
-pub own_reads_theorem : (side : Side) (log : Log) → ReadsFromStart side log
-own_reads_theorem = reads-from-start
+pub local_reads_theorem : (side : Side) (log : Log) → ReadsFromStart side log
+local_reads_theorem = reads-from-start
 
 pub sends_all_theorem : (side : Side) (all : List Turn) → AllLawful side [] all → SendsAll side (exchanges side all) (log_from side [] all)
 sends_all_theorem = sends-all

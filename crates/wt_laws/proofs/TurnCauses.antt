@@ -41,11 +41,11 @@ module _ (side : Side) (turn : Turn) (start : Log) where
 
   flush-caused : (e : Entry) (log : Log) → GoesOnFrom start log → is_moment e ≡ true → CausedIn side turn start (e ∷ log) → CausedIn side turn start (log_and_flush side log e)
   unfolding flush
-  flush-caused e log g m p = at (is_open (e ∷ log)) refl
+  flush-caused e log g m p = by (is_open (e ∷ log)) refl
     where
-      at : (b : Bool) → is_open (e ∷ log) ≡ b → CausedIn side turn start (apply_if (is_moment e && is_open (e ∷ log)) (with_actions (pending_actions side (e ∷ log))) (e ∷ log))
-      at true o = rw (m, o) (driver-caused e log g m o (pending_actions side (e ∷ log)) (e ∷ log) AtOnce (driver-causes side e log m o) p)
-      at false o = rw (m, o) p
+      by : (b : Bool) → is_open (e ∷ log) ≡ b → CausedIn side turn start (apply_if (is_moment e && is_open (e ∷ log)) (with_actions (pending_actions side (e ∷ log))) (e ∷ log))
+      by true o = rw (m, o) (driver-caused e log g m o (pending_actions side (e ∷ log)) (e ∷ log) AtOnce (driver-causes side e log m o) p)
+      by false o = rw (m, o) p
 
   -- the moments of a call
   call-caused : {last log : Log} (c : Call) → turn ≡ turns.Call c → Steps side turn last log → CausedIn side turn start log → CausedIn side turn start last
@@ -81,14 +81,14 @@ module _ (side : Side) (id : ℕ) (piece : List ℕ) (start : Log) where
 
   pieces-caused : (later earlier : List ℕ) (log : Log) → piece ≡ earlier ++ later → HasArrived earlier log → CausedIn side turn start log → CausedIn side turn start (receive side log id later)
   pieces-caused [] earlier log s c p = p
-  pieces-caused (b ∷ later) earlier log s c p = at (is_open log) refl (λ g d q. pieces-caused later (earlier ++ b ∷ []) g (s ∙ sym (append_assoc earlier (b ∷ []) later)) d q)
+  pieces-caused (b ∷ later) earlier log s c p = by (is_open log) refl (λ g d q. pieces-caused later (earlier ++ b ∷ []) g (s ∙ sym (append_assoc earlier (b ∷ []) later)) d q)
     where
-      at : (o : Bool) → is_open log ≡ o → ((g : Log) → HasArrived (earlier ++ b ∷ []) g → CausedIn side turn start g → CausedIn side turn start (receive side g id later))
+      by : (o : Bool) → is_open log ≡ o → ((g : Log) → HasArrived (earlier ++ b ∷ []) g → CausedIn side turn start g → CausedIn side turn start (receive side g id later))
           → CausedIn side turn start (receive side (if o then log_and_flush side log (Received id b) else log) id later)
-      at true o f =
+      by true o f =
           f (log_and_flush side log (Received id b)) (came-more log earlier b c)
           (flush-caused side turn start (Received id b) log (goes-on p) refl (WithEntry (Received id b) (record { piece = piece; reported = refl; earlier = earlier; later = later; order = s; has_come = c; was_open = o }) p))
-      at false o f = subst (λ g. CausedIn side turn start g) (sym (late-bytes side log id later o)) p
+      by false o f = subst (λ g. CausedIn side turn start g) (sym (late-bytes side log id later o)) p
 
 -- ---- every turn
 

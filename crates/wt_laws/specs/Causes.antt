@@ -107,7 +107,7 @@ pub record FoundStream (side : Side) (turn : Turn) (log : Log) (k : ℕ) (for_se
   pub offset : ℕ
   pub is_established : established_session (calls_of log) ≡ Some (session, offset)
   pub found : Classified
-  pub next : next_due side log (accepted_kind side turn) session ≡ Some found
+  pub is_next : next_due side log (accepted_kind side turn) session ≡ Some found
   pub same : found.id ≡ k
   pub named : is_for_session session found.verdict ≡ for_session
 
@@ -132,7 +132,7 @@ pub record FoundDatagram (side : Side) (turn : Turn) (log : Log) (for_session : 
   pub offset : ℕ
   pub is_established : established_session (calls_of log) ≡ Some (session, offset)
   pub datagram : ℕ × List ℕ
-  pub next : next_datagram side log ≡ Some datagram
+  pub is_next : next_datagram side log ≡ Some datagram
   pub named : (4 * datagram.0 == session) ≡ for_session
 
 -- whose response goes on: this call's, or one that was started before
@@ -145,25 +145,25 @@ pub data ResponseFrom (turn : Turn) (before : List CallRecord) (accepts : Bool) 
 
 -- the rest of an acceptance goes out; or the call goes on with a connect that has no reserved name among its headers and whose whole
 -- request is out, and reads a response with a status code from 200 to 299
-pub data EstablishCause (side : Side) (turn : Turn) (log : Log) (own : List Action) (id at : ℕ) : Type 0 where
+pub data EstablishCause (side : Side) (turn : Turn) (log : Log) (own : List Action) (id offset : ℕ) : Type 0 where
   ByAnswer : (head : List ℕ) → ResponseFrom turn (calls_of log) true head → id ≡ requested_stream (calls_of log)
       → is_covered log id (head_left log id head) ≡ true
-      → own ≡ send_of id (head_left log id head) → at ≡ request_end (verdict_of id (stream_table side log).classified)
-      → EstablishCause side turn log own id at
+      → own ≡ send_of id (head_left log id head) → offset ≡ request_end (verdict_of id (stream_table side log).classified)
+      → EstablishCause side turn log own id offset
   ByResponse : (head : List ℕ) (fields : Fields) → turn ≡ turns.Call calls.Handshake → handshake_state (calls_of log) ≡ Connecting None head
       → settings_came side log ≡ true
-      → response_walk_of (contents log id) (end_of (events_of log) id) ≡ responses.Response fields at → has_success fields ≡ true
+      → response_walk_of (contents log id) (end_of (events_of log) id) ≡ responses.Response fields offset → has_success fields ≡ true
       → id ≡ local_bi side → local_count (actions_of (with_actions own log)) id ≢ 0 → head_left (with_actions own log) id head ≡ []
-      → EstablishCause side turn log own id at
+      → EstablishCause side turn log own id offset
 
 -- what establishes a session, with these actions right before its record
-pub record EstablishedBy (side : Side) (turn : Turn) (log : Log) (id at : ℕ) : Type 0 where
+pub record EstablishedBy (side : Side) (turn : Turn) (log : Log) (id offset : ℕ) : Type 0 where
   pub before : Log
   pub own : List Action
   pub is : log ≡ with_actions own before
   pub was_open : is_open before ≡ true
   pub under_way : is_under_way (handshake_state (calls_of before)) ≡ true
-  pub how : EstablishCause side turn before own id at
+  pub how : EstablishCause side turn before own id offset
 
 -- ---- the causes of actions; the log holds those of the call's own that went out before
 
@@ -176,7 +176,7 @@ opened_kind side _ = None
 -- why a stream of this kind is opened: the call opens one on the established session; or a connect under way, with no reserved name
 -- among its headers, opens that of its request, which has none yet
 pub data OpenCause (side : Side) (turn : Turn) (log : Log) (kind : ℕ) : Type 0 where
-  OfCall : (session at : ℕ) → opened_kind side turn ≡ Some kind → established_session (calls_of log) ≡ Some (session, at)
+  OfCall : (session offset : ℕ) → opened_kind side turn ≡ Some kind → established_session (calls_of log) ≡ Some (session, offset)
       → OpenCause side turn log kind
   OfRequest : (head : List ℕ) → turn ≡ turns.Call calls.Handshake → handshake_state (calls_of log) ≡ Connecting None head
       → settings_came side log ≡ true → kind ≡ local_bi side → local_count (actions_of log) (local_bi side) ≡ 0
@@ -187,7 +187,7 @@ pub data OpenCause (side : Side) (turn : Turn) (log : Log) (kind : ℕ) : Type 0
 pub data SendCause (side : Side) (turn : Turn) (log : Log) (k : ℕ) (piece : List ℕ) : Type 0 where
   OfWrite : (bytes : List ℕ) → bytes_for k turn ≡ Some bytes → has_sending_half side log k ≡ true → write_error log k ≡ None
       → piece ≡ bytes_within_credit log k bytes → SendCause side turn log k piece
-  OfHeader : (session at : ℕ) → polls_opening k turn ≡ true → established_session (calls_of log) ≡ Some (session, at)
+  OfHeader : (session offset : ℕ) → polls_opening k turn ≡ true → established_session (calls_of log) ≡ Some (session, offset)
       → is_opening log k ≡ true → piece ≡ bytes_within_credit log k (head_left log k (stream_header k session))
       → SendCause side turn log k piece
   OfResponse : (accepts : Bool) (head : List ℕ) → ResponseFrom turn (calls_of log) accepts head → k ≡ requested_stream (calls_of log)
@@ -234,7 +234,7 @@ pub data HandshakeFailure (side : Side) (turn : Turn) (log : Log) : Type 0 where
   Stops : (reserved : Option (List ℕ)) (head : List ℕ) → turn ≡ turns.Call calls.Handshake
       → handshake_state (calls_of log) ≡ Connecting reserved head
       → is_refused log (local_bi side) (head_left log (local_bi side) head) ≡ true → HandshakeFailure side turn log
-  Declines : (fields : Fields) (at : ℕ) (response : ResponseIs side turn log (responses.Response fields at))
+  Declines : (fields : Fields) (offset : ℕ) (response : ResponseIs side turn log (responses.Response fields offset))
       → IsRequestOut side log response.request → has_success fields ≡ false → HandshakeFailure side turn log
   EndsStream : (response : ResponseIs side turn log responses.Ended) → IsRequestOut side log response.request → HandshakeFailure side turn log
 
@@ -249,7 +249,7 @@ pub data HandshakeCode (side : Side) (turn : Turn) (log : Log) (code : ℕ) : Ty
 
 -- the application closes the established session, or the endpoint the connection, or a handshake that fails does
 pub data CloseCause (side : Side) (turn : Turn) (log : Log) (code : ℕ) (reason : List ℕ) : Type 0 where
-  OfCall : (session at : ℕ) → turn ≡ turns.Call (calls.Close code reason) → established_session (calls_of log) ≡ Some (session, at)
+  OfCall : (session offset : ℕ) → turn ≡ turns.Call (calls.Close code reason) → established_session (calls_of log) ≡ Some (session, offset)
       → CloseCause side turn log code reason
   OfEndpoint : turn ≡ turns.Call (calls.EndpointClose code reason) → CloseCause side turn log code reason
   OfHandshake : is_under_way (handshake_state (calls_of log)) ≡ true → HandshakeCode side turn log code → reason ≡ []

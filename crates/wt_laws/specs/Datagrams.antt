@@ -9,7 +9,7 @@ use Rattle.wt_laws.specs.Causes.{is_receive}
 use Rattle.wt_laws.specs.Laws.{IsDuring, payload_for, payloads_for}
 use Rattle.wt_spec.specs.Answers.{answer_to, log_after}
 use Rattle.wt_spec.specs.Connection.{well_formed}
-use Rattle.wt_spec.specs.Driver.{established_session, settled_datagrams, stream_table}
+use Rattle.wt_spec.specs.Driver.{established_session, released_datagrams, stream_table}
 use Rattle.wt_reply.specs.declared.reply.Reply.TheVariants as replies
 
 -- ---- what was received
@@ -27,7 +27,7 @@ with_index false index before = before
 -- the indices of the datagrams that calls received, in the order of the calls: how many datagrams came before each
 abbrev pub received_indices : List CallRecord → List ℕ
 received_indices [] = []
-received_indices (r ∷ earlier) = with_index (receives r) (settled_datagrams earlier) (received_indices earlier)
+received_indices (r ∷ earlier) = with_index (receives r) (released_datagrams earlier) (received_indices earlier)
 
 -- ---- which one is given
 
@@ -42,17 +42,17 @@ pub record DatagramGiven (side : Side) (log : Log) (turn : Turn) (payload : List
   pub piece : List ℕ
   pub arrived : slice_get (datagrams_of (events_of log)) index ≡ Some piece
   pub payload_is : payload_for session (well_formed piece) ≡ payload ∷ []
-  pub fresh : settled_datagrams (calls_of log) ≤ index
-  pub is_first : payloads_for session (drop (settled_datagrams (calls_of log)) (take index (datagrams_of (events_of log)))) ≡ []
+  pub fresh : released_datagrams (calls_of log) ≤ index
+  pub is_first : payloads_for session (drop (released_datagrams (calls_of log)) (take index (datagrams_of (events_of log)))) ≡ []
   pub decided : Log
   pub during : IsDuring side log turn decided
   pub dequeued : index < (stream_table side decided).progress.datagrams
-  pub settled_then : settled_datagrams (calls_of (log_after side log turn)) ≡ suc index
+  pub released_then : released_datagrams (calls_of (log_after side log turn)) ≡ suc index
   pub received : received_indices (calls_of (log_after side log turn)) ≡ received_indices (calls_of log) ++ index ∷ []
 
 -- each reply that gives a datagram gives it so
-abbrev pub DatagramTold : Side → Log → Turn → Type 0
-DatagramTold side log turn = (payload : List ℕ) → (answer_to side log turn).reply ≡ replies.Datagram payload → DatagramGiven side log turn payload
+abbrev pub DatagramReported : Side → Log → Turn → Type 0
+DatagramReported side log turn = (payload : List ℕ) → (answer_to side log turn).reply ≡ replies.Datagram payload → DatagramGiven side log turn payload
 
 -- ---- what stays
 
@@ -61,5 +61,5 @@ DatagramTold side log turn = (payload : List ℕ) → (answer_to side log turn).
 pub record DatagramsStay (side : Side) (earlier later : Log) : Type 0 where
   pub arrived : (more : List (List ℕ)) × (datagrams_of (events_of later) ≡ datagrams_of (events_of earlier) ++ more)
   pub dequeued : (stream_table side earlier).progress.datagrams ≤ (stream_table side later).progress.datagrams
-  pub settled_then : settled_datagrams (calls_of earlier) ≤ settled_datagrams (calls_of later)
+  pub released_then : released_datagrams (calls_of earlier) ≤ released_datagrams (calls_of later)
   pub received : (more : List ℕ) × (received_indices (calls_of later) ≡ received_indices (calls_of earlier) ++ more)

@@ -244,11 +244,11 @@ pub record RequestGoesOn (side : Side) (log : Log) (head : List ℕ) : Type 0 wh
       → reply_to side log calls.Handshake ≡ replies.ConnectFailed (loss_to_connect log)
   pub no_response : RequestOut side log head → walk_at side log ≡ responses.Incomplete → is_open log ≡ false
       → reply_to side log calls.Handshake ≡ replies.ConnectFailed (loss_to_connect log)
-  pub rejected : (fields : Fields) (at : ℕ) → RequestOut side log head → walk_at side log ≡ responses.Response fields at
+  pub rejected : (fields : Fields) (offset : ℕ) → RequestOut side log head → walk_at side log ≡ responses.Response fields offset
       → has_success fields ≡ false → reply_to side log calls.Handshake ≡ replies.ConnectFailed connects.SessionRejected
-  pub session : (fields : Fields) (at : ℕ) → RequestOut side log head → walk_at side log ≡ responses.Response fields at
+  pub session : (fields : Fields) (offset : ℕ) → RequestOut side log head → walk_at side log ≡ responses.Response fields offset
       → has_success fields ≡ true → is_open log ≡ true → reply_to side log calls.Handshake ≡ replies.Session (local_bi side)
-  pub ended : (fields : Fields) (at : ℕ) → RequestOut side log head → walk_at side log ≡ responses.Response fields at
+  pub ended : (fields : Fields) (offset : ℕ) → RequestOut side log head → walk_at side log ≡ responses.Response fields offset
       → has_success fields ≡ true → is_open log ≡ false
       → reply_to side log calls.Handshake ≡ replies.ConnectFailed (connects.ConnectionError (driver_error side log))
 
@@ -261,7 +261,7 @@ IsOutAsFar side log call k head = sent_on (actions_of (log_after side log (turns
 -- A call that finds the connection open and goes on with a head, of which the peer didn't stop a rest, sends it as far as
 -- credit allows: the header of a stream that is being opened, a response, and the request of a connect that has a stream.
 pub record HeadsGoOut (side : Side) (log : Log) (call : Call) : Type 0 where
-  pub header : (k s at : ℕ) → call ≡ calls.PollOpening k → established_session (calls_of log) ≡ Some (s, at) → is_opening log k ≡ true
+  pub header : (k s offset : ℕ) → call ≡ calls.PollOpening k → established_session (calls_of log) ≡ Some (s, offset) → is_opening log k ≡ true
       → is_open log ≡ true → is_refused log k (head_left log k (stream_header k s)) ≡ false → IsOutAsFar side log call k (stream_header k s)
   pub response : (accepts : Bool) (head : List ℕ) → response_by (handshake_state (calls_of log)) call ≡ Some (accepts, head)
       → is_open log ≡ true → is_refused log (requested_stream (calls_of log)) (response_rest log head) ≡ false

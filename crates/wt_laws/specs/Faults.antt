@@ -12,7 +12,7 @@ use Rattle.wt_turn.specs.Log.{Entry, Log, calls_of, events_of, is_open}
 use Rattle.wt_wire.specs.declared.error.ErrorCode.{ErrorCode}
 use Rattle.wt_wire.specs.declared.side.Side.{Side}
 use Rattle.wt_laws.specs.Reachable.{is_among}
-use Rattle.wt_spec.specs.Driver.{established_session, is_moment, settings_ready, settings_came, settled_datagrams, stream_table}
+use Rattle.wt_spec.specs.Driver.{established_session, is_moment, settings_ready, settings_came, released_datagrams, stream_table}
 use Rattle.wt_spec.specs.Scan.{has}
 use Rattle.wt_spec.specs.StreamTable.{ByFault, BySession, Classified, Ending, StreamTable, control_start, decoder_start, encoder_start, first_at, verdict_of}
 use Rattle.wt_wire.specs.declared.side.StreamEnd.TheVariants as ends
@@ -37,9 +37,9 @@ pub data ComesOnce : (Verdict → Option ℕ) → Type 0 where
   EncoderOnce : ComesOnce encoder_start
   DecoderOnce : ComesOnce decoder_start
 
--- Stream k is taken by a moment that leads from one table to the other: by then it was dequeued; no earlier moment classified it;
+-- Stream k is classified by a moment that leads from one table to the other: by then it was dequeued; no earlier moment classified it;
 -- this one does, with this verdict, and as the last stream, since after an ending nothing is done.
-pub record TakenLast (before after : StreamTable) (k : ℕ) (v : Verdict) : Type 0 where
+pub record ClassifiedLast (before after : StreamTable) (k : ℕ) (v : Verdict) : Type 0 where
   pub dequeued : has k after.dequeued ≡ true
   pub fresh : verdict_of k before.classified ≡ None
   pub verdict : verdict_of k after.classified ≡ Some v
@@ -48,31 +48,31 @@ pub record TakenLast (before after : StreamTable) (k : ℕ) (v : Verdict) : Type
   pub order : after.classified ≡ earlier ++ last ∷ []
   pub same : last.id ≡ k
 
--- This datagram is taken by the moment that ends the log, which leads from one table to the other: it is the next that came after
+-- This datagram is dequeued by the moment that ends the log, which leads from one table to the other: it is the next that came after
 -- those that were dequeued before, all of which were received or passed.
-pub record TakesDatagram (log : Log) (before after : StreamTable) (piece : List ℕ) : Type 0 where
-  pub next : slice_get (datagrams_of (events_of log)) before.progress.datagrams ≡ Some piece
-  pub all_settled : settled_datagrams (calls_of log) ≡ before.progress.datagrams
+pub record DequeuesDatagram (log : Log) (before after : StreamTable) (piece : List ℕ) : Type 0 where
+  pub is_next : slice_get (datagrams_of (events_of log)) before.progress.datagrams ≡ Some piece
+  pub all_released : released_datagrams (calls_of log) ≡ before.progress.datagrams
   pub count_is : after.progress.datagrams ≡ suc before.progress.datagrams
 
 -- Why the driver ends a connection at the moment that ends the log, which leads from one table to the other: a unidirectional
--- stream that it takes has a fault, or is a second one of a kind that comes once; a bidirectional one that it takes has a fault; a
--- datagram that it takes is none; the session's stream has a fault, or closes the session; the peer stopped this end's control
--- stream; the peer's control stream, the first that was classified, has a fault; or the first of a kind of the peer's QPACK streams
--- ended.
+-- stream that it classifies has a fault, or is a second one of a kind that comes once; a bidirectional one that it classifies has a
+-- fault; a datagram that it dequeues is none; the session's stream has a fault, or closes the session; the peer stopped this end's
+-- control stream; the peer's control stream, the first that was classified, has a fault; or the first of a kind of the peer's QPACK
+-- streams ended.
 pub data EndingCause (side : Side) (log : Log) (before after : StreamTable) : Ending → Type 0 where
   FaultyUni : (k : ℕ) (code : ErrorCode) → is_among (peer_uni side) (peer_count side (events_of log) (peer_uni side)) k ≡ true
       → uni_verdict_of (contents log k) (end_of (events_of log) k) ≡ verdicts.Fault code
-      → TakenLast before after k (verdicts.Fault code) → EndingCause side log before after (ByFault code)
-  SecondUni : (offset : Verdict → Option ℕ) → ComesOnce offset → (k at : ℕ) (v : Verdict) (first : ℕ × ℕ)
+      → ClassifiedLast before after k (verdicts.Fault code) → EndingCause side log before after (ByFault code)
+  SecondUni : (offset : Verdict → Option ℕ) → ComesOnce offset → (k start : ℕ) (v : Verdict) (first : ℕ × ℕ)
       → is_among (peer_uni side) (peer_count side (events_of log) (peer_uni side)) k ≡ true
       → uni_verdict_of (contents log k) (end_of (events_of log) k) ≡ v
-      → TakenLast before after k v → offset v ≡ Some at → first_at offset after.classified ≡ Some first → (first.0 == k) ≡ false
+      → ClassifiedLast before after k v → offset v ≡ Some start → first_at offset after.classified ≡ Some first → (first.0 == k) ≡ false
       → EndingCause side log before after (ByFault h3.StreamCreation)
   FaultyBi : (k : ℕ) (code : ErrorCode) → is_among (peer_bi side) (peer_count side (events_of log) (peer_bi side)) k ≡ true
       → bi_verdict_of (contents log k) (end_of (events_of log) k) ≡ verdicts.Fault code
-      → TakenLast before after k (verdicts.Fault code) → EndingCause side log before after (ByFault code)
-  NoDatagram : (piece : List ℕ) (code : ErrorCode) → TakesDatagram log before after piece → datagram_of piece ≡ Err code
+      → ClassifiedLast before after k (verdicts.Fault code) → EndingCause side log before after (ByFault code)
+  NoDatagram : (piece : List ℕ) (code : ErrorCode) → DequeuesDatagram log before after piece → datagram_of piece ≡ Err code
       → EndingCause side log before after (ByFault code)
   SessionFault : (s : ℕ × ℕ) (code : ErrorCode) → established_session (calls_of log) ≡ Some s
       → session_walk_of (drop s.1 (contents log s.0)) (end_of (events_of log) s.0) ≡ walks.Fault code
@@ -95,7 +95,7 @@ pub record SettingsRead (side : Side) (log : Log) (cs : List Classified) : Type 
   pub first : first_at control_start cs ≡ Some control
   pub read : is_some (control_walk_of (drop control.1 (contents log control.0)) (end_of (events_of log) control.0)).settings ≡ true
 
--- an entry after which the driver ends the connection ends it for a cause in what that very entry takes or shows
+-- an entry after which the driver ends the connection ends it for a cause in what the driver classifies or dequeues at that very entry, or in what that entry shows
 abbrev pub EndsForCause : Side → Entry → Log → Type 0
 EndsForCause side e log =
     (x : Ending) → (stream_table side log).progress.ending ≡ None → (stream_table side (e ∷ log)).progress.ending ≡ Some x
@@ -162,11 +162,11 @@ OnceEach side log = (offset : Verdict → Option ℕ) → ComesOnce offset → (
 -- passed, dequeues the next that came; where the driver doesn't end the connection then, that one has a quarter id. None is
 -- dequeued otherwise.
 pub record DatagramOrEnds (side : Side) (e : Entry) (log : Log) : Type 0 where
-  pub next : (piece : List ℕ) → is_moment e ≡ true → is_open (e ∷ log) ≡ true → settings_ready side (e ∷ log) ≡ true
-      → settled_datagrams (calls_of (e ∷ log)) ≡ (stream_table side log).progress.datagrams
+  pub is_next : (piece : List ℕ) → is_moment e ≡ true → is_open (e ∷ log) ≡ true → settings_ready side (e ∷ log) ≡ true
+      → released_datagrams (calls_of (e ∷ log)) ≡ (stream_table side log).progress.datagrams
       → slice_get (datagrams_of (events_of (e ∷ log))) (stream_table side log).progress.datagrams ≡ Some piece
       → (stream_table side (e ∷ log)).progress.ending ≡ None
-      → TakesDatagram (e ∷ log) (stream_table side log) (stream_table side (e ∷ log)) piece × (is_ok (datagram_of piece) ≡ true)
+      → DequeuesDatagram (e ∷ log) (stream_table side log) (stream_table side (e ∷ log)) piece × (is_ok (datagram_of piece) ≡ true)
   pub only : (stream_table side (e ∷ log)).progress.datagrams ≢ (stream_table side log).progress.datagrams
-      → (piece : List ℕ) × TakesDatagram (e ∷ log) (stream_table side log) (stream_table side (e ∷ log)) piece
+      → (piece : List ℕ) × DequeuesDatagram (e ∷ log) (stream_table side log) (stream_table side (e ∷ log)) piece
       × (settings_ready side (e ∷ log) ≡ true)

@@ -10,7 +10,7 @@ use Rattle.wt_seam_spec.specs.Streams.{contents, local_uni}
 use Rattle.wt_turn.specs.Log.{Entry, Log, calls_of, events_of, is_open}
 use Rattle.wt_wire.specs.declared.error.ErrorCode.{ErrorCode}
 use Rattle.wt_wire.specs.declared.side.Side.{Side}
-use Rattle.wt_laws.specs.Faults.{AtMostOne, ComesOnce, NoneFaulty, TakesDatagram}
+use Rattle.wt_laws.specs.Faults.{AtMostOne, ComesOnce, NoneFaulty, DequeuesDatagram}
 use Rattle.wt_spec.specs.Driver.{established_session, is_moment, stream_table}
 use Rattle.wt_spec.specs.StreamTable.{ByFault, BySession, Classified, StreamTable, control_start, decoder_start, encoder_start, first_at}
 use Rattle.wt_wire.specs.declared.side.StreamEnd.TheVariants as ends
@@ -25,9 +25,9 @@ pub record StreamsPass (cs : List Classified) : Type 0 where
   pub faultless : NoneFaulty cs
   pub once : (offset : Verdict → Option ℕ) → ComesOnce offset → AtMostOne offset cs
 
--- the moment that ends the log takes no datagram, or one that has a quarter id
+-- the moment that ends the log dequeues no datagram, or one that has a quarter id
 abbrev pub DatagramPasses : Log → StreamTable → StreamTable → Type 0
-DatagramPasses log before after = (piece : List ℕ) → TakesDatagram log before after piece → is_ok (datagram_of piece) ≡ true
+DatagramPasses log before after = (piece : List ℕ) → DequeuesDatagram log before after piece → is_ok (datagram_of piece) ≡ true
 
 -- the session goes on
 abbrev pub SessionPasses : Log → Type 0
@@ -46,10 +46,10 @@ pub record PassesUpToControl (side : Side) (log : Log) (before after : StreamTab
   pub session : SessionPasses log
   pub unstopped : is_some (stop_of (events_of log) (local_uni side)) ≡ false
 
--- ---- which is told
+-- ---- which is reported
 
 -- Where what comes before it in this order passes, each of these ends the connection: the fault of a stream, which is classified
--- last (`FaultIsLast`), or that it is a second one of a kind that comes once; the datagram that the moment takes, where it is none;
+-- last (`FaultIsLast`), or that it is a second one of a kind that comes once; the datagram that the moment dequeues, where it is none;
 -- the session's fault or its end; that the peer stopped this end's control stream; the fault of the peer's control stream, the
 -- first that was classified; the end of a QPACK stream of the peer's.
 -- Which of several streams the moment looks at first stands in `LooksInOrder`. And exactly where what comes before the peer's control stream
@@ -60,7 +60,7 @@ pub record TellsFirst (side : Side) (log : Log) (before after : StreamTable) : T
   pub second : (earlier : List Classified) (c : Classified) (offset : Verdict → Option ℕ) (first : ℕ × ℕ)
       → after.classified ≡ earlier ++ c ∷ [] → ComesOnce offset → is_some (offset c.verdict) ≡ true → first_at offset earlier ≡ Some first
       → after.progress.ending ≡ Some (ByFault h3.StreamCreation)
-  pub datagram : (piece : List ℕ) (code : ErrorCode) → StreamsPass after.classified → TakesDatagram log before after piece
+  pub datagram : (piece : List ℕ) (code : ErrorCode) → StreamsPass after.classified → DequeuesDatagram log before after piece
       → datagram_of piece ≡ Err code → after.progress.ending ≡ Some (ByFault code)
   pub session_fault : (s : ℕ × ℕ) (code : ErrorCode) → StreamsPass after.classified → DatagramPasses log before after
       → established_session (calls_of log) ≡ Some s
@@ -87,6 +87,6 @@ pub record TellsFirst (side : Side) (log : Log) (before after : StreamTable) : T
       → after.progress.ending ≡ Some (ByFault h3.ClosedCriticalStream)
 
 -- a moment that finds the connection open, which the driver hasn't ended, tells the first
-abbrev pub FirstIsTold : Side → Entry → Log → Type 0
-FirstIsTold side e log = is_moment e ≡ true → is_open (e ∷ log) ≡ true → (stream_table side log).progress.ending ≡ None
+abbrev pub FirstIsReported : Side → Entry → Log → Type 0
+FirstIsReported side e log = is_moment e ≡ true → is_open (e ∷ log) ≡ true → (stream_table side log).progress.ending ≡ None
     → TellsFirst side (e ∷ log) (stream_table side log) (stream_table side (e ∷ log))

@@ -23,11 +23,11 @@ use Rattle.wt_wire.specs.declared.side.Side.{Side}
 use Rattle.wt_laws.specs.Causes.{CloseCause, DialCause, bytes_for, head_frame_of, opened_kind, reads_from}
 use Rattle.wt_laws.specs.Reachable.{Exchange, IsReachable, is_among}
 use Rattle.wt_laws.specs.ReplyCauses.{ReplyCause}
-use Rattle.wt_laws.specs.ReplyTells.{datagram_told, read_piece}
+use Rattle.wt_laws.specs.ReplyTells.{datagram_reported, read_piece}
 use Rattle.wt_spec.specs.Answers.{answer_to, is_client, is_lawful, log_after, run_from}
 use Rattle.wt_spec.specs.Connect.{authority_of, path_of, request_head, reserved_name}
 use Rattle.wt_spec.specs.Connection.{is_for_session, is_opening, starts_opening, stream_header, well_formed}
-use Rattle.wt_spec.specs.Driver.{call_view, delivers, established_session, pending_actions, releases, reset_if, session_id, settings_came, settled_datagrams, stream_table}
+use Rattle.wt_spec.specs.Driver.{call_view, delivers, established_session, pending_actions, releases, reset_if, session_id, settings_came, released_datagrams, stream_table}
 use Rattle.wt_spec.specs.Effect.{driver_error, head_left, is_covered, log_call, transport_error}
 use Rattle.wt_spec.specs.Halves.{body_start, has_sending_half, is_accepted}
 use Rattle.wt_spec.specs.Handshake.{Connecting, handshake_state, has_success, response_head}
@@ -104,34 +104,34 @@ pub record WasDelivered (side : Side) (log : Log) (k : ℕ) : Type 0 where
 -- headers, is out on the stream that its connect opened, and a response with a status code from 200 to 299 was read. The
 -- session's part of the stream begins at this offset. (Out is a frame here once as many bytes are out as it has; that they are the
 -- frame: `SessionStreamOut`.)
-pub data EstablishedHow (side : Side) (log : Log) (own : List Action) (s at : ℕ) : Type 0 where
-  AfterRequest : (headers : Fields) (request : WasDelivered side log s) → is_client side ≡ false → at ≡ request.offset → is_covered log s (head_left log s (response_head (codes "200") headers)) ≡ true
-      → own ≡ send_of s (head_left log s (response_head (codes "200") headers)) → head_left (with_actions own log) s (response_head (codes "200") headers) ≡ [] → EstablishedHow side log own s at
+pub data EstablishedHow (side : Side) (log : Log) (own : List Action) (s offset : ℕ) : Type 0 where
+  AfterRequest : (headers : Fields) (request : WasDelivered side log s) → is_client side ≡ false → offset ≡ request.offset → is_covered log s (head_left log s (response_head (codes "200") headers)) ≡ true
+      → own ≡ send_of s (head_left log s (response_head (codes "200") headers)) → head_left (with_actions own log) s (response_head (codes "200") headers) ≡ [] → EstablishedHow side log own s offset
   AfterResponse : (head : List ℕ) (fields : Fields) → is_client side ≡ true → s ≡ local_bi side
       → local_count (actions_of (with_actions own log)) s ≢ 0 → handshake_state (calls_of log) ≡ Connecting None head
       → head_left (with_actions own log) s head ≡ [] → settings_came side log ≡ true
-      → response_walk_of (contents log s) (end_of (events_of log) s) ≡ responses.Response fields at → has_success fields ≡ true
-      → EstablishedHow side log own s at
+      → response_walk_of (contents log s) (end_of (events_of log) s) ≡ responses.Response fields offset → has_success fields ≡ true
+      → EstablishedHow side log own s offset
 
 -- right before the session's record, and the call's own actions, the peer's SETTINGS had come, the connection was open, and
 -- no session was established
-pub record EstablishedRightly (side : Side) (log : Log) (s at : ℕ) : Type 0 where
+pub record EstablishedRightly (side : Side) (log : Log) (s offset : ℕ) : Type 0 where
   pub before : Log
   pub own : List Action
-  pub follows : GoesOnFrom (Called (SessionEstablished s at) ∷ with_actions own before) log
+  pub follows : GoesOnFrom (Called (SessionEstablished s offset) ∷ with_actions own before) log
   pub was_open : is_open before ≡ true
   pub settings : settings_came side before ≡ true
   pub none_before : established_session (calls_of before) ≡ None
-  pub how : EstablishedHow side before own s at
+  pub how : EstablishedHow side before own s offset
 
 -- the session that is established was so rightly
 abbrev pub SessionsRightly : Side → Log → Type 0
-SessionsRightly side log = (s at : ℕ) → established_session (calls_of log) ≡ Some (s, at) → EstablishedRightly side log s at
+SessionsRightly side log = (s offset : ℕ) → established_session (calls_of log) ≡ Some (s, offset) → EstablishedRightly side log s offset
 
 -- a reply that tells of a session tells of the one that is established from then on
-abbrev pub SessionTold : Side → Log → Turn → Type 0
-SessionTold side log turn = (s : ℕ) → (answer_to side log turn).reply ≡ replies.Session s
-    → (at : ℕ) × (established_session (calls_of (log_after side log turn)) ≡ Some (s, at))
+abbrev pub SessionReported : Side → Log → Turn → Type 0
+SessionReported side log turn = (s : ℕ) → (answer_to side log turn).reply ≡ replies.Session s
+    → (offset : ℕ) × (established_session (calls_of (log_after side log turn)) ≡ Some (s, offset))
 
 -- no call delivered the request before the turn, it is delivered from then on, and its bytes give these fields
 pub record RequestGiven (side : Side) (log : Log) (turn : Turn) (k : ℕ) (headers : Fields) : Type 0 where
@@ -140,14 +140,14 @@ pub record RequestGiven (side : Side) (log : Log) (turn : Turn) (k : ℕ) (heade
   pub fields : given.headers ≡ headers
 
 -- a reply that gives a request gives it so
-abbrev pub RequestTold : Side → Log → Turn → Type 0
-RequestTold side log turn = (k : ℕ) (headers : Fields) → (answer_to side log turn).reply ≡ replies.Request k headers
+abbrev pub RequestReported : Side → Log → Turn → Type 0
+RequestReported side log turn = (k : ℕ) (headers : Fields) → (answer_to side log turn).reply ≡ replies.Request k headers
     → RequestGiven side log turn k headers
 
 -- at most one session is ever established
 abbrev pub OneSession : Side → Log → Turn → Type 0
-OneSession side log turn = (s at : ℕ) → established_session (calls_of log) ≡ Some (s, at)
-    → established_session (calls_of (log_after side log turn)) ≡ Some (s, at)
+OneSession side log turn = (s offset : ℕ) → established_session (calls_of log) ≡ Some (s, offset)
+    → established_session (calls_of (log_after side log turn)) ≡ Some (s, offset)
 
 -- ---- reads
 
@@ -194,15 +194,15 @@ more_received (Some payload) got = got ++ payload ∷ []
 -- what the replies gave, in their order
 abbrev pub received_by : List Exchange → List (List ℕ)
 received_by [] = []
-received_by (x ∷ before) = more_received (datagram_told x.answer.reply) (received_by before)
+received_by (x ∷ before) = more_received (datagram_reported x.answer.reply) (received_by before)
 
 -- they are the payloads of those that name the session among the datagrams that calls received or passed, which are the first so
 -- many that were dequeued
 abbrev pub DatagramsInOrder : Side → List Exchange → Log → Type 0
 DatagramsInOrder side before log =
-    (s at : ℕ) → established_session (calls_of log) ≡ Some (s, at)
-    → (settled_datagrams (calls_of log) ≤ (stream_table side log).progress.datagrams)
-    × (received_by before ≡ payloads_for s (take (settled_datagrams (calls_of log)) (datagrams_of (events_of log))))
+    (s offset : ℕ) → established_session (calls_of log) ≡ Some (s, offset)
+    → (released_datagrams (calls_of log) ≤ (stream_table side log).progress.datagrams)
+    × (received_by before ≡ payloads_for s (take (released_datagrams (calls_of log)) (datagrams_of (events_of log))))
 
 -- ---- the end
 
@@ -233,7 +233,7 @@ pub record FaultCloses (side : Side) (log : Log) : Type 0 where
       ≡ before ++ reset_if b (session_id (established_session (calls_of log))) ++ actions.Close (code_of h3.NoError) [] ∷ [])
   pub none : (stream_table side log).progress.ending ≡ None → list_any closes (pending_actions side log) ≡ false
 
--- after the end what it is told as never changes
+-- after the end what it is reported as never changes
 pub record ResultStays (side : Side) (log : Log) (turn : Turn) : Type 0 where
   pub closed : is_open (log_after side log turn) ≡ false
   pub driver : driver_error side (log_after side log turn) ≡ driver_error side log
@@ -264,9 +264,9 @@ pub data StoppedFor (side : Side) (log : Log) (classified : List Classified) (st
   IsRefused : is_among (peer_bi side) (peer_count side (events_of log) (peer_bi side)) stop.id ≡ true
       → bi_verdict_of (contents log stop.id) (end_of (events_of log) stop.id) ≡ verdicts.Refused stop.code
       → StoppedFor side log classified stop
-  IsSurplus : (headers : Fields) (at : ℕ) (queued : Classified) (later : List Classified)
+  IsSurplus : (headers : Fields) (offset : ℕ) (queued : Classified) (later : List Classified)
       → is_among (peer_bi side) (peer_count side (events_of log) (peer_bi side)) stop.id ≡ true
-      → bi_verdict_of (contents log stop.id) (end_of (events_of log) stop.id) ≡ verdicts.Request headers at
+      → bi_verdict_of (contents log stop.id) (end_of (events_of log) stop.id) ≡ verdicts.Request headers offset
       → (dispatched_streams (call_view log) classified).requests ≡ queued ∷ later → (queued.id == stop.id) ≡ false
       → stop.code ≡ h3.RequestRejected → StoppedFor side log classified stop
 
@@ -329,7 +329,7 @@ is_session_stream side calls k = if is_client side then k == local_bi side else 
 pub record SessionStreamOut (side : Side) (before : List Exchange) (log : Log) : Type 0 where
   pub prefix : (k : ℕ) → is_session_stream side (calls_of log) k ≡ true
       → (n : ℕ) × (sent_on (actions_of log) k ≡ take n (unwrap_or (session_frame before) []))
-  pub whole : (s at : ℕ) → established_session (calls_of log) ≡ Some (s, at)
+  pub whole : (s offset : ℕ) → established_session (calls_of log) ≡ Some (s, offset)
       → (is_session_stream side (calls_of log) s ≡ true) × (session_frame before ≡ Some (sent_on (actions_of log) s))
   pub rejected : (k : ℕ) → is_session_stream side (calls_of log) k ≡ true → is_finished (actions_of log) k ≡ true
       → session_frame before ≡ Some (sent_on (actions_of log) k)
@@ -373,7 +373,7 @@ SendsEnd side log turn =
     (k : ℕ) → k ≢ local_uni side → is_head_out side log k ≡ true → (is_finished (actions_of log) k || is_reset log k) ≡ true
     → sent_on (actions_of (log_after side log turn)) k ≡ sent_on (actions_of log) k
 
--- no more goes out on a stream than the credit allows that was told for it while the connection was open
+-- no more goes out on a stream than the credit allows that was reported for it while the connection was open
 abbrev pub WithinCredit : Side → Log → Type 0
 WithinCredit side log = (k : ℕ) → length (sent_on (actions_of log) k) ≤ credit (events_of log) k
 
@@ -389,7 +389,7 @@ head_of side k session = if is_of_this_end side k then stream_header k session e
 -- What is out on a stream that was given is its head, followed by all bytes that writes accepted.
 abbrev pub SendsAll : Side → List Exchange → Log → Type 0
 SendsAll side before log =
-    (k s at : ℕ) → k ≢ local_uni side → is_accepted log k ≡ true → established_session (calls_of log) ≡ Some (s, at)
+    (k s offset : ℕ) → k ≢ local_uni side → is_accepted log k ≡ true → established_session (calls_of log) ≡ Some (s, offset)
     → sent_on (actions_of log) k ≡ head_of side k s ++ written_on k before
 
 -- ---- what a call sends goes out, once
@@ -399,12 +399,12 @@ SendsAll side before log =
 abbrev pub GoesOut : Side → Log → Turn → Action → CallRecord → Type 0
 GoesOut side log turn a r = log_after side log turn ≡ log_call side log (a ∷ []) r
 
--- A datagram that is taken goes out whole, and once; on an open connection so do a close, a reset, a stop, the finish of a half that
+-- A datagram that a call answers Done goes out whole, and once; on an open connection so do a close, a reset, a stop, the finish of a half that
 -- isn't finished, reset or stopped, and the opening that a reply names; and a connect to an address on which the endpoint lets it
 -- proceed dials it.
-pub record TakenGoesOut (side : Side) (log : Log) : Type 0 where
+pub record WrittenGoesOut (side : Side) (log : Log) : Type 0 where
   pub datagram : (payload : List ℕ) → (answer_to side log (turns.Call (calls.SendDatagram payload))).reply ≡ replies.Done
-      → (s : ℕ) × (at : ℕ) × (established_session (calls_of log) ≡ Some (s, at))
+      → (s : ℕ) × (offset : ℕ) × (established_session (calls_of log) ≡ Some (s, offset))
       × GoesOut side log (turns.Call (calls.SendDatagram payload)) (actions.DatagramOut (datagram_bytes (s / 4) payload)) Polled
   pub close : (code : ℕ) (reason : List ℕ) → is_open log ≡ true
       → (answer_to side log (turns.Call (calls.Close code reason))).reply ≡ replies.Done
@@ -419,7 +419,7 @@ pub record TakenGoesOut (side : Side) (log : Log) : Type 0 where
       → is_reset log k ≡ false → stop_of (events_of log) k ≡ None
       → GoesOut side log (turns.Call (calls.Finish k)) (actions.Finish k) Polled
   pub opening : (turn : Turn) (kind k : ℕ) → opened_kind side turn ≡ Some kind → (answer_to side log turn).reply ≡ replies.Opening k
-      → (s : ℕ) × (at : ℕ) × (established_session (calls_of log) ≡ Some (s, at)) × GoesOut side log turn (actions.Opened k) (OpeningStarted k s)
+      → (s : ℕ) × (offset : ℕ) × (established_session (calls_of log) ≡ Some (s, offset)) × GoesOut side log turn (actions.Opened k) (OpeningStarted k s)
   pub dial : (turn : Turn) (address : Addr) (name : List ℕ) (dials : DialCause turn address name)
       → GoesOut side log turn (actions.Dial address name) (ConnectStarted (reserved_name dials.to.headers) (request_head (authority_of dials.to.url) (path_of dials.to.url) dials.to.headers))
 
@@ -430,9 +430,9 @@ pub record TakenGoesOut (side : Side) (log : Log) : Type 0 where
 pub record HeadersOut (side : Side) (log : Log) : Type 0 where
   pub unopened : (k : ℕ) → is_of_this_end side k ≡ true → k ≢ local_uni side → local_count (actions_of log) (k % 4) ≤ k / 4
       → sent_on (actions_of log) k ≡ []
-  pub ungiven : (k s at : ℕ) → list_any (starts_opening k) (calls_of log) ≡ true → is_accepted log k ≡ false
-      → established_session (calls_of log) ≡ Some (s, at) → (n : ℕ) × (sent_on (actions_of log) k ≡ take n (stream_header k s))
-  pub begun : (k s at : ℕ) → is_opening log k ≡ true → established_session (calls_of log) ≡ Some (s, at)
+  pub ungiven : (k s offset : ℕ) → list_any (starts_opening k) (calls_of log) ≡ true → is_accepted log k ≡ false
+      → established_session (calls_of log) ≡ Some (s, offset) → (n : ℕ) × (sent_on (actions_of log) k ≡ take n (stream_header k s))
+  pub begun : (k s offset : ℕ) → is_opening log k ≡ true → established_session (calls_of log) ≡ Some (s, offset)
       → (n : ℕ) × (sent_on (actions_of log) k ≡ take n (stream_header k s))
-  pub whole : (k s at : ℕ) → is_of_this_end side k ≡ true → is_accepted log k ≡ true → established_session (calls_of log) ≡ Some (s, at)
+  pub whole : (k s offset : ℕ) → is_of_this_end side k ≡ true → is_accepted log k ≡ true → established_session (calls_of log) ≡ Some (s, offset)
       → (rest : List ℕ) × (sent_on (actions_of log) k ≡ stream_header k s ++ rest)

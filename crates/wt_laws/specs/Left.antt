@@ -191,6 +191,6 @@ pub record PendingExactly (side : Side) (log : Log) (turn : Turn) : Type 0 where
   pub no_datagram : FoundDatagram side turn decided false → ⊥
   pub exactly : is_pending (answer_to side log turn).reply ≡ (is_open decided && has_nothing_left side turn decided)
   pub gives : (r : Reply) → passing_reply side turn decided ≡ Some r → (answer_to side log turn).reply ≡ r
-  pub none_left : (session at : ℕ) → is_accept turn ≡ true → given_stream (answer_to side log turn).reply ≡ None
-      → established_session (calls_of decided) ≡ Some (session, at)
+  pub none_left : (session offset : ℕ) → is_accept turn ≡ true → given_stream (answer_to side log turn).reply ≡ None
+      → established_session (calls_of decided) ≡ Some (session, offset)
       → list_any (is_left_for decided (accepted_kind side turn) session) (stream_table side decided).classified ≡ false

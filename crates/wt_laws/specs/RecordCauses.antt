@@ -81,8 +81,8 @@ pub record OpeningCause (side : Side) (turn : Turn) (log : Log) (k session : ℕ
 -- why an opening fails, which the call polls: the connection ended, or the peer stopped the stream before its header was out
 pub data OpeningOver (side : Side) (turn : Turn) (log : Log) (k : ℕ) : Type 0 where
   AtEnd : polls_opening k turn ≡ true → is_opening log k ≡ true → is_open log ≡ false → OpeningOver side turn log k
-  HeaderStopped : (session at : ℕ) → polls_opening k turn ≡ true → is_opening log k ≡ true
-      → established_session (calls_of log) ≡ Some (session, at) → is_refused log k (head_left log k (stream_header k session)) ≡ true
+  HeaderStopped : (session offset : ℕ) → polls_opening k turn ≡ true → is_opening log k ≡ true
+      → established_session (calls_of log) ≡ Some (session, offset) → is_refused log k (head_left log k (stream_header k session)) ≡ true
       → OpeningOver side turn log k
 
 -- why so many bytes of a stream count as read: the call reads it, asks for no fewer, and they came and weren't read before
@@ -104,7 +104,7 @@ RecordCause side turn log (RequestDelivered k) = DeliverCause side turn log k
 RecordCause side turn log (ResponseStarted accepts head) = ResponseFrom turn (calls_of log) accepts head × (id : ℕ)
     × (handshake_state (calls_of log) ≡ Requested id)
 RecordCause side turn log (ConnectStarted reserved head) = ConnectCause side turn log reserved head
-RecordCause side turn log (SessionEstablished id at) = EstablishedBy side turn log id at
+RecordCause side turn log (SessionEstablished id offset) = EstablishedBy side turn log id offset
 RecordCause side turn log HandshakeOver = OverBy side turn log
 RecordCause side turn log (OpeningStarted k session) = OpeningCause side turn log k session
 RecordCause side turn log (OpeningFailed k) = OpeningOver side turn log k
@@ -122,7 +122,7 @@ pub record NewOpening (side : Side) (turn : Turn) (log : Log) (own : List Action
   pub kind : ℕ
   pub own_is : own ≡ actions_to_open side log kind
   pub may : may_open side log kind ≡ true
-  pub next : k ≡ next_id side log kind
+  pub is_next : k ≡ next_id side log kind
   pub small : nat_lt kind 4 ≡ true
 
 -- the cause of a record, with the call's own actions beside it

@@ -92,8 +92,8 @@ pub data HeadFor (side : Side) (turn : Turn) (log : Log) (k : ℕ) (head : List 
       → HeadFor side turn log k head
   OfTheRequest : (reserved : Option (List ℕ)) → turn ≡ turns.Call calls.Handshake
       → handshake_state (calls_of log) ≡ Connecting reserved head → k ≡ local_bi side → HeadFor side turn log k head
-  OfTheStream : (session at : ℕ) → polls_opening k turn ≡ true → is_opening log k ≡ true
-      → established_session (calls_of log) ≡ Some (session, at) → head ≡ stream_header k session → HeadFor side turn log k head
+  OfTheStream : (session offset : ℕ) → polls_opening k turn ≡ true → is_opening log k ≡ true
+      → established_session (calls_of log) ≡ Some (session, offset) → head ≡ stream_header k session → HeadFor side turn log k head
 
 -- what the call can still give isn't there
 pub data PendingCause (side : Side) (turn : Turn) (log : Log) : Type 0 where
@@ -122,7 +122,7 @@ pub data PendingCause (side : Side) (turn : Turn) (log : Log) : Type 0 where
       → is_finished (actions_of log) (requested_stream (calls_of log)) ≡ true
       → stop_of (events_of log) (requested_stream (calls_of log)) ≡ None
       → is_acknowledged (events_of log) (requested_stream (calls_of log)) ≡ false → PendingCause side turn log
-  NoStreamLeft : (session at : ℕ) → is_accept turn ≡ true → established_session (calls_of log) ≡ Some (session, at)
+  NoStreamLeft : (session offset : ℕ) → is_accept turn ≡ true → established_session (calls_of log) ≡ Some (session, offset)
       → next_due side log (accepted_kind side turn) session ≡ None → PendingCause side turn log
   NoDatagramLeft : is_receive turn ≡ true → next_datagram side log ≡ None → PendingCause side turn log
   NotEnded : (k : ℕ) → waits_for_end turn ≡ Some k → stop_of (events_of log) k ≡ None → is_done log k ≡ false → PendingCause side turn log
@@ -137,7 +137,7 @@ abbrev pub is_incoming : Turn → Bool
 is_incoming (turns.Call calls.Incoming) = true
 is_incoming _ = false
 
--- the connection ended, told as the driver or as the transport does, by the call; or the peer stopped the response before it
+-- the connection ended, reported as the driver or as the transport does, by the call; or the peer stopped the response before it
 -- was out
 pub data FailedCause (side : Side) (turn : Turn) (log : Log) (e : ConnectionError) : Type 0 where
   AsDriver : (is_accept turn || is_receive turn || is_incoming turn) ≡ true → is_open log ≡ false → e ≡ driver_error side log
@@ -173,7 +173,7 @@ pub data ConnectFailedCause (side : Side) (turn : Turn) (log : Log) (e : Connect
       → handshake_state (calls_of log) ≡ Connecting reserved head → is_empty (head_left log (local_bi side) head) ≡ false
       → is_open log ≡ false → e ≡ loss_to_connect log → ConnectFailedCause side turn log e
   BeforeResponse : ResponseIs side turn log responses.Incomplete → is_open log ≡ false → e ≡ loss_to_connect log → ConnectFailedCause side turn log e
-  AfterSuccess : (fields : Fields) (at : ℕ) → ResponseIs side turn log (responses.Response fields at) → has_success fields ≡ true
+  AfterSuccess : (fields : Fields) (offset : ℕ) → ResponseIs side turn log (responses.Response fields offset) → has_success fields ≡ true
       → is_open log ≡ false
       → e ≡ connects.ConnectionError (driver_error side log) → ConnectFailedCause side turn log e
   ByReserved : (name head : List ℕ) → turn ≡ turns.Call calls.Handshake → handshake_state (calls_of log) ≡ Connecting (Some name) head
@@ -182,7 +182,7 @@ pub data ConnectFailedCause (side : Side) (turn : Turn) (log : Log) (e : Connect
       → handshake_state (calls_of log) ≡ Connecting reserved head → is_open log ≡ true
       → is_refused log (local_bi side) (head_left log (local_bi side) head) ≡ true → e ≡ connects.SessionRejected
       → ConnectFailedCause side turn log e
-  ByStatus : (fields : Fields) (at : ℕ) → ResponseIs side turn log (responses.Response fields at) → has_success fields ≡ false
+  ByStatus : (fields : Fields) (offset : ℕ) → ResponseIs side turn log (responses.Response fields offset) → has_success fields ≡ false
       → e ≡ connects.SessionRejected → ConnectFailedCause side turn log e
   ByResponseFault : (code : ErrorCode) → ResponseIs side turn log (responses.Fault code)
       → e ≡ connects.ConnectionError (errors.LocalH3Error code) → ConnectFailedCause side turn log e
@@ -248,7 +248,7 @@ ExactErrorCause side log k (exacts.Read e) piece = ReadErrorCause side log k e �
 ExactErrorCause side log k (exacts.FinishedEarly count) piece = (end_of (events_of log) k ≡ ends.Fin) × (piece ≡ unread_body side log k)
     × (count ≡ length piece)
 
--- by what the transport told last of datagrams; it isn't connected also where it told nothing of them yet
+-- by what the transport reported last of datagrams; it isn't connected also where it reported nothing of them yet
 abbrev pub DatagramErrorCause : Log → List ℕ → SendDatagramError → Type 0
 DatagramErrorCause log bytes datagrams.NotConnected = (is_open log ≡ false) ⊎ (datagram_fact (events_of log) ≡ None)
 DatagramErrorCause log bytes datagrams.Disabled = datagram_fact (events_of log) ≡ Some facts.Disabled
@@ -268,7 +268,7 @@ pub data RejectedCause (side : Side) (turn : Turn) (log : Log) : Type 0 where
       ≡ true
       → RejectedCause side turn log
 
--- what the turn asks for is done: an event is taken; a datagram goes out; a close, on an established session or of the
+-- what the turn asks for is done: an event is logged; a datagram goes out; a close, on an established session or of the
 -- endpoint; a priority is set, unless the half is done; a half that isn't done is reset; a receiving half is given up
 pub data DoneCause (side : Side) (turn : Turn) (log : Log) : Type 0 where
   AtEvent : is_call turn ≡ false → DoneCause side turn log
@@ -291,7 +291,7 @@ ReplyCause side turn log replies.NoStream = half_of side log turn ≡ Some false
 ReplyCause side turn log (replies.Request id headers) = (turn ≡ turns.Call calls.Incoming) × (queued : Classified)
     × (later : List Classified) × (queued_requests side log ≡ queued ∷ later) × (queued.id ≡ id)
     × (headers ≡ request_fields_of queued.verdict)
-ReplyCause side turn log (replies.Session id) = (own : List Action) × (at : ℕ) × EstablishedBy side turn (with_actions own log) id at
+ReplyCause side turn log (replies.Session id) = (own : List Action) × (offset : ℕ) × EstablishedBy side turn (with_actions own log) id offset
 ReplyCause side turn log replies.Rejected = RejectedCause side turn log
 ReplyCause side turn log (replies.Uni k) = GivenStream side turn log (peer_uni side) k
 ReplyCause side turn log (replies.Bi k) = GivenStream side turn log (peer_bi side) k
@@ -299,10 +299,10 @@ ReplyCause side turn log (replies.Opening k) = (is_open log ≡ true) × (kind :
     × (may_open side log kind ≡ true) × (k ≡ next_id side log kind)
 ReplyCause side turn log (replies.SendReady k) = OpenedCause side turn log k × (is_bidirectional k ≡ false)
 ReplyCause side turn log (replies.BiReady k) = OpenedCause side turn log k × (is_bidirectional k ≡ true)
-ReplyCause side turn log (replies.Id s) = (turn ≡ turns.Call calls.SessionId) × (at : ℕ) × (established_session (calls_of log) ≡ Some (s, at))
+ReplyCause side turn log (replies.Id s) = (turn ≡ turns.Call calls.SessionId) × (offset : ℕ) × (established_session (calls_of log) ≡ Some (s, offset))
 ReplyCause side turn log (replies.Datagram piece) = (found : FoundDatagram side turn log true) × (piece ≡ found.datagram.1)
-ReplyCause side turn log (replies.Size size) = (turn ≡ turns.Call calls.MaxDatagramSize) × (s : ℕ) × (at : ℕ)
-    × (established_session (calls_of log) ≡ Some (s, at)) × (size ≡ payload_limit s (datagram_fact (events_of log)))
+ReplyCause side turn log (replies.Size size) = (turn ≡ turns.Call calls.MaxDatagramSize) × (s : ℕ) × (offset : ℕ)
+    × (established_session (calls_of log) ≡ Some (s, offset)) × (size ≡ payload_limit s (datagram_fact (events_of log)))
 ReplyCause side turn log (replies.Written count) = (x : WrittenCause side turn log count)
     × (turn ≡ turns.Call (calls.Write x.stream x.bytes)) × (count ≡ 0
     → x.bytes ≡ [])
@@ -327,8 +327,8 @@ ReplyCause side turn log (replies.Closed e) = (turn ≡ turns.Call calls.Closed)
 ReplyCause side turn log (replies.ConnectFailed e) = ConnectFailedCause side turn log e
 ReplyCause side turn log (replies.OpeningFailed openings.NotConnected) = (is_open log ≡ false) × (k : ℕ) × (polls_opening k turn ≡ true)
     × (is_opening log k ≡ true)
-ReplyCause side turn log (replies.OpeningFailed openings.Refused) = (k : ℕ) × (session : ℕ) × (at : ℕ) × (polls_opening k turn ≡ true)
-    × (is_opening log k ≡ true) × (established_session (calls_of log) ≡ Some (session, at))
+ReplyCause side turn log (replies.OpeningFailed openings.Refused) = (k : ℕ) × (session : ℕ) × (offset : ℕ) × (polls_opening k turn ≡ true)
+    × (is_opening log k ≡ true) × (established_session (calls_of log) ≡ Some (session, offset))
     × (is_refused log k (head_left log k (stream_header k session)) ≡ true)
 ReplyCause side turn log (replies.WriteFailed e) = WriteFailedCause side turn log e
 ReplyCause side turn log (replies.StoppedBy e) = (k : ℕ) × (turn ≡ turns.Call (calls.Stopped k)) × (has_sending_half side log k ≡ true)

@@ -23,19 +23,19 @@ given_stream (replies.BiReady k) = Some k
 given_stream _ = None
 
 -- the datagram that a reply gives
-abbrev pub datagram_told : Reply → Option (List ℕ)
-datagram_told (replies.Datagram piece) = Some piece
-datagram_told _ = None
+abbrev pub datagram_reported : Reply → Option (List ℕ)
+datagram_reported (replies.Datagram piece) = Some piece
+datagram_reported _ = None
 
 -- the session that a reply establishes
-abbrev pub session_told : Reply → Option ℕ
-session_told (replies.Session s) = Some s
-session_told _ = None
+abbrev pub session_reported : Reply → Option ℕ
+session_reported (replies.Session s) = Some s
+session_reported _ = None
 
 -- the request that a reply gives
-abbrev pub request_told : Reply → Option ℕ
-request_told (replies.Request k headers) = Some k
-request_told _ = None
+abbrev pub request_reported : Reply → Option ℕ
+request_reported (replies.Request k headers) = Some k
+request_reported _ = None
 
 -- it tells of no bytes, stream, datagram, session or request
 abbrev pub is_quiet : Reply → Bool
@@ -55,9 +55,9 @@ is_quiet _ = true
 abbrev pub TellsOf : Turn → CallRecord → Reply → Type 0
 TellsOf turn (BytesRead k count) reply = (piece : List ℕ) × (read_piece reply ≡ Some piece) × (count ≡ length piece) × (reads_from k turn ≡ true)
 TellsOf turn (StreamAccepted k) reply = given_stream reply ≡ Some k
-TellsOf turn DatagramReceived reply = (piece : List ℕ) × (datagram_told reply ≡ Some piece)
-TellsOf turn (SessionEstablished s at) reply = session_told reply ≡ Some s
-TellsOf turn (RequestDelivered k) reply = request_told reply ≡ Some k
+TellsOf turn DatagramReceived reply = (piece : List ℕ) × (datagram_reported reply ≡ Some piece)
+TellsOf turn (SessionEstablished s offset) reply = session_reported reply ≡ Some s
+TellsOf turn (RequestDelivered k) reply = request_reported reply ≡ Some k
 TellsOf turn _ reply = is_quiet reply ≡ true
 
 -- what a turn recorded, after what it passed, and what its reply tells of it

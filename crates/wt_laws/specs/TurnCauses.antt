@@ -1,4 +1,4 @@
--- What a turn adds to the log, each entry with its cause in that very turn: what the transport told, what the calls sent and recorded,
+-- What a turn adds to the log, each entry with its cause in that very turn: what the transport reported, what the calls sent and recorded,
 -- and what the driver sent at the newest moment.
 use Rattle.std.specs.Prelude.{◌++◌, ◌∷◌, ◌≡◌, Bool, List, Some, false, true, ℕ}
 use Rattle.wt_seam_spec.specs.Streams.{contents}
@@ -29,10 +29,10 @@ pub data SentIn (side : Side) (turn : Turn) (start log : Log) (a : Action) : Typ
       → SinceMoment (e ∷ earlier) log → DriverCause side (e ∷ earlier) a → SentIn side turn start log a
 
 -- the turn is the event of the transport that tells exactly this, and tells it first of all, while the connection is open or after its end
-abbrev pub IsTold : Turn → Log → Log → Bool → Event → Type 0
-IsTold turn start log was_open e = (event_of turn ≡ Some e) × (log ≡ start) × (is_open log ≡ was_open)
+abbrev pub IsReported : Turn → Log → Log → Bool → Event → Type 0
+IsReported turn start log was_open e = (event_of turn ≡ Some e) × (log ≡ start) × (is_open log ≡ was_open)
 
--- The turn is the event of the transport that brings this byte for the stream, on an open connection: it is the next of the piece,
+-- The turn is the event of the transport that carries this byte of the stream, on an open connection: it is the next of the piece,
 -- after those that came in the turn before it (RFC 9000, section 2.2).
 pub record IsNextByte (turn : Turn) (start log : Log) (id b : ℕ) : Type 0 where
   pub piece : List ℕ
@@ -46,8 +46,8 @@ pub record IsNextByte (turn : Turn) (start log : Log) (id b : ℕ) : Type 0 wher
 -- why an entry comes in a turn, after this log: the transport tells it, or a call sends or records it, or the driver sends it
 abbrev pub EntryCause : Side → Turn → Log → Log → Entry → Type 0
 EntryCause side turn start log (Received id b) = IsNextByte turn start log id b
-EntryCause side turn start log (Reported e) = IsTold turn start log true e
-EntryCause side turn start log (ReportedLate e) = IsTold turn start log false e
+EntryCause side turn start log (Reported e) = IsReported turn start log true e
+EntryCause side turn start log (ReportedLate e) = IsReported turn start log false e
 EntryCause side turn start log (Sent a) = SentIn side turn start log a
 EntryCause side turn start log (Called r) = RecordCause side turn log r
 

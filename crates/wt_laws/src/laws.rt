@@ -1,7 +1,7 @@
 //! The laws, each a function with an empty body whose contract is the law.
 ghost use Rattle.std.specs.Prelude.{◌≡◌, ◌++◌, ℕ, List, [], Option, Some, true, false};
 ghost use Rattle.wt_laws.specs.Exactly.{AsksFirst, ConnectGoesOn, ConnectsAnswer, HeadsGoOut, MaySend, ReceivingCallsAnswer, RequestGoesOn, RequestsAnswer, ResponsesAnswer, SendingCallsAnswer, SessionCallsAnswer};
-ghost use Rattle.wt_laws.specs.Laws.{CutsWell, DatagramsInOrder, FaultCloses, HeadersOut, NothingAfterEnd, OneSession, OpenExactly, ReadsFromStart, ReadsInOrder, ReplyHasCause, RequestTold, ResultStays, SendsAll, SendsEnd, SendsInOrder, SessionStreamOut, SessionTold, SessionsRightly, SettingsOut, StreamsAcceptedRightly, TakenGoesOut, WithinCredit};
+ghost use Rattle.wt_laws.specs.Laws.{CutsWell, DatagramsInOrder, FaultCloses, HeadersOut, NothingAfterEnd, OneSession, OpenExactly, ReadsFromStart, ReadsInOrder, ReplyHasCause, RequestReported, ResultStays, SendsAll, SendsEnd, SendsInOrder, SessionStreamOut, SessionReported, SessionsRightly, SettingsOut, StreamsAcceptedRightly, WrittenGoesOut, WithinCredit};
 ghost use Rattle.wt_laws.specs.Left.{PendingExactly, is_pending};
 ghost use Rattle.wt_laws.specs.Reachable.{AllLawful, IsReachable, exchanges};
 ghost use Rattle.wt_turn.specs.Turns.{is_call};
@@ -29,12 +29,12 @@ pub fn lawful_turns_are_reachable()
 /// A session is established only after the peer's SETTINGS and a request or a response with
 /// success, on an open connection; there is at most one, and the reply tells of it. A request that
 /// is given is in the bytes of its stream.
-#[tactic(auto, using(crate::proofs::Theorems::sessions_theorem, crate::proofs::Theorems::one_session_theorem, crate::proofs::Theorems::session_told_theorem))]
+#[tactic(auto, using(crate::proofs::Theorems::sessions_theorem, crate::proofs::Theorems::one_session_theorem, crate::proofs::Theorems::session_reported_theorem))]
 pub fn sessions_are_established_rightly()
     ensures rightly { (side : Side) (log : Log) → IsReachable side log → SessionsRightly side log }
     ensures one { (side : Side) (log : Log) (turn : Turn) → IsReachable side log → is_lawful side log turn ≡ true → OneSession side log turn }
-    ensures reported { (side : Side) (log : Log) (turn : Turn) → is_lawful side log turn ≡ true → SessionTold side log turn }
-    ensures request { (side : Side) (log : Log) (turn : Turn) → IsReachable side log → is_lawful side log turn ≡ true → RequestTold side log turn }
+    ensures reported { (side : Side) (log : Log) (turn : Turn) → is_lawful side log turn ≡ true → SessionReported side log turn }
+    ensures request { (side : Side) (log : Log) (turn : Turn) → IsReachable side log → is_lawful side log turn ≡ true → RequestReported side log turn }
 {}
 
 /// A stream that an accept gives is the peer's, of the session, and given once; the first in the
@@ -48,7 +48,7 @@ pub fn streams_are_accepted_rightly()
 
 /// What reads of a stream give, joined, is a prefix of what came after its header; before a stream
 /// that this end opened no header stands.
-#[tactic(auto, using(crate::proofs::Theorems::reads_theorem, crate::proofs::Theorems::own_reads_theorem))]
+#[tactic(auto, using(crate::proofs::Theorems::reads_theorem, crate::proofs::Theorems::local_reads_theorem))]
 pub fn reads_give_what_came()
     ensures own { (side : Side) (log : Log) → ReadsFromStart side log }
     ensures reads { (side : Side) (all : List Turn) → AllLawful side [] all → ReadsInOrder side (exchanges side all) (log_from side [] all) }
@@ -62,7 +62,7 @@ pub fn datagrams_come_in_order()
 {}
 
 /// A connection is open exactly where no loss, no call and no fault ended it, and from its end on
-/// it is told as the same, and nothing goes out.
+/// it is reported as the same, and nothing goes out.
 #[tactic(auto, using(crate::proofs::Theorems::open_theorem, crate::proofs::Theorems::fault_theorem, crate::proofs::Theorems::result_theorem, crate::proofs::Theorems::after_end_theorem))]
 pub fn connections_end_for_a_cause()
     ensures open { (side : Side) (log : Log) → IsReachable side log → OpenExactly side log }
@@ -113,11 +113,11 @@ pub fn writes_go_out()
     ensures end { (side : Side) (log : Log) (turn : Turn) → IsReachable side log → is_lawful side log turn ≡ true → SendsEnd side log turn }
 {}
 
-/// A datagram that is taken goes out whole and once; so do, on an open connection, a close, a reset, a
+/// A datagram that a call answers Done goes out whole and once; so do, on an open connection, a close, a reset, a
 /// stop, a finish and an opening, and what a connect dials.
-#[tactic(auto, using(crate::proofs::Theorems::taken_theorem))]
-pub fn what_is_taken_goes_out()
-    ensures taken { (side : Side) (log : Log) → TakenGoesOut side log }
+#[tactic(auto, using(crate::proofs::Theorems::written_theorem))]
+pub fn what_is_written_goes_out()
+    ensures written { (side : Side) (log : Log) → WrittenGoesOut side log }
 {}
 
 /// Pending is answered exactly where nothing is left for the call and the connection is open; a
@@ -143,10 +143,10 @@ pub fn runs_answer_the_longest_lawful_prefix()
     ensures lawful { (side : Side) (all : List Turn) → RunsLawful side all }
 {}
 
-/// What is dequeued, classified, released, delivered or settled by SETTINGS stays so, and in its
+/// What is dequeued, classified, released, delivered or decided by SETTINGS stays so, and in its
 /// order; so do the datagrams that came and those that were received.
 #[tactic(auto, using(crate::proofs::Theorems::stays_theorem))]
-pub fn what_is_settled_stays()
+pub fn what_is_decided_stays()
     ensures stays { (side : Side) (more earlier : Log) → StaysSo side earlier (more ++ earlier) }
 {}
 
@@ -162,7 +162,7 @@ pub fn late_turns_do_nothing()
 #[tactic(auto, using(crate::proofs::Theorems::asks_first_theorem, crate::proofs::Theorems::session_calls_theorem, crate::proofs::Theorems::sending_calls_theorem, crate::proofs::Theorems::receiving_calls_theorem))]
 pub fn calls_answer_exactly()
     ensures first { (side : Side) (log : Log) (call : Call) → AsksFirst side log call }
-    ensures session { (side : Side) (log : Log) (s at : ℕ) → established_session (calls_of log) ≡ Some (s, at) → SessionCallsAnswer side log s }
+    ensures session { (side : Side) (log : Log) (s offset : ℕ) → established_session (calls_of log) ≡ Some (s, offset) → SessionCallsAnswer side log s }
     ensures sending { (side : Side) (log : Log) (k : ℕ) → has_sending_half side log k ≡ true → SendingCallsAnswer side log k }
     ensures receiving { (side : Side) (log : Log) (k : ℕ) → has_receiving_half side log k ≡ true → ReceivingCallsAnswer side log k }
 {}

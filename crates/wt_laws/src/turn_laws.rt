@@ -1,10 +1,10 @@
 //! What each turn adds, with its cause in that turn: further laws, each a function with an empty body
 //! whose contract is the law.
 ghost use Rattle.std.specs.Prelude.{◌≡◌, List, [], true};
-ghost use Rattle.wt_laws.specs.Datagrams.{DatagramTold};
+ghost use Rattle.wt_laws.specs.Datagrams.{DatagramReported};
 ghost use Rattle.wt_laws.specs.Ended.{EndingGoesOut, PendingGoesOut};
 ghost use Rattle.wt_laws.specs.Faults.{ClassifiedRightly, DatagramOrEnds, EndsForCause, FaultlessOrEnds, OnceEach, SettingsComeRead, StreamsFaultless};
-ghost use Rattle.wt_laws.specs.FirstFault.{FirstIsTold};
+ghost use Rattle.wt_laws.specs.FirstFault.{FirstIsReported};
 ghost use Rattle.wt_laws.specs.GivenOnce.{GivenOnce};
 ghost use Rattle.wt_laws.specs.LeavesRecord.{LeavesRecord};
 ghost use Rattle.wt_laws.specs.OpenedInOrder.{OpenedInOrder};
@@ -17,7 +17,7 @@ ghost use Rattle.wt_turn.specs.Log.{Entry, Log};
 ghost use Rattle.wt_turn.specs.declared.turn.Turn.{Turn};
 ghost use Rattle.wt_wire.specs.declared.side.Side.{Side};
 
-/// Each entry that a turn adds to the log has its cause in that very turn: what the transport told
+/// Each entry that a turn adds to the log has its cause in that very turn: what the transport reported
 /// in it, what a call sent and recorded, what the driver sent. So each action of a run went out in
 /// one of its turns and for its cause in it; and what a reply gives is recorded.
 #[tactic(auto, using(crate::proofs::TurnCauses::entries_theorem, crate::proofs::TurnCauses::went_out_theorem, crate::proofs::TurnCauses::recorded_theorem))]
@@ -30,7 +30,7 @@ pub fn turns_have_causes()
 /// What the transport tells in a turn is in the log after it: an event, and of a piece every byte up
 /// to the one at which the connection ends.
 #[tactic(auto, using(crate::proofs::Telling::telling_theorem))]
-pub fn what_is_told_arrives()
+pub fn what_is_reported_arrives()
     ensures arrives { (side : Side) (log : Log) (turn : Turn) → TellingArrives side log turn }
 {}
 
@@ -61,10 +61,10 @@ pub fn streams_are_given_once()
 
 /// What the driver's state says of the peer is in what came from it: a classified stream has its
 /// verdict over all bytes, SETTINGS came where the first control stream has them, and a connection
-/// that the driver ends has a fault in the very stream or datagram that the moment takes, or after
-/// those that were taken, or its session ended; where it ends none, no classified stream has a
+/// that the driver ends has a fault in the very stream that the moment classifies or datagram that it dequeues, or after
+/// those, or its session ended; where it ends none, no classified stream has a
 /// fault, those that come once came once, and there is no fault after them. Of several faults of
-/// one moment the first in the driver's order is told.
+/// one moment the first in the driver's order is reported.
 #[tactic(auto)]
 pub fn the_drivers_state_is_read()
     ensures classified { (side : Side) (log : Log) → IsReachable side log → ClassifiedRightly side log }
@@ -74,7 +74,7 @@ pub fn the_drivers_state_is_read()
     ensures streams { (side : Side) (log : Log) → StreamsFaultless side log }
     ensures once { (side : Side) (log : Log) → OnceEach side log }
     ensures datagram { (side : Side) (e : Entry) (log : Log) → DatagramOrEnds side e log }
-    ensures first { (side : Side) (e : Entry) (log : Log) → FirstIsTold side e log }
+    ensures first { (side : Side) (e : Entry) (log : Log) → FirstIsReported side e log }
 {}
 
 /// What the driver sends at a moment goes out right after it, and the close with which it ends a
@@ -88,5 +88,5 @@ pub fn endings_go_out()
 /// A datagram that a receive gives is the first of the session's that no earlier call received.
 #[tactic(auto)]
 pub fn the_next_datagram_is_given()
-    ensures given { (side : Side) (log : Log) (turn : Turn) → IsReachable side log → is_lawful side log turn ≡ true → DatagramTold side log turn }
+    ensures given { (side : Side) (log : Log) (turn : Turn) → IsReachable side log → is_lawful side log turn ≡ true → DatagramReported side log turn }
 {}

@@ -14,9 +14,9 @@ pairs_skip s zero bytes h = refl
 pairs_skip s (suc k) [] h = absurd (omega arith)
 pairs_skip s (suc k) (b ∷ bytes) h = pairs_skip s k bytes (omega arith)
 
-pub pairs_end : (s : Settings) (at : ℕ) (bytes : List ℕ) → length bytes ≤ at → pairs_from s 0 (drop at bytes) ≡ Ok s
+pub pairs_end : (s : Settings) (offset : ℕ) (bytes : List ℕ) → length bytes ≤ offset → pairs_from s 0 (drop offset bytes) ≡ Ok s
 unfolding pairs_from
-pairs_end s at bytes h = ap (λ bs. pairs_from s 0 bs) (drop_all at bytes h)
+pairs_end s offset bytes h = ap (λ bs. pairs_from s 0 bs) (drop_all offset bytes h)
 
 cut_in_front : (s : Settings) (bytes : List ℕ) → 0 < length bytes → None ≡ pair_at bytes → pairs_from s 0 bytes ≡ Err errors.Frame
 unfolding pairs_from
@@ -39,12 +39,12 @@ pair_in_front s (b ∷ bytes) p h some fits =
     by (Err e) f = refl
 
 -- the same where the code looks at a slice from an offset on
-pub pairs_cut : (s : Settings) (at : ℕ) (bytes : List ℕ) → at < length bytes → None ≡ pair_at (take (length bytes - at) (drop at bytes)) → pairs_from s 0 (drop at bytes) ≡ Err errors.Frame
-pairs_cut s at bytes l h = cut_in_front s (drop at bytes) (omega (arith, length-drop at bytes)) (h ∙ ap pair_at (take_rest bytes at))
+pub pairs_cut : (s : Settings) (offset : ℕ) (bytes : List ℕ) → offset < length bytes → None ≡ pair_at (take (length bytes - offset) (drop offset bytes)) → pairs_from s 0 (drop offset bytes) ≡ Err errors.Frame
+pairs_cut s offset bytes l h = cut_in_front s (drop offset bytes) (omega (arith, length-drop offset bytes)) (h ∙ ap pair_at (take_rest bytes offset))
 
-pub pairs_step : (s : Settings) (at : ℕ) (bytes : List ℕ) (p : ParsedPair) → Some p ≡ pair_at (take (length bytes - at) (drop at bytes)) → 1 ≤ p.len → at + p.len ≤ length bytes →
-    (r : Result Settings ErrorCode) → r ≡ with_pair s p.id p.value → pairs_from s 0 (drop at bytes) ≡ (r >>= (λ t. pairs_from t 0 (drop (at + p.len) bytes)))
-pairs_step s at bytes p h some fits r e =
-    pair_in_front s (drop at bytes) p (h ∙ ap pair_at (take_rest bytes at)) some (omega (arith, length-drop at bytes))
-    ∙ ap (λ q. q >>= (λ t. pairs_from t 0 (drop p.len (drop at bytes)))) (sym e)
-    ∙ ap (λ (bs : List ℕ). r >>= (λ t. pairs_from t 0 bs)) (drop-drop p.len at bytes)
+pub pairs_step : (s : Settings) (offset : ℕ) (bytes : List ℕ) (p : ParsedPair) → Some p ≡ pair_at (take (length bytes - offset) (drop offset bytes)) → 1 ≤ p.len → offset + p.len ≤ length bytes →
+    (r : Result Settings ErrorCode) → r ≡ with_pair s p.id p.value → pairs_from s 0 (drop offset bytes) ≡ (r >>= (λ t. pairs_from t 0 (drop (offset + p.len) bytes)))
+pairs_step s offset bytes p h some fits r e =
+    pair_in_front s (drop offset bytes) p (h ∙ ap pair_at (take_rest bytes offset)) some (omega (arith, length-drop offset bytes))
+    ∙ ap (λ q. q >>= (λ t. pairs_from t 0 (drop p.len (drop offset bytes)))) (sym e)
+    ∙ ap (λ (bs : List ℕ). r >>= (λ t. pairs_from t 0 bs)) (drop-drop p.len offset bytes)

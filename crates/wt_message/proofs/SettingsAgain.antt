@@ -25,10 +25,10 @@ pair_again : (i v : ℕ) (more : List ℕ) → i < 2 ^ 62 → v < 2 ^ 62 → pai
 unfolding pair_at
 pair_again i v more h k =
     let bytes : List ℕ = (varint_bytes i ++ varint_bytes v) ++ more in
-    let at : ℕ = length (varint_bytes i) in
+    let offset : ℕ = length (varint_bytes i) in
     let regrouped : (varint_bytes i ++ varint_bytes v) ++ more ≡ varint_bytes i ++ (varint_bytes v ++ more) = append_assoc (varint_bytes i) (varint_bytes v) more in
-    let first : varint_at bytes ≡ Some (i, at) = ap varint_at regrouped ∙ varint_again i (varint_bytes v ++ more) h in
-    let second : varint_at (drop at bytes) ≡ Some (v, length (varint_bytes v)) = ap (λ bs. varint_at (drop at bs)) regrouped ∙ ap varint_at (drop_at (varint_bytes i) (varint_bytes v ++ more) at refl) ∙ varint_again v more k in
+    let first : varint_at bytes ≡ Some (i, offset) = ap varint_at regrouped ∙ varint_again i (varint_bytes v ++ more) h in
+    let second : varint_at (drop offset bytes) ≡ Some (v, length (varint_bytes v)) = ap (λ bs. varint_at (drop offset bs)) regrouped ∙ ap varint_at (drop_at (varint_bytes i) (varint_bytes v ++ more) offset refl) ∙ varint_again v more k in
     rw first (rw second refl)
     ∙ ap (λ l. Some (record { id = i; value = v; len = l })) (sym (length-append (varint_bytes i) (varint_bytes v)))
 

@@ -42,10 +42,10 @@ impl Model for CloseWebTransportSession {
 pub fn find_close(payload: &[u8]) -> Option<&[u8]>
     ensures { option_copied result ≡ close_value_at payload.now }
 {
-    let (kind, at) = read_varint(payload)?;
-    let bytes = &payload[at..];
-    let (size, at) = read_varint(bytes)?;
-    capsule_value(kind, size, &bytes[at..])
+    let (kind, offset) = read_varint(payload)?;
+    let bytes = &payload[offset..];
+    let (size, offset) = read_varint(bytes)?;
+    capsule_value(kind, size, &bytes[offset..])
 }
 
 fn capsule_value(kind: VarInt, size: VarInt, bytes: &[u8]) -> Option<&[u8]>

@@ -44,11 +44,11 @@ impl<'a> H3Datagram<'a> {
         ensures datagram { result ≡ datagram_of bytes.now }
         ensures error { IfErr result (λ e. e ≡ errors.Datagram) }
     {
-        let Some((quarter, at)) = read_varint(bytes) else {
+        let Some((quarter, offset)) = read_varint(bytes) else {
             return Err(ErrorCode::Datagram);
         };
         match QStreamId::try_from_varint(quarter) {
-            Some(id) => Ok(H3Datagram::new(id, &bytes[at..])),
+            Some(id) => Ok(H3Datagram::new(id, &bytes[offset..])),
             None => Err(ErrorCode::Datagram),
         }
     }

@@ -59,12 +59,12 @@ fn read_pair(bytes: &[u8]) -> Option<IdAndValue>
     ensures within { IfSome result (λ p. p.len ≤ length bytes.now) }
     ensures some { IfSome result (λ p. 1 ≤ p.len) }
 {
-    let (id, at) = read_varint(bytes)?;
-    let (value, len) = read_varint(&bytes[at..])?;
+    let (id, offset) = read_varint(bytes)?;
+    let (value, len) = read_varint(&bytes[offset..])?;
     Some(IdAndValue {
         id,
         value,
-        len: at + len,
+        len: offset + len,
     })
 }
 
@@ -215,16 +215,16 @@ impl Settings {
         ensures error { IfErr result (λ e. (e ≡ errors.Frame) ⊎ (e ≡ errors.Settings)) }
     {
         let mut settings = Settings::none();
-        let mut at = 0;
-        while at < payload.len() {
-            let Some(pair) = read_pair(&payload[at..]) else {
+        let mut offset = 0;
+        while offset < payload.len() {
+            let Some(pair) = read_pair(&payload[offset..]) else {
                 return Err(ErrorCode::Frame);
             };
             match settings.with_pair(pair.id, pair.value) {
-                Ok(next) => settings = next,
+                Ok(added) => settings = added,
                 Err(error) => return Err(error),
             }
-            at += pair.len;
+            offset += pair.len;
         }
         Ok(settings)
     }

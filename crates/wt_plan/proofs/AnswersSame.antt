@@ -42,12 +42,12 @@ error-same t log e None = ap loss_or_local e
 error-same t log e (Some (ByFault code)) = refl
 error-same t log e (Some (BySession code reason by_capsule)) = refl
 
-pub answers_same : (side : Side) (log : Log) (t : TransportState) (position : ℕ → ReadPosition) (untaken : List Action) (first : Bool) (end : ℕ) (walk : ResponseWalk)
-    → Refines side t log position untaken → first ≡ is_first log → KeepsRequestEnd side log end
+pub answers_same : (side : Side) (log : Log) (t : TransportState) (position : ℕ → ReadPosition) (uncollected : List Action) (first : Bool) (end : ℕ) (walk : ResponseWalk)
+    → Refines side t log position uncollected → first ≡ is_first log → KeepsRequestEnd side log end
     → ((reserved : Option (List ℕ)) (head : List ℕ) → handshake_state (calls_of log) ≡ Connecting reserved head → walk ≡ (driver_facts side log).response)
     → AnswersLog side log (answers_now t (driver.state_of side log) first end walk)
 unfolding driver.state_of
-answers_same side log t position untaken first end walk r f k w = record {
+answers_same side log t position uncollected first end walk r f k w = record {
   is_first = f;
   driver_error = error-same t log (ap (λ (u : TransportState). u.loss) r.state) (stream_table side log).progress.ending;
   settings_came = refl;
@@ -74,9 +74,9 @@ answering-has (Responding accepts head) e = refl
 answering-has _ e = absurd (cc)
 
 -- the end of the request that a call delivers is kept from then on, as long as no other is delivered
-pub delivered_end : (side : Side) (more log : Log) (k : ℕ) (headers : Fields) (at : ℕ) → verdict_of k (stream_table side log).classified ≡ Some (verdicts.Request headers at)
-    → requested_stream (calls_of (more ++ log)) ≡ k → KeepsRequestEnd side (more ++ log) at
-delivered_end side more log k headers at v q a = sym (ap (λ j. request_end (verdict_of j (stream_table side (more ++ log)).classified)) q ∙ request_ends_there side more log k (verdicts.Request headers at) v)
+pub delivered_end : (side : Side) (more log : Log) (k : ℕ) (headers : Fields) (offset : ℕ) → verdict_of k (stream_table side log).classified ≡ Some (verdicts.Request headers offset)
+    → requested_stream (calls_of (more ++ log)) ≡ k → KeepsRequestEnd side (more ++ log) offset
+delivered_end side more log k headers offset v q a = sym (ap (λ j. request_end (verdict_of j (stream_table side (more ++ log)).classified)) q ∙ request_ends_there side more log k (verdicts.Request headers offset) v)
 
 pub request_end_kept : (side : Side) (more log : Log) (end : ℕ) → IsReachable side log → KeepsRequestEnd side log end → is_answering (handshake_state (calls_of log)) ≡ true
     → requested_stream (calls_of (more ++ log)) ≡ requested_stream (calls_of log) → KeepsRequestEnd side (more ++ log) end

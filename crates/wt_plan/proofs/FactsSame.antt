@@ -60,9 +60,9 @@ some-bi (suc n) = rw (ne_eqb (suc n) 0 (λ e. omega arith), lt-ltb 0 (suc n) (om
 zero-plus : (n : ℕ) → 0 + n ≡ n
 zero-plus n = omega arith
 
-module _ (side : Side) (t : TransportState) (log : Log) (position : ℕ → ReadPosition) (untaken : List Action) (r : Refines side t log position untaken) where
+module _ (side : Side) (t : TransportState) (log : Log) (position : ℕ → ReadPosition) (uncollected : List Action) (r : Refines side t log position uncollected) where
   abbrev kept : TransportState
-  kept = state_of side log position r.pieces untaken
+  kept = state_of side log position r.pieces uncollected
 
   -- ---- the connection
 
@@ -81,10 +81,10 @@ module _ (side : Side) (t : TransportState) (log : Log) (position : ℕ → Read
   -- ---- how many streams there are
 
   count-kept : (kind : ℕ) → count_now kept kind ≡ stream_count side log kind
-  count-kept zero = count-is side log position r.pieces untaken 0 (omega arith)
-  count-kept (suc zero) = count-is side log position r.pieces untaken 1 (omega arith)
-  count-kept (suc (suc zero)) = count-is side log position r.pieces untaken 2 (omega arith)
-  count-kept (suc (suc (suc zero))) = count-is side log position r.pieces untaken 3 (omega arith)
+  count-kept zero = count-is side log position r.pieces uncollected 0 (omega arith)
+  count-kept (suc zero) = count-is side log position r.pieces uncollected 1 (omega arith)
+  count-kept (suc (suc zero)) = count-is side log position r.pieces uncollected 2 (omega arith)
+  count-kept (suc (suc (suc zero))) = count-is side log position r.pieces uncollected 3 (omega arith)
   count-kept (suc (suc (suc (suc n)))) = rw (no-peers side n (all_events_of log), no-locals n (actions_of log)) refl
 
   count-at : (kind : ℕ) → count_now t kind ≡ stream_count side log kind
@@ -106,16 +106,16 @@ module _ (side : Side) (t : TransportState) (log : Log) (position : ℕ → Read
   -- what is kept of a stream, or of one that wasn't opened
   stream-if : {X : Type 0} (f : Stream → X) (k : ℕ) (b : Bool) → exists side log k ≡ b
       → (if has_stream kept.streams k then f (stream_at kept.streams k) else f (fresh (initial_credit (all_events_of log)))) ≡ f (stream_of log position r.pieces k)
-  stream-if f k true x = ap (λ b. if b then f (stream_at kept.streams k) else f (fresh (initial_credit (all_events_of log)))) (has-is side log position r.pieces untaken k ∙ x)
-      ∙ ap f (at-is side log position r.pieces untaken k x)
-  stream-if f k false x = ap (λ b. if b then f (stream_at kept.streams k) else f (fresh (initial_credit (all_events_of log)))) (has-is side log position r.pieces untaken k ∙ x)
+  stream-if f k true x = ap (λ b. if b then f (stream_at kept.streams k) else f (fresh (initial_credit (all_events_of log)))) (has-is side log position r.pieces uncollected k ∙ x)
+      ∙ ap f (at-is side log position r.pieces uncollected k x)
+  stream-if f k false x = ap (λ b. if b then f (stream_at kept.streams k) else f (fresh (initial_credit (all_events_of log)))) (has-is side log position r.pieces uncollected k ∙ x)
       ∙ sym (ap f ((r.facts.streams k).unopened x))
 
   sending-at : (k : ℕ) → sending_now t k ≡ sending_half log k
   sending-at k = ap (λ u. sending_now u k) r.state ∙ stream-if sending_half_of k (exists side log k) refl
 
   sent-at : (k : ℕ) → sent_now t k ≡ length (sent_on (actions_of log) k)
-  sent-at k = refined_sent_count side t log position untaken r k
+  sent-at k = refined_sent_count side t log position uncollected r k
 
   end-at : (k : ℕ) → end_now t k ≡ end_of (events_of log) k
   end-at k = ap (λ u. end_now u k) r.state ∙ stream-if (λ s. s.signals.end) k (exists side log k) refl

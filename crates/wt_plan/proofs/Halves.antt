@@ -33,29 +33,29 @@ left_there t k c = rw (there t k c) refl
 -- ---- of any stream, opened or not
 
 pub stop_any : (t : TransportState) (k : ℕ) → stop_now t k ≡ (sending_now t k).stop
-stop_any t k = at (has_stream t.streams k) refl
+stop_any t k = by (has_stream t.streams k) refl
   where
-    at : (b : Bool) → has_stream t.streams k ≡ b → stop_now t k ≡ (sending_now t k).stop
-    at true e = rw e refl
-    at false e = rw e refl
+    by : (b : Bool) → has_stream t.streams k ≡ b → stop_now t k ≡ (sending_now t k).stop
+    by true e = rw e refl
+    by false e = rw e refl
 
 pub left_any : (t : TransportState) (k : ℕ) → credit_now t k - sent_now t k ≡ (sending_now t k).left
-left_any t k = at (has_stream t.streams k) refl
+left_any t k = by (has_stream t.streams k) refl
   where
-    at : (b : Bool) → has_stream t.streams k ≡ b → credit_now t k - sent_now t k ≡ (sending_now t k).left
-    at true e = rw e refl
-    at false e = rw e refl
+    by : (b : Bool) → has_stream t.streams k ≡ b → credit_now t k - sent_now t k ≡ (sending_now t k).left
+    by true e = rw e refl
+    by false e = rw e refl
 
 pub finished_any : (t : TransportState) (k : ℕ) → is_finished_now t k ≡ (sending_now t k).finished
-finished_any t k = at (has_stream t.streams k) refl
+finished_any t k = by (has_stream t.streams k) refl
   where
-    at : (b : Bool) → has_stream t.streams k ≡ b → is_finished_now t k ≡ (sending_now t k).finished
-    at true e = rw e refl
-    at false e = rw e refl
+    by : (b : Bool) → has_stream t.streams k ≡ b → is_finished_now t k ≡ (sending_now t k).finished
+    by true e = rw e refl
+    by false e = rw e refl
 
 pub acknowledged_any : (t : TransportState) (k : ℕ) → is_acknowledged_now t k ≡ (sending_now t k).acknowledged
-acknowledged_any t k = at (has_stream t.streams k) refl
+acknowledged_any t k = by (has_stream t.streams k) refl
   where
-    at : (b : Bool) → has_stream t.streams k ≡ b → is_acknowledged_now t k ≡ (sending_now t k).acknowledged
-    at true e = rw e refl
-    at false e = rw e refl
+    by : (b : Bool) → has_stream t.streams k ≡ b → is_acknowledged_now t k ≡ (sending_now t k).acknowledged
+    by true e = rw e refl
+    by false e = rw e refl

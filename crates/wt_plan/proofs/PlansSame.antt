@@ -79,7 +79,7 @@ module _ (f : CallFacts) (end : ℕ) (walk : ResponseWalk) (bytes : ℕ → List
   read-walk id own (responses.Fault code) = refl
   read-walk id own responses.Ended = refl
   read-walk id own responses.Incomplete = refl
-  read-walk id own (responses.Response fields at) = refl
+  read-walk id own (responses.Response fields offset) = refl
 
   module _ (same : walk ≡ f.response) where
     response-read : (id : ℕ) (own : List Action) → response_read other id own walk ≡ response_read f id own f.response
@@ -147,17 +147,17 @@ module _ (f : CallFacts) (s : SessionState) (end : ℕ) (walk : ResponseWalk) (b
 module _ (side : Side) (log : Log) (t : TransportState) (d : DriverAnswers) (x : TellsFacts side log t d) where
   -- the application's unread bytes
   pub unread_had : (k : ℕ) → has_receiving_half side log k ≡ true → unread_now t k ≡ unread_body side log k
-  unread_had k h = refined_unread side t log x.position x.untaken x.refines k ∙ ap (λ p. from_position p (contents log k)) (x.reads k h)
+  unread_had k h = refined_unread side t log x.position x.uncollected x.refines k ∙ ap (λ p. from_position p (contents log k)) (x.reads k h)
 
   -- a stream whose half the application has is there
   pub sending_there : (k : ℕ) → has_sending_half side log k ≡ true → can_send_now t k ≡ true
-  sending_there k h = ap (λ u. can_send_now u k) x.refines.state ∙ send-is side log x.position x.refines.pieces x.untaken k ∙ x.lawful.sending k h
+  sending_there k h = ap (λ u. can_send_now u k) x.refines.state ∙ send-is side log x.position x.refines.pieces x.uncollected k ∙ x.lawful.sending k h
 
   pub receiving_there : (k : ℕ) → has_receiving_half side log k ≡ true → can_receive_now t k ≡ true
-  receiving_there k h = ap (λ u. can_receive_now u k) x.refines.state ∙ receive-is side log x.position x.refines.pieces x.untaken k ∙ x.lawful.receiving k h
+  receiving_there k h = ap (λ u. can_receive_now u k) x.refines.state ∙ receive-is side log x.position x.refines.pieces x.uncollected k ∙ x.lawful.receiving k h
 
   facts-are : facts_now t d ≡ with_other (facts_of side log) d.request_end d.response (unread_now t)
-  facts-are = facts-same side t log x.position x.untaken x.refines d x.answers x.lawful
+  facts-are = facts-same side t log x.position x.uncollected x.refines d x.answers x.lawful
 
   -- the plan by what is kept is the one by the log
   pub plan_same : (s : TableValue) → KeepsCalls s (calls_of log) → (call : Call) → may_call side log call ≡ true → plan_of (facts_now t d) (session_of_table s) call ≡ plan_of (facts_of side log) (session_state log) call

@@ -13,9 +13,9 @@ none-given true ends.Running n count e = absurd (cc)
 none-given false ends.Running n count e = absurd (cc)
 
 pub read_within : (open_ : Bool) (half : ReceivingHalf) (size count : ℕ) → read_answer open_ half size ≡ Ready (Ok (Some count)) → count ≤ half.unread
-read_within open_ half size count e = at (size == 0) (half.unread == 0) e
+read_within open_ half size count e = by (size == 0) (half.unread == 0) e
   where
-    at : (a b : Bool) → (if a then Ready (Ok (Some 0)) else (if b then nothing_unread open_ half.end else Ready (Ok (Some (read_count half size))))) ≡ Ready (Ok (Some count)) → count ≤ half.unread
-    at true b f = let z : count ≡ 0 = cc in omega arith
-    at false true f = none-given open_ half.end half.unread count f
-    at false false f = let z : count ≡ min size half.unread = cc in omega arith
+    by : (a b : Bool) → (if a then Ready (Ok (Some 0)) else (if b then nothing_unread open_ half.end else Ready (Ok (Some (read_count half size))))) ≡ Ready (Ok (Some count)) → count ≤ half.unread
+    by true b f = let z : count ≡ 0 = cc in omega arith
+    by false true f = none-given open_ half.end half.unread count f
+    by false false f = let z : count ≡ min size half.unread = cc in omega arith

@@ -30,12 +30,12 @@ none-there id o e s = cc
 
 pub when-opened : (t : TransportState) (d : DriverAnswers) (head : List ℕ) (id : ℕ) → nat_lt 0 (count_now t (local_bi t.side)) ≡ false → t.is_open ≡ true → opened_id_now t (local_bi t.side) ≡ Some id
     → request_left (facts_now t d) (local_bi t.side) (actions.Opened id ∷ []) (left_of (facts_now t d) (local_bi t.side) head) ≡ request_plan (facts_now t d) (local_bi t.side) head
-when-opened t d head id e o s = at (may_open_now t (local_bi t.side)) refl
+when-opened t d head id e o s = by (may_open_now t (local_bi t.side)) refl
   where
-    at : (m : Bool) → may_open_now t (local_bi t.side) ≡ m
+    by : (m : Bool) → may_open_now t (local_bi t.side) ≡ m
         → request_left (facts_now t d) (local_bi t.side) (actions.Opened id ∷ []) (left_of (facts_now t d) (local_bi t.side) head) ≡ request_plan (facts_now t d) (local_bi t.side) head
-    at true m =
+    by true m =
         let p = and_parts t.is_open (nat_lt (count_now t (local_bi t.side)) (streams_allowed_now t (local_bi t.side))) m in
         let q : next_id_now t (local_bi t.side) ≡ id = same-id (next_id_now t (local_bi t.side)) id (rw m at s) in
         rw (e, o, p.1, q) refl
-    at false m = absurd (none-there id (opened_id_now t (local_bi t.side)) (rw m refl) s)
+    by false m = absurd (none-there id (opened_id_now t (local_bi t.side)) (rw m refl) s)

@@ -9,7 +9,7 @@ use Rattle.wt_spec.specs.StreamTable.{ByFault, BySession, Ending}
 use Rattle.wt_error.specs.declared.connection_error.ConnectionError.{ConnectionError}
 use Rattle.wt_error.specs.declared.connection_error.ConnectionError.TheVariants as errors
 
--- how the driver's ending is told, and without one the transport's
+-- how the driver's ending is reported, and without one the transport's
 abbrev pub error_now : TransportState → Option Ending → ConnectionError
 error_now t None = loss_or_local t.loss
 error_now t (Some (ByFault code)) = errors.LocalH3Error code

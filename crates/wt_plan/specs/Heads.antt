@@ -17,5 +17,5 @@ progress_as heads.AllOut = plans.AllOut
 
 -- a response with success establishes the session, unless the connection ended
 abbrev pub established_or_failed : CallFacts → List Action → ℕ → ℕ → plan.Plan
-established_or_failed f own id at =
-    if f.is_open then plan.Establish own id at else plans.failed_connect own (connects.ConnectionError f.driver_error)
+established_or_failed f own id offset =
+    if f.is_open then plan.Establish own id offset else plans.failed_connect own (connects.ConnectionError f.driver_error)

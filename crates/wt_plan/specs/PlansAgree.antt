@@ -46,7 +46,7 @@ pub record AnswersLog (side : Side) (log : Log) (d : DriverAnswers) : Type 0 whe
       → d.response ≡ (driver_facts side log).response
   pub session : d.session ≡ (driver_facts side log).session
 
--- what holds of every log that lawful turns lead to: datagrams are told of from the connection on, and a stream whose half
+-- what holds of every log that lawful turns lead to: a limit of datagrams is reported from the connection on, and a stream whose half
 -- the application has was opened
 pub record LogTells (side : Side) (log : Log) : Type 0 where
   pub connected : is_some (datagram_fact (events_of log)) ≡ is_connected (events_of log)
@@ -62,8 +62,8 @@ ReadsAsCalled side log position =
 -- a transport and the driver's answers tell what a log does
 pub record TellsFacts (side : Side) (log : Log) (t : TransportState) (d : DriverAnswers) : Type 0 where
   pub position : ℕ → ReadPosition
-  pub untaken : List Action
-  pub refines : Refines side t log position untaken
+  pub uncollected : List Action
+  pub refines : Refines side t log position uncollected
   pub reads : ReadsAsCalled side log position
   pub answers : AnswersLog side log d
   pub lawful : LogTells side log

@@ -32,17 +32,17 @@ use wt_wire::varint::{VarInt, write_varint};
 fn opening(
     alloc: Global,
     t: &Transport,
-    next: Option<StreamId>,
+    opened: Option<StreamId>,
     session: SessionId,
 ) -> Result<Plan, OutOfMemory>
-    ensures { (d : DriverAnswers) (kind : ℕ) → next ≡ opened_id_now t.now kind
+    ensures { (d : DriverAnswers) (kind : ℕ) → opened ≡ opened_id_now t.now kind
         → IfOk result (λ p. defined_plan p ≡ opening_plan (facts_now t.now d) kind session) }
 {
     if !t.is_open() {
         let error = transport_error(alloc, t)?;
         return Ok(Plan::only_reply(alloc, Reply::Failed(error)));
     }
-    match next {
+    match opened {
         Some(id) => Ok(Plan::Step {
             own: one(alloc, Action::Opened { id })?,
             call: Record::OpeningStarted(id, session),

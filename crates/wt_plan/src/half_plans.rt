@@ -120,7 +120,7 @@ pub fn write_all(
 
 // ---- the end of a sending half
 
-/// How the half ended, told.
+/// How the half ended, as it is reported.
 fn stopped_by(answer: Poll<StreamWriteError>) -> Reply
     ensures { result ≡ stopped_by answer }
 {

@@ -32,7 +32,7 @@ ghost use Rattle.wt_turn.specs.declared.call.Call.{Call};
 ghost use Rattle.wt_wire.specs.HeaderList.{Fields};
 ghost use Rattle.wt_wire.specs.declared.side.Side.{Side};
 
-/// Datagrams are told of from the connection on, and a stream whose half the application has was opened.
+/// A limit of datagrams is reported from the connection on, and a stream whose half the application has was opened.
 #[tactic(auto, using(crate::proofs::LawfulLogs::log_tells))]
 pub fn lawful_logs_tell()
     ensures { (side : Side) (log : Log) → IsReachable side log → LogTells side log }
@@ -40,16 +40,16 @@ pub fn lawful_logs_tell()
 
 /// An inbox whose stages say how far the calls read tells, with the driver's answers, what a log of lawful turns does.
 pub fn inboxes_tell()
-    ensures { (side : Side) (log : Log) (x : InboxState) (stage : ℕ → Stage) (untaken : List Action) (d : DriverAnswers)
-        → inboxes.Refines side x log stage untaken → StagesReadAsCalled side log stage → AnswersLog side log d → IsReachable side log
+    ensures { (side : Side) (log : Log) (x : InboxState) (stage : ℕ → Stage) (uncollected : List Action) (d : DriverAnswers)
+        → inboxes.Refines side x log stage uncollected → StagesReadAsCalled side log stage → AnswersLog side log d → IsReachable side log
         → TellsFacts side log x.transport d }
 {}
 
 /// Where a request ends is kept from its delivery on, as long as no other is delivered.
 pub fn request_ends_are_kept()
-    ensures delivered { (side : Side) (more : Log) (log : Log) (k : ℕ) (headers : Fields) (at : ℕ)
-        → verdict_of k (stream_table side log).classified ≡ Some (verdicts.Request headers at)
-        → requested_stream (calls_of (more ++ log)) ≡ k → KeepsRequestEnd side (more ++ log) at }
+    ensures delivered { (side : Side) (more : Log) (log : Log) (k : ℕ) (headers : Fields) (offset : ℕ)
+        → verdict_of k (stream_table side log).classified ≡ Some (verdicts.Request headers offset)
+        → requested_stream (calls_of (more ++ log)) ≡ k → KeepsRequestEnd side (more ++ log) offset }
     ensures later { (side : Side) (more : Log) (log : Log) (end : ℕ) → IsReachable side log → KeepsRequestEnd side log end
         → is_answering (handshake_state (calls_of log)) ≡ true → requested_stream (calls_of (more ++ log)) ≡ requested_stream (calls_of log)
         → KeepsRequestEnd side (more ++ log) end }
@@ -59,7 +59,7 @@ pub fn request_ends_are_kept()
 pub fn kept_state_answers()
     ensures own { (side : Side) (log : Log) → AnswersLog side log (driver_facts side log) }
     ensures answers { (side : Side) (log : Log) (t : TransportState) (position : ℕ
-        → ReadPosition) (untaken : List Action) (first : Bool) (end : ℕ) (walk : ResponseWalk) → Refines side t log position untaken
+        → ReadPosition) (uncollected : List Action) (first : Bool) (end : ℕ) (walk : ResponseWalk) → Refines side t log position uncollected
         → first ≡ is_first log → KeepsRequestEnd side log end → ((reserved : Option (List ℕ)) (head : List ℕ)
         → handshake_state (calls_of log) ≡ Connecting reserved head → walk ≡ (driver_facts side log).response)
         → AnswersLog side log (answers_now t (state_of side log) first end walk) }

@@ -24,7 +24,7 @@ abbrev pub read_text : Option (List ℕ) → List ℕ
 read_text None = codes "end"
 read_text (Some bytes) = codes "read " ++ hex_text bytes
 
--- what the caller is told
+-- what the caller is answered
 abbrev pub reply_text : Reply → List ℕ
 reply_text replies.Done = codes "done"
 reply_text replies.Pending = codes "pending"

@@ -16,24 +16,24 @@ drop-take-none n xs = drop_of_length-le (take n xs) (omega (arith, length-take n
 advance-same : {S O : Type 0} (decide : S → List ℕ → Step S O) (old new other : WalkProgress S O) (piece : List ℕ) (n m : ℕ) → new ≡ other → n ≡ m → Advances decide old new piece n → Advances decide old other piece m
 advance-same decide old new other piece n m e f a = record {
   within = omega (arith, a.within);
-  taken = sym e ∙ (a.taken ∙ ap (λ (k : ℕ). progress_after decide old (take k piece)) f);
+  fed = sym e ∙ (a.fed ∙ ap (λ (k : ℕ). progress_after decide old (take k piece)) f);
   running = λ k lt. a.running k (omega arith);
 }
 
 from-same : {S O : Type 0} (decide : S → List ℕ → Step S O) (old other new : WalkProgress S O) (piece : List ℕ) (n : ℕ) → old ≡ other → Advances decide old new piece n → Advances decide other new piece n
 from-same {S = S} {O = O} decide old other new piece n e a = record {
   within = a.within;
-  taken = a.taken ∙ ap (λ (p : WalkProgress S O). progress_after decide p (take n piece)) e;
+  fed = a.fed ∙ ap (λ (p : WalkProgress S O). progress_after decide p (take n piece)) e;
   running = λ k lt. ap (λ (p : WalkProgress S O). (reached_in (progress_after decide p (take k piece))).stop) (sym e) ∙ a.running k lt;
 }
 
 module _ {S O : Type 0} (decide : S → List ℕ → Step S O) (steady : IsSteady decide) where
   pub advance-none : (p : WalkProgress S O) (piece : List ℕ) → IsProper decide p → Advances decide p p piece 0
-  advance-none p piece proper = record { within = omega arith; taken = sym (fed-nothing decide steady p proper); running = λ k lt. absurd (omega arith) }
+  advance-none p piece proper = record { within = omega arith; fed = sym (fed-nothing decide steady p proper); running = λ k lt. absurd (omega arith) }
 
   further : (old mid : WalkProgress S O) (piece : List ℕ) (m : ℕ) → Advances decide old mid piece m → (k : ℕ) → progress_after decide mid (take k (drop m piece)) ≡ progress_after decide old (take (m + k) piece)
   further old mid piece m first k =
-      ap (λ (p : WalkProgress S O). progress_after decide p (take k (drop m piece))) first.taken
+      ap (λ (p : WalkProgress S O). progress_after decide p (take k (drop m piece))) first.fed
       ∙ (fed-fed decide steady old (take m piece) (take k (drop m piece)) ∙ ap (λ (xs : List ℕ). progress_after decide old xs) (sym (take-add m k piece)))
 
   still-open : (old mid new : WalkProgress S O) (piece : List ℕ) (m n : ℕ) → Advances decide old mid piece m → Advances decide mid new (drop m piece) n →
@@ -50,7 +50,7 @@ module _ {S O : Type 0} (decide : S → List ℕ → Step S O) (steady : IsStead
   pub advance-then : (old mid new : WalkProgress S O) (piece : List ℕ) (m n : ℕ) → Advances decide old mid piece m → Advances decide mid new (drop m piece) n → Advances decide old new piece (m + n)
   advance-then old mid new piece m n first then = record {
     within = omega (arith, first.within, then.within, length-drop m piece);
-    taken = then.taken ∙ further old mid piece m first n;
+    fed = then.fed ∙ further old mid piece m first n;
     running = still-open old mid new piece m n first then;
   }
 
@@ -61,7 +61,7 @@ module _ {S O : Type 0} (decide : S → List ℕ → Step S O) (steady : IsStead
       let len : length (take n piece) ≡ n = omega (arith, length-take n piece) in
       record {
         within = within;
-        taken = sym (progress-inside decide (take n piece) s stop skip (omega arith) ∙ ap (λ (k : ℕ). record { state = s; stop = stop; skip = skip - k; kept = [] }) len);
+        fed = sym (progress-inside decide (take n piece) s stop skip (omega arith) ∙ ap (λ (k : ℕ). record { state = s; stop = stop; skip = skip - k; kept = [] }) len);
         running = λ k lt. inside-open decide steady (take k piece) s stop skip (omega (arith, length-take k piece));
       }
 
@@ -78,7 +78,7 @@ module _ {S O : Type 0} (decide : S → List ℕ → Step S O) (steady : IsStead
       Advances decide (record { state = s; stop = None; skip = 0; kept = kept }) (record { state = s; stop = None; skip = 0; kept = kept ++ take n piece }) piece n
   advance-keep s kept piece n e within = record {
     within = within;
-    taken = sym (progress-cut decide s (kept ++ take n piece) e);
+    fed = sym (progress-cut decide s (kept ++ take n piece) e);
     running = λ k lt. cut-open s (kept ++ take k piece)
         (let split : take n piece ≡ take k piece ++ take (n - k) (drop k piece) = let same : n ≡ k + (n - k) = omega arith in ap (λ (j : ℕ). take j piece) same ∙ take-add k (n - k) piece in
         cut-front s (kept ++ take k piece) (take (n - k) (drop k piece)) (ap (λ (xs : List ℕ). decide s xs) (append_assoc kept (take k piece) (take (n - k) (drop k piece)) ∙ ap (λ (xs : List ℕ). kept ++ xs) (sym split)) ∙ e) (decide s (kept ++ take k piece)) refl);
@@ -102,7 +102,7 @@ module _ {S O : Type 0} (decide : S → List ℕ → Step S O) (steady : IsStead
       let len : length (take n xs) ≡ n = omega (arith, length-take n xs) in
       record {
         within = within;
-        taken = sym (passes s (take n xs) d m (front-decides s xs d m n e f within ends) f (omega arith) ∙ ap (λ (k : ℕ). progress_past s d k []) len);
+        fed = sym (passes s (take n xs) d m (front-decides s xs d m n e f within ends) f (omega arith) ∙ ap (λ (k : ℕ). progress_past s d k []) len);
         running = λ k lt. item-open decide steady s xs m (ap (λ (x : Step S O). size_of_step x) e ∙ f) k (omega arith);
       }
 
@@ -131,13 +131,13 @@ module _ {S O : Type 0} (decide : S → List ℕ → Step S O) (steady : IsStead
     advance-kept piece n Cut waits e within le = advance-keep s kept piece n e within
     advance-kept piece n (Goes t m) waits e within le = record {
       within = within;
-      taken = sym (passes s (kept ++ take n piece) (Goes t m) m e refl (item-long (take n piece) m waits (ap (λ (x : Step S O). size_of_step x) e) le));
+      fed = sym (passes s (kept ++ take n piece) (Goes t m) m e refl (item-long (take n piece) m waits (ap (λ (x : Step S O). size_of_step x) e) le));
       running = λ k lt. cut-open s (kept ++ take k piece) (still (take k piece)
           (omega (arith, length-append kept (take k piece), length-append kept (take n piece), length-take k piece, length-take n piece)));
     }
     advance-kept piece n (Stops o m) waits e within le = record {
       within = within;
-      taken = sym (passes s (kept ++ take n piece) (Stops o m) m e refl (item-long (take n piece) m waits (ap (λ (x : Step S O). size_of_step x) e) le));
+      fed = sym (passes s (kept ++ take n piece) (Stops o m) m e refl (item-long (take n piece) m waits (ap (λ (x : Step S O). size_of_step x) e) le));
       running = λ k lt. cut-open s (kept ++ take k piece) (still (take k piece)
           (omega (arith, length-append kept (take k piece), length-append kept (take n piece), length-take k piece, length-take n piece)));
     }
@@ -191,54 +191,54 @@ rest-kept rest size_of_step xs kept items le none e =
     ap (λ (n : ℕ). drop rest (take n xs)) same ∙ (drop-take rest (size_of_step - rest) xs ∙ sym (e ∙ ap (λ (ys : List ℕ). ys ++ take (size_of_step - rest) (drop rest xs)) none))
 
 -- what code went over, seen from where the walk stood
-pub advances-bare : {S O : Type 0} (decide : S → List ℕ → Step S O) (old other new next : WalkProgress S O) (piece : List ℕ) (n : ℕ) → old ≡ other → next ≡ new → Advances decide other next piece n → Advances decide old new piece n
-advances-bare decide old other new next piece n e f a = from-same decide other old new piece n (sym e) (advance-same decide other next new piece n n f refl a)
+pub advances-bare : {S O : Type 0} (decide : S → List ℕ → Step S O) (old other new following : WalkProgress S O) (piece : List ℕ) (n : ℕ) → old ≡ other → following ≡ new → Advances decide other following piece n → Advances decide old new piece n
+advances-bare decide old other new following piece n e f a = from-same decide other old new piece n (sym e) (advance-same decide other following new piece n n f refl a)
 
 -- a loop over bytes stands in front of an item, in a state
-module _ {S O : Type 0} (decide : S → List ℕ → Step S O) (steady : IsSteady decide) (start s : S) (bytes : List ℕ) (at : ℕ)
-    (so_far : Advances decide (at_item start) (at_item s) bytes at) where
-  left : length (drop at bytes) ≡ length bytes - at
-  left = length-drop at bytes
+module _ {S O : Type 0} (decide : S → List ℕ → Step S O) (steady : IsSteady decide) (start s : S) (bytes : List ℕ) (offset : ℕ)
+    (so_far : Advances decide (at_item start) (at_item s) bytes offset) where
+  left : length (drop offset bytes) ≡ length bytes - offset
+  left = length-drop offset bytes
 
-  pub over-cut : decide s (take (length bytes - at) (drop at bytes)) ≡ Cut →
-      Advances decide (at_item start) (record { state = s; stop = None; skip = 0; kept = drop at (take (length bytes) bytes) }) bytes (length bytes)
+  pub over-cut : decide s (take (length bytes - offset) (drop offset bytes)) ≡ Cut →
+      Advances decide (at_item start) (record { state = s; stop = None; skip = 0; kept = drop offset (take (length bytes) bytes) }) bytes (length bytes)
   over-cut e =
-      let rest : take (length bytes - at) (drop at bytes) ≡ drop at (take (length bytes) bytes) = take_rest bytes at ∙ ap (λ (xs : List ℕ). drop at xs) (sym (take_all (length bytes) bytes (omega arith))) in
-      let more = advance-then decide steady (at_item start) (at_item s) (record { state = s; stop = None; skip = 0; kept = [] ++ take (length bytes - at) (drop at bytes) }) bytes at (length bytes - at) so_far
-      (advance-keep decide steady s [] (drop at bytes) (length bytes - at) e (omega (arith, left))) in
+      let rest : take (length bytes - offset) (drop offset bytes) ≡ drop offset (take (length bytes) bytes) = take_rest bytes offset ∙ ap (λ (xs : List ℕ). drop offset xs) (sym (take_all (length bytes) bytes (omega arith))) in
+      let more = advance-then decide steady (at_item start) (at_item s) (record { state = s; stop = None; skip = 0; kept = [] ++ take (length bytes - offset) (drop offset bytes) }) bytes offset (length bytes - offset) so_far
+      (advance-keep decide steady s [] (drop offset bytes) (length bytes - offset) e (omega (arith, left))) in
       advance-same decide (at_item start) _ _ bytes _ _ (ap (λ (xs : List ℕ). record { state = s; stop = None; skip = 0; kept = xs }) rest) (omega (arith, so_far.within)) more
 
-  some-left : (d : Step S O) (m : ℕ) → decide s (take (length bytes - at) (drop at bytes)) ≡ d → size_of_step d ≡ Some m → decide s (drop at bytes) ≡ d
-  some-left d m e f = ap (λ (xs : List ℕ). decide s xs) (sym (take_rest bytes at)) ∙ e
+  some-left : (d : Step S O) (m : ℕ) → decide s (take (length bytes - offset) (drop offset bytes)) ≡ d → size_of_step d ≡ Some m → decide s (drop offset bytes) ≡ d
+  some-left d m e f = ap (λ (xs : List ℕ). decide s xs) (sym (take_rest bytes offset)) ∙ e
 
-  over-item : (d : Step S O) (m n : ℕ) → decide s (take (length bytes - at) (drop at bytes)) ≡ d → size_of_step d ≡ Some m → n ≤ m → n ≤ length bytes - at → (m ≤ n) ⊎ (length bytes - at ≤ n) →
-      Advances decide (at_item start) (progress_past s d n []) bytes (at + n)
+  over-item : (d : Step S O) (m n : ℕ) → decide s (take (length bytes - offset) (drop offset bytes)) ≡ d → size_of_step d ≡ Some m → n ≤ m → n ≤ length bytes - offset → (m ≤ n) ⊎ (length bytes - offset ≤ n) →
+      Advances decide (at_item start) (progress_past s d n []) bytes (offset + n)
   over-item d m n e f le within ends =
-      advance-then decide steady (at_item start) (at_item s) (progress_past s d n []) bytes at n so_far
-      (advance-item decide steady s (drop at bytes) d m n (some-left d m e f) f (omega (arith, left)) le (rw left ends))
+      advance-then decide steady (at_item start) (at_item s) (progress_past s d n []) bytes offset n so_far
+      (advance-item decide steady s (drop offset bytes) d m n (some-left d m e f) f (omega (arith, left)) le (rw left ends))
 
-  pub over-goes : (t : S) (m : ℕ) → decide s (take (length bytes - at) (drop at bytes)) ≡ Goes t m → m ≤ length bytes - at →
-      Advances decide (at_item start) (at_item t) bytes (at + m)
+  pub over-goes : (t : S) (m : ℕ) → decide s (take (length bytes - offset) (drop offset bytes)) ≡ Goes t m → m ≤ length bytes - offset →
+      Advances decide (at_item start) (at_item t) bytes (offset + m)
   over-goes t m e le =
       let none : m - m ≡ 0 = omega arith in
       advance-same decide (at_item start) _ (at_item t) bytes _ _ (ap (λ (k : ℕ). record { state = t; stop = None; skip = k; kept = [] }) none) refl
       (over-item (Goes t m) m m e refl (omega arith) le (inl (omega arith)))
 
-  pub over-goes-far : (t : S) (m : ℕ) → decide s (take (length bytes - at) (drop at bytes)) ≡ Goes t m → length bytes - at < m →
-      Advances decide (at_item start) (record { state = t; stop = None; skip = m - (length bytes - at); kept = drop (length bytes) (take (length bytes) bytes) }) bytes (length bytes)
+  pub over-goes-far : (t : S) (m : ℕ) → decide s (take (length bytes - offset) (drop offset bytes)) ≡ Goes t m → length bytes - offset < m →
+      Advances decide (at_item start) (record { state = t; stop = None; skip = m - (length bytes - offset); kept = drop (length bytes) (take (length bytes) bytes) }) bytes (length bytes)
   over-goes-far t m e lt =
       advance-same decide (at_item start) _ _ bytes _ _
-      (ap (λ (xs : List ℕ). record { state = t; stop = None; skip = m - (length bytes - at); kept = xs }) (sym (drop-take-none (length bytes) bytes)))
+      (ap (λ (xs : List ℕ). record { state = t; stop = None; skip = m - (length bytes - offset); kept = xs }) (sym (drop-take-none (length bytes) bytes)))
       (omega (arith, so_far.within))
-      (over-item (Goes t m) m (length bytes - at) e refl (omega arith) (omega arith) (inr (omega arith)))
+      (over-item (Goes t m) m (length bytes - offset) e refl (omega arith) (omega arith) (inr (omega arith)))
 
-  pub over-stops : (o : O) (m n : ℕ) → decide s (take (length bytes - at) (drop at bytes)) ≡ Stops o m → n ≡ min m (length bytes - at) →
-      Advances decide (at_item start) (record { state = s; stop = Some o; skip = m - n; kept = drop (at + n) (take (at + n) bytes) }) bytes (at + n)
+  pub over-stops : (o : O) (m n : ℕ) → decide s (take (length bytes - offset) (drop offset bytes)) ≡ Stops o m → n ≡ min m (length bytes - offset) →
+      Advances decide (at_item start) (record { state = s; stop = Some o; skip = m - n; kept = drop (offset + n) (take (offset + n) bytes) }) bytes (offset + n)
   over-stops o m n e least =
       advance-same decide (at_item start) _ _ bytes _ _
-      (ap (λ (xs : List ℕ). record { state = s; stop = Some o; skip = m - n; kept = xs }) (sym (drop-take-none (at + n) bytes))) refl
+      (ap (λ (xs : List ℕ). record { state = s; stop = Some o; skip = m - n; kept = xs }) (sym (drop-take-none (offset + n) bytes))) refl
       (over-item (Stops o m) m n e refl (omega arith) (omega arith)
-      (elim (cases_lt m (length bytes - at)) [ inl lt ↦ inl (omega arith) | inr le ↦ inr (omega arith) ]))
+      (elim (cases_lt m (length bytes - offset)) [ inl lt ↦ inl (omega arith) | inr le ↦ inr (omega arith) ]))
 
-  pub over-some : (d : Step S O) (m : ℕ) → decide s (take (length bytes - at) (drop at bytes)) ≡ d → size_of_step d ≡ Some m → 1 ≤ m
-  over-some d m e f = steady.some s (take (length bytes - at) (drop at bytes)) m (ap (λ (x : Step S O). size_of_step x) e ∙ f)
+  pub over-some : (d : Step S O) (m : ℕ) → decide s (take (length bytes - offset) (drop offset bytes)) ≡ d → size_of_step d ≡ Some m → 1 ≤ m
+  over-some d m e f = steady.some s (take (length bytes - offset) (drop offset bytes)) m (ap (λ (x : Step S O). size_of_step x) e ∙ f)

@@ -16,21 +16,21 @@ use Rattle.wt_proto.proofs.WalkLaws.{outcome-stays}
 pub bi-effect : IsEffect bi_effect
 bi-effect = record { size_is = size_is }
   where
-    size_is : (at n : ℕ) (f : frames.Frame) → size_of_step (bi_effect at n f) ≡ Some n
-    size_is at n (frames.Skipped kind) = refl
-    size_is at n _ = refl
+    size_is : (offset n : ℕ) (f : frames.Frame) → size_of_step (bi_effect offset n f) ≡ Some n
+    size_is offset n (frames.Skipped kind) = refl
+    size_is offset n _ = refl
 
 pub bi-steady : IsSteady bi_decides
 unfolding bi_decides
 bi-steady = frames-steady varint_at varint-on bi_effect bi-effect
 
 -- a HEADERS frame at the front is judged
-pub bi-headers : (at : ℕ) (bytes : List ℕ) (header size : ℕ) → Some (frames.Headers (take size (drop header bytes)), header + size) ≡ frames.frame_at varint_at bytes →
-    Stops (headers_verdict (at + (header + size)) (headers_of (take (header + size - header) (drop header bytes)))) (header + size) ≡ bi_decides at bytes
+pub bi-headers : (offset : ℕ) (bytes : List ℕ) (header size : ℕ) → Some (frames.Headers (take size (drop header bytes)), header + size) ≡ frames.frame_at varint_at bytes →
+    Stops (headers_verdict (offset + (header + size)) (headers_of (take (header + size - header) (drop header bytes)))) (header + size) ≡ bi_decides offset bytes
 unfolding bi_decides
-bi-headers at bytes header size e =
+bi-headers offset bytes header size e =
     let same : header + size - header ≡ size = omega arith in
-    rw same (ap (λ (f : Option (frames.Frame × ℕ)). step_of_item (bi_effect at) f) e)
+    rw same (ap (λ (f : Option (frames.Frame × ℕ)). step_of_item (bi_effect offset) f) e)
 
 pub bi_verdict_stays : (bytes more : List ℕ) (end : StreamEnd) → is_final (bi_verdict_of bytes Running) ≡ true → bi_verdict_of (bytes ++ more) end ≡ bi_verdict_of bytes Running
 unfolding bi_verdict_of

@@ -32,32 +32,32 @@ bi-reaches : (bytes : List ℕ) (end : StreamEnd) → bi_verdict_of bytes end �
 unfolding bi_verdict_of
 bi-reaches bytes end = refl
 
-pub session-final : (id at : ℕ) → is_final (session_verdict id at) ≡ true
-session-final id at = by (id % 4 == 0)
+pub session-final : (id offset : ℕ) → is_final (session_verdict id offset) ≡ true
+session-final id offset = by (id % 4 == 0)
   where
-    by : (b : Bool) → is_final (cond b (WebTransport id at) (Fault Id)) ≡ true
+    by : (b : Bool) → is_final (cond b (WebTransport id offset) (Fault Id)) ≡ true
     by true = refl
     by false = refl
 
-parsed-final : (at : ℕ) (r : Result Fields HeadersParseError) → is_final (parsed_verdict at r) ≡ true
-parsed-final at (Ok request) = refl
-parsed-final at (Err MethodNotConnect) = refl
-parsed-final at (Err Other) = refl
+parsed-final : (offset : ℕ) (r : Result Fields HeadersParseError) → is_final (parsed_verdict offset r) ≡ true
+parsed-final offset (Ok request) = refl
+parsed-final offset (Err MethodNotConnect) = refl
+parsed-final offset (Err Other) = refl
 
-headers-final : (at : ℕ) (r : Result Fields ErrorCode) → is_final (headers_verdict at r) ≡ true
-headers-final at (Ok fields) = parsed-final at (request_of fields)
-headers-final at (Err fault) = refl
+headers-final : (offset : ℕ) (r : Result Fields ErrorCode) → is_final (headers_verdict offset r) ≡ true
+headers-final offset (Ok fields) = parsed-final offset (request_of fields)
+headers-final offset (Err fault) = refl
 
-effect-final : (at : ℕ) (f : Option (frames.Frame × ℕ)) (w : Verdict) (m : ℕ) → step_of_item (bi_effect at) f ≡ Stops w m → is_final w ≡ true
-effect-final at None w m e = absurd cc
-effect-final at (Some (frames.Skipped kind, n)) w m e = absurd cc
-effect-final at (Some (frames.Signal id, n)) w m e = let of_item = session-final id (at + n) in cc
-effect-final at (Some (frames.Headers payload, n)) w m e = let of_item = headers-final (at + n) (headers_of payload) in cc
-effect-final at _ w m e = cc
+effect-final : (offset : ℕ) (f : Option (frames.Frame × ℕ)) (w : Verdict) (m : ℕ) → step_of_item (bi_effect offset) f ≡ Stops w m → is_final w ≡ true
+effect-final offset None w m e = absurd cc
+effect-final offset (Some (frames.Skipped kind, n)) w m e = absurd cc
+effect-final offset (Some (frames.Signal id, n)) w m e = let of_item = session-final id (offset + n) in cc
+effect-final offset (Some (frames.Headers payload, n)) w m e = let of_item = headers-final (offset + n) (headers_of payload) in cc
+effect-final offset _ w m e = cc
 
-bi-final : (at : ℕ) (bytes : List ℕ) (w : Verdict) (n : ℕ) → bi_decides at bytes ≡ Stops w n → is_final w ≡ true
+bi-final : (offset : ℕ) (bytes : List ℕ) (w : Verdict) (n : ℕ) → bi_decides offset bytes ≡ Stops w n → is_final w ≡ true
 unfolding bi_decides
-bi-final at bytes w n e = effect-final at (frames.frame_at varint_at bytes) w n e
+bi-final offset bytes w n e = effect-final offset (frames.frame_at varint_at bytes) w n e
 
 pub bi_lawful : IsLawful 0 bi_decides (frame_wants true) bi_unfinished is_final bi_verdict_of
 bi_lawful = record { steady = bi-steady; awaited = bi-awaited; reaches = bi-reaches; stops = bi-final; by_end = λ end s t b c. refl }

@@ -40,28 +40,28 @@ pub chosen_by : {A R : Type 0} (b : Bool) (x y p : A) → cond b x y ≡ p → (
 chosen_by true x y p e f g = f e
 chosen_by false x y p e f g = g e
 
-length-more : (xs ys : List ℕ) (kind at : ℕ) (l : Option (ℕ × ℕ)) (p : Frame × ℕ) → varint_at (drop at xs) ≡ l → frame_with_length xs kind at l ≡ Some p → at ≤ length xs →
-    frame_with_length (xs ++ ys) kind at (varint_at (drop at xs ++ ys)) ≡ Some p
-length-more xs ys kind at None p l e le = absurd cc
-length-more xs ys kind at (Some m) p l e le =
-    rw (varint_at-more (drop at xs) ys m l)
-    (header-more xs ys kind (at + m.1) m.0 p e (omega (arith, varint_at-within (drop at xs) m l, length-drop at xs)))
+length-more : (xs ys : List ℕ) (kind offset : ℕ) (l : Option (ℕ × ℕ)) (p : Frame × ℕ) → varint_at (drop offset xs) ≡ l → frame_with_length xs kind offset l ≡ Some p → offset ≤ length xs →
+    frame_with_length (xs ++ ys) kind offset (varint_at (drop offset xs ++ ys)) ≡ Some p
+length-more xs ys kind offset None p l e le = absurd cc
+length-more xs ys kind offset (Some m) p l e le =
+    rw (varint_at-more (drop offset xs) ys m l)
+    (header-more xs ys kind (offset + m.1) m.0 p e (omega (arith, varint_at-within (drop offset xs) m l, length-drop offset xs)))
 
-length-front : (xs ys : List ℕ) (kind at : ℕ) (l : Option (ℕ × ℕ)) (p : Frame × ℕ) → varint_at (drop at xs ++ ys) ≡ l → frame_with_length (xs ++ ys) kind at l ≡ Some p → at ≤ length xs →
-    p.1 ≤ length xs → frame_with_length xs kind at (varint_at (drop at xs)) ≡ Some p
-length-front xs ys kind at None p l e le lt = absurd cc
-length-front xs ys kind at (Some m) p l e le lt =
-    let size : at + m.1 ≤ p.1 = header-size (xs ++ ys) kind (at + m.1) m.0 p e in
-    let within : m.1 ≤ length (drop at xs) = omega (arith, length-drop at xs) in
-    rw (varint_at-front (drop at xs) ys m l within) (header-front xs ys kind (at + m.1) m.0 p e lt (omega (arith, length-drop at xs)))
+length-front : (xs ys : List ℕ) (kind offset : ℕ) (l : Option (ℕ × ℕ)) (p : Frame × ℕ) → varint_at (drop offset xs ++ ys) ≡ l → frame_with_length (xs ++ ys) kind offset l ≡ Some p → offset ≤ length xs →
+    p.1 ≤ length xs → frame_with_length xs kind offset (varint_at (drop offset xs)) ≡ Some p
+length-front xs ys kind offset None p l e le lt = absurd cc
+length-front xs ys kind offset (Some m) p l e le lt =
+    let size : offset + m.1 ≤ p.1 = header-size (xs ++ ys) kind (offset + m.1) m.0 p e in
+    let within : m.1 ≤ length (drop offset xs) = omega (arith, length-drop offset xs) in
+    rw (varint_at-front (drop offset xs) ys m l within) (header-front xs ys kind (offset + m.1) m.0 p e lt (omega (arith, length-drop offset xs)))
 
-length-size : (xs : List ℕ) (kind at : ℕ) (l : Option (ℕ × ℕ)) (p : Frame × ℕ) → frame_with_length xs kind at l ≡ Some p → at ≤ p.1
-length-size xs kind at None p e = absurd cc
-length-size xs kind at (Some m) p e = omega (arith, header-size xs kind (at + m.1) m.0 p e)
+length-size : (xs : List ℕ) (kind offset : ℕ) (l : Option (ℕ × ℕ)) (p : Frame × ℕ) → frame_with_length xs kind offset l ≡ Some p → offset ≤ p.1
+length-size xs kind offset None p e = absurd cc
+length-size xs kind offset (Some m) p e = omega (arith, header-size xs kind (offset + m.1) m.0 p e)
 
-id-size : (at : ℕ) (i : Option (ℕ × ℕ)) (p : Frame × ℕ) → signal_with_id at i ≡ Some p → at ≤ p.1
-id-size at None p e = absurd cc
-id-size at (Some i) p e = grind arith
+id-size : (offset : ℕ) (i : Option (ℕ × ℕ)) (p : Frame × ℕ) → signal_with_id offset i ≡ Some p → offset ≤ p.1
+id-size offset None p e = absurd cc
+id-size offset (Some i) p e = grind arith
 
 -- what an id after a signal has to be like
 pub record ReadsOn (id_at : List ℕ → Option (ℕ × ℕ)) : Type 0 where
@@ -75,13 +75,13 @@ pub varint-on : ReadsOn varint_at
 varint-on = record { more = varint_at-more; front = varint_at-front }
 
 module _ (id_at : List ℕ → Option (ℕ × ℕ)) (on : ReadsOn id_at) where
-  id-more : (xs ys : List ℕ) (at : ℕ) (i : Option (ℕ × ℕ)) (p : Frame × ℕ) → id_at xs ≡ i → signal_with_id at i ≡ Some p → signal_with_id at (id_at (xs ++ ys)) ≡ Some p
-  id-more xs ys at None p i e = absurd cc
-  id-more xs ys at (Some m) p i e = rw (on.more xs ys m i) e
+  id-more : (xs ys : List ℕ) (offset : ℕ) (i : Option (ℕ × ℕ)) (p : Frame × ℕ) → id_at xs ≡ i → signal_with_id offset i ≡ Some p → signal_with_id offset (id_at (xs ++ ys)) ≡ Some p
+  id-more xs ys offset None p i e = absurd cc
+  id-more xs ys offset (Some m) p i e = rw (on.more xs ys m i) e
 
-  id-front : (xs ys : List ℕ) (at : ℕ) (i : Option (ℕ × ℕ)) (p : Frame × ℕ) → id_at (xs ++ ys) ≡ i → signal_with_id at i ≡ Some p → p.1 ≤ at + length xs → signal_with_id at (id_at xs) ≡ Some p
-  id-front xs ys at None p i e le = absurd cc
-  id-front xs ys at (Some m) p i e le =
+  id-front : (xs ys : List ℕ) (offset : ℕ) (i : Option (ℕ × ℕ)) (p : Frame × ℕ) → id_at (xs ++ ys) ≡ i → signal_with_id offset i ≡ Some p → p.1 ≤ offset + length xs → signal_with_id offset (id_at xs) ≡ Some p
+  id-front xs ys offset None p i e le = absurd cc
+  id-front xs ys offset (Some m) p i e le =
       let within : m.1 ≤ length xs = grind arith in
       rw (on.front xs ys m i within) e
 

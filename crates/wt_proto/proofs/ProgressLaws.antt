@@ -38,10 +38,10 @@ module _ {S O : Type 0} (decide : S → List ℕ → Step S O) where
       progress-inside xs s stop n (omega arith) ∙ ap (λ (m : ℕ). record { state = s; stop = stop; skip = m; kept = [] }) same
 
   -- bytes up to the end of an item, and after it
-  pub progress-behind : (xs : List ℕ) (s : S) (stop : Option O) (n : ℕ) → n ≤ length xs → progress_over decide s stop n xs ≡ progress_over decide s stop 0 (drop n xs)
-  progress-behind xs s stop zero le = refl
-  progress-behind [] s stop (suc n) le = absurd (omega arith)
-  progress-behind (x ∷ xs) s stop (suc n) le = progress-behind xs s stop n (omega arith)
+  pub progress-after : (xs : List ℕ) (s : S) (stop : Option O) (n : ℕ) → n ≤ length xs → progress_over decide s stop n xs ≡ progress_over decide s stop 0 (drop n xs)
+  progress-after xs s stop zero le = refl
+  progress-after [] s stop (suc n) le = absurd (omega arith)
+  progress-after (x ∷ xs) s stop (suc n) le = progress-after xs s stop n (omega arith)
 
   pub progress-cut : (s : S) (xs : List ℕ) → decide s xs ≡ Cut → progress_over decide s None 0 xs ≡ record { state = s; stop = None; skip = 0; kept = xs }
   progress-cut s [] e = refl
@@ -67,7 +67,7 @@ module _ {S O : Type 0} (decide : S → List ℕ → Step S O) (steady : IsStead
   progress-stopped s o n [] e le = let none = steady.nothing s in absurd cc
   progress-stopped s o n (x ∷ xs) e le =
       let some : 1 ≤ n = steady.some s (x ∷ xs) n (ap (λ d. size_of_step d) e) in
-      rw e (progress-behind decide xs s (Some o) (n - 1) (omega arith) ∙ over-stopped decide s o (drop (n - 1) xs))
+      rw e (progress-after decide xs s (Some o) (n - 1) (omega arith) ∙ over-stopped decide s o (drop (n - 1) xs))
 
   led-fed : (s : S) (b : ℕ) (xs ys : List ℕ) →
       ((t : S) (stop : Option O) (n : ℕ) → progress_after decide (progress_over decide t stop n xs) ys ≡ progress_over decide t stop n (xs ++ ys)) →

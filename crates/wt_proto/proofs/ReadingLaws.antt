@@ -33,7 +33,7 @@ module _ {S O : Type 0} (decide : S → List ℕ → Step S O) (P : O → Type 0
   progress-stop (b ∷ xs) s None zero h = led-stop s b xs (progress-stop xs) (decide s (b ∷ xs)) refl
 
   pub advance-stop : (old new : WalkProgress S O) (piece : List ℕ) (n : ℕ) → Advances decide old new piece n → IfSome old.stop P → IfSome new.stop P
-  advance-stop old new piece n a h = rw a.taken (progress-stop (old.kept ++ take n piece) old.state old.stop old.skip h)
+  advance-stop old new piece n a h = rw a.fed (progress-stop (old.kept ++ take n piece) old.state old.stop old.skip h)
 
 -- a reader that has read bytes and is fed more has read both
 pub fed-read : {S O : Type 0} (decide : S → List ℕ → Step S O) (start : S) → IsSteady decide → (r : Reading S O) (bytes more : List ℕ) (end : StreamEnd) → HasRead decide start r bytes end →
@@ -54,7 +54,7 @@ module _ {S O : Type 0} (decide : S → List ℕ → Step S O) (start : S) (unfi
       (old new : Reading S O) (piece bytes : List ℕ) (n : ℕ) (end : StreamEnd) (has : HasRead decide start old bytes end) (a : Advances decide old.progress new.progress piece n) where
     pub feed-read : new.end ≡ old.end → HasRead decide start new (bytes ++ take n piece) end
     feed-read same =
-        let is : new ≡ fed_reading decide old (take n piece) = rw (a.taken, same) refl in
+        let is : new ≡ fed_reading decide old (take n piece) = rw (a.fed, same) refl in
         is ∙ fed-read decide start steady old bytes (take n piece) end has
 
     open-outcome : (k : ℕ) → k < n → outcome_of (bytes ++ take k piece) end ≡ unfinished end (reached_in (progress_after decide old.progress (take k piece))).state (reached_in (progress_after decide old.progress (take k piece))).between
@@ -96,7 +96,7 @@ module _ {S O : Type 0} (decide : S → List ℕ → Step S O) (unfinished : Str
   stopped-at s (Some o) zero (b ∷ kept) end idle all e = let none = (idle (omega arith)).1 in absurd cc
 
   pub stopped-final : {X : Type 0} (r : Reading S O) → IsProper decide r.progress → IfSome r.progress.stop (λ o. final o ≡ true) → (X → (is_some r.progress.stop && r.progress.skip == 0) ≡ true) → X → final (outcome_in unfinished r) ≡ true
-  stopped-final r proper all over x = stopped-at r.progress.state r.progress.stop r.progress.skip r.progress.kept r.end proper.idle all (over x)
+  stopped-final r proper all done_by x = stopped-at r.progress.state r.progress.stop r.progress.skip r.progress.kept r.end proper.idle all (done_by x)
 
 -- answers where memory may run out
 pub if_ok_with : {A E : Type 0} {P Q R : A → Type 0} (r : Result A E) → IfOk r P → IfOk r Q → ((x : A) → P x → Q x → R x) → IfOk r R
@@ -135,33 +135,33 @@ module _ {S O : Type 0} (decide : S → List ℕ → Step S O) (final : O → Bo
   stays r more e f = stays-at r.progress.state r.progress.stop r.progress.skip r.progress.kept more (ap (λ (end : StreamEnd). final (outcome_at unfinished end (reached_in r.progress))) (sym e) ∙ f)
 
 module _ {S O : Type 0} (unfinished : StreamEnd → S → Bool → O) (end : StreamEnd) (s : S) where
-  kept-between : (rest taken : ℕ) (kept : List ℕ) → rest ≤ taken → length kept ≡ taken - rest → outcome_at unfinished end (reached_at {O = O} s None 0 kept) ≡ unfinished end s (rest == taken)
-  kept-between rest taken [] le len = let same : rest ≡ taken = omega arith in ap (λ (b : Bool). unfinished end s b) (sym (eq-eqb rest taken same))
-  kept-between rest taken (b ∷ kept) le len =
-      let other : (rest == taken) ≡ false = ne_eqb rest taken (λ e. absurd (omega (arith, e))) in ap (λ (b : Bool). unfinished end s b) (sym other)
+  kept-between : (rest consumed : ℕ) (kept : List ℕ) → rest ≤ consumed → length kept ≡ consumed - rest → outcome_at unfinished end (reached_at {O = O} s None 0 kept) ≡ unfinished end s (rest == consumed)
+  kept-between rest consumed [] le len = let same : rest ≡ consumed = omega arith in ap (λ (b : Bool). unfinished end s b) (sym (eq-eqb rest consumed same))
+  kept-between rest consumed (b ∷ kept) le len =
+      let other : (rest == consumed) ≡ false = ne_eqb rest consumed (λ e. absurd (omega (arith, e))) in ap (λ (b : Bool). unfinished end s b) (sym other)
 
-  passed-by : (stop : Option O) (skip rest taken : ℕ) (kept : List ℕ) → (0 < length kept → (skip ≡ 0) × (stop ≡ None)) → rest ≤ taken → length kept ≡ taken - rest →
-      passed_outcome unfinished end s (record { stop = stop; skip = skip; rest = rest; taken = taken }) ≡ outcome_at unfinished end (reached_at s stop skip kept)
-  passed-by None (suc skip) rest taken kept idle le len = rw suc-false refl
-  passed-by (Some o) (suc skip) rest taken kept idle le len = rw suc-false refl
-  passed-by None zero rest taken kept idle le len = sym (kept-between rest taken kept le len)
-  passed-by (Some o) zero rest taken [] idle le len = refl
-  passed-by (Some o) zero rest taken (b ∷ kept) idle le len = let none = (idle (omega arith)).1 in absurd cc
+  passed-by : (stop : Option O) (skip rest consumed : ℕ) (kept : List ℕ) → (0 < length kept → (skip ≡ 0) × (stop ≡ None)) → rest ≤ consumed → length kept ≡ consumed - rest →
+      passed_outcome unfinished end s (record { stop = stop; skip = skip; rest = rest; consumed = consumed }) ≡ outcome_at unfinished end (reached_at s stop skip kept)
+  passed-by None (suc skip) rest consumed kept idle le len = rw suc-false refl
+  passed-by (Some o) (suc skip) rest consumed kept idle le len = rw suc-false refl
+  passed-by None zero rest consumed kept idle le len = sym (kept-between rest consumed kept le len)
+  passed-by (Some o) zero rest consumed [] idle le len = refl
+  passed-by (Some o) zero rest consumed (b ∷ kept) idle le len = let none = (idle (omega arith)).1 in absurd cc
 
 pub passed-outcome : {S O : Type 0} (decide : S → List ℕ → Step S O) (steady : IsSteady decide) (unfinished : StreamEnd → S → Bool → O) (end : StreamEnd) (start s : S) (p : PassedItems O) (bytes : List ℕ) →
-    Advances decide (at_item start) (progress_passed s p bytes) bytes p.taken → IsProper decide (progress_passed s p bytes) → p.rest ≤ p.taken → (p.taken < length bytes → (p.skip ≡ 0) × IsSome p.stop) →
+    Advances decide (at_item start) (progress_passed s p bytes) bytes p.consumed → IsProper decide (progress_passed s p bytes) → p.rest ≤ p.consumed → (p.consumed < length bytes → (p.skip ≡ 0) × IsSome p.stop) →
     passed_outcome unfinished end s p ≡ outcome_at unfinished end (whole_walk decide start bytes)
 passed-outcome {S = S} {O = O} decide steady unfinished end start s p bytes a proper le all =
-    let stays : progress_after decide (progress_passed s p bytes) (drop p.taken bytes) ≡ progress_passed s p bytes =
-    elim (cases_lt p.taken (length bytes)) [
-      | inl lt ↦ fed-over decide s p.stop p.skip (drop p.rest (take p.taken bytes)) (drop p.taken bytes) proper.idle (all lt).0 (all lt).1
+    let stays : progress_after decide (progress_passed s p bytes) (drop p.consumed bytes) ≡ progress_passed s p bytes =
+    elim (cases_lt p.consumed (length bytes)) [
+      | inl lt ↦ fed-over decide s p.stop p.skip (drop p.rest (take p.consumed bytes)) (drop p.consumed bytes) proper.idle (all lt).0 (all lt).1
       | inr whole ↦ ap (λ (xs : List ℕ). progress_after decide (progress_passed s p bytes) xs) (drop_of_length-le bytes whole) ∙ fed-nothing decide steady (progress_passed s p bytes) proper
     ] in
     let is : progress_over decide start None 0 bytes ≡ progress_passed s p bytes =
-    ap (λ (xs : List ℕ). progress_over decide start None 0 xs) (sym (take-append-drop p.taken bytes))
-    ∙ (sym (fed-append decide steady (take p.taken bytes) (drop p.taken bytes) start None 0)
-    ∙ (ap (λ (x : WalkProgress S O). progress_after decide x (drop p.taken bytes)) (sym a.taken) ∙ stays)) in
-    passed-by unfinished end s p.stop p.skip p.rest p.taken (drop p.rest (take p.taken bytes)) proper.idle le (omega (arith, a.within, length-drop p.rest (take p.taken bytes), length-take p.taken bytes))
+    ap (λ (xs : List ℕ). progress_over decide start None 0 xs) (sym (take-append-drop p.consumed bytes))
+    ∙ (sym (fed-append decide steady (take p.consumed bytes) (drop p.consumed bytes) start None 0)
+    ∙ (ap (λ (x : WalkProgress S O). progress_after decide x (drop p.consumed bytes)) (sym a.fed) ∙ stays)) in
+    passed-by unfinished end s p.stop p.skip p.rest p.consumed (drop p.rest (take p.consumed bytes)) proper.idle le (omega (arith, a.within, length-drop p.rest (take p.consumed bytes), length-take p.consumed bytes))
     ∙ (ap (λ (x : WalkProgress S O). outcome_at unfinished end (reached_in x)) (sym is) ∙ ap (λ (r : Reached S O). outcome_at unfinished end r) (sym (walk-progress decide bytes start None 0)))
 
 -- pieces one after the other

@@ -28,23 +28,23 @@ response-reaches : (bytes : List ℕ) (end : StreamEnd) → response_walk_of byt
 unfolding response_walk_of
 response-reaches bytes end = refl
 
-parsed-final : (at : ℕ) (r : Result Fields BadStatus) → is_response_final (parsed_response at r) ≡ true
-parsed-final at (Ok response) = refl
-parsed-final at (Err bad) = refl
+parsed-final : (offset : ℕ) (r : Result Fields BadStatus) → is_response_final (parsed_response offset r) ≡ true
+parsed-final offset (Ok response) = refl
+parsed-final offset (Err bad) = refl
 
-headers-final : (at : ℕ) (r : Result Fields ErrorCode) → is_response_final (headers_response at r) ≡ true
-headers-final at (Ok fields) = parsed-final at (response_of fields)
-headers-final at (Err fault) = refl
+headers-final : (offset : ℕ) (r : Result Fields ErrorCode) → is_response_final (headers_response offset r) ≡ true
+headers-final offset (Ok fields) = parsed-final offset (response_of fields)
+headers-final offset (Err fault) = refl
 
-effect-final : (at : ℕ) (f : Option (frames.Frame × ℕ)) (w : ResponseWalk) (m : ℕ) → step_of_item (response_effect at) f ≡ Stops w m → is_response_final w ≡ true
-effect-final at None w m e = absurd cc
-effect-final at (Some (frames.Skipped kind, n)) w m e = absurd cc
-effect-final at (Some (frames.Headers payload, n)) w m e = let of_item = headers-final (at + n) (headers_of payload) in cc
-effect-final at _ w m e = cc
+effect-final : (offset : ℕ) (f : Option (frames.Frame × ℕ)) (w : ResponseWalk) (m : ℕ) → step_of_item (response_effect offset) f ≡ Stops w m → is_response_final w ≡ true
+effect-final offset None w m e = absurd cc
+effect-final offset (Some (frames.Skipped kind, n)) w m e = absurd cc
+effect-final offset (Some (frames.Headers payload, n)) w m e = let of_item = headers-final (offset + n) (headers_of payload) in cc
+effect-final offset _ w m e = cc
 
-response-final : (at : ℕ) (bytes : List ℕ) (w : ResponseWalk) (n : ℕ) → response_decides at bytes ≡ Stops w n → is_response_final w ≡ true
+response-final : (offset : ℕ) (bytes : List ℕ) (w : ResponseWalk) (n : ℕ) → response_decides offset bytes ≡ Stops w n → is_response_final w ≡ true
 unfolding response_decides
-response-final at bytes w n e = effect-final at (frames.frame_at frames.session_id_ignored bytes) w n e
+response-final offset bytes w n e = effect-final offset (frames.frame_at frames.session_id_ignored bytes) w n e
 
 response-by_end : (end : StreamEnd) (s t : ℕ) (b c : Bool) → is_response_final (response_unfinished end s b) ≡ is_response_final (response_unfinished end t c)
 response-by_end Running s t b c = refl

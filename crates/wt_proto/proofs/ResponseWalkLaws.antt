@@ -14,21 +14,21 @@ use Rattle.wt_proto.proofs.WalkLaws.{outcome-stays}
 pub response-effect : IsEffect response_effect
 response-effect = record { size_is = size_is }
   where
-    size_is : (at n : ℕ) (f : frames.Frame) → size_of_step (response_effect at n f) ≡ Some n
-    size_is at n (frames.Skipped kind) = refl
-    size_is at n _ = refl
+    size_is : (offset n : ℕ) (f : frames.Frame) → size_of_step (response_effect offset n f) ≡ Some n
+    size_is offset n (frames.Skipped kind) = refl
+    size_is offset n _ = refl
 
 pub response-steady : IsSteady response_decides
 unfolding response_decides
 response-steady = frames-steady frames.session_id_ignored session_id_ignored-on response_effect response-effect
 
 -- a HEADERS frame at the front is judged
-pub response-headers : (at : ℕ) (bytes : List ℕ) (header size : ℕ) → Some (frames.Headers (take size (drop header bytes)), header + size) ≡ frames.frame_at frames.session_id_ignored bytes →
-    Stops (headers_response (at + (header + size)) (headers_of (take (header + size - header) (drop header bytes)))) (header + size) ≡ response_decides at bytes
+pub response-headers : (offset : ℕ) (bytes : List ℕ) (header size : ℕ) → Some (frames.Headers (take size (drop header bytes)), header + size) ≡ frames.frame_at frames.session_id_ignored bytes →
+    Stops (headers_response (offset + (header + size)) (headers_of (take (header + size - header) (drop header bytes)))) (header + size) ≡ response_decides offset bytes
 unfolding response_decides
-response-headers at bytes header size e =
+response-headers offset bytes header size e =
     let same : header + size - header ≡ size = omega arith in
-    rw same (ap (λ (f : Option (frames.Frame × ℕ)). step_of_item (response_effect at) f) e)
+    rw same (ap (λ (f : Option (frames.Frame × ℕ)). step_of_item (response_effect offset) f) e)
 
 pub response_walk_stays : (bytes more : List ℕ) (end : StreamEnd) → is_answered (response_walk_of bytes Running) ≡ true → response_walk_of (bytes ++ more) end ≡ response_walk_of bytes Running
 unfolding response_walk_of

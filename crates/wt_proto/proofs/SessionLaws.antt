@@ -26,4 +26,4 @@ session-steady = frames-steady frames.session_id_ignored session_id_ignored-on s
 
 pub session_walk_stays : (bytes more : List ℕ) (end : StreamEnd) → is_over (session_walk_of bytes Running) ≡ true → session_walk_of (bytes ++ more) end ≡ session_walk_of bytes Running
 unfolding session_walk_of
-session_walk_stays bytes more end over = outcome-stays session_decides session-steady tt session_unfinished (λ w. is_over w) (λ s b. refl) bytes more end over
+session_walk_stays bytes more end done_by = outcome-stays session_decides session-steady tt session_unfinished (λ w. is_over w) (λ s b. refl) bytes more end done_by

@@ -7,61 +7,61 @@ use Rattle.wt_proto.proofs.FrameLaws.{IsReader}
 
 -- a choice makes a header that ends here whatever the one with a session's id is, or takes that one
 abbrev pub Chooses : {A : Type 0} → ℕ → (Option (A × ℕ) → Option (A × ℕ)) → Type 0
-Chooses {A} at choose = ((made : A) × ((x : Option (A × ℕ)) → choose x ≡ Some (made, at))) ⊎ ((x : Option (A × ℕ)) → choose x ≡ x)
+Chooses {A} offset choose = ((made : A) × ((x : Option (A × ℕ)) → choose x ≡ Some (made, offset))) ⊎ ((x : Option (A × ℕ)) → choose x ≡ x)
 
-module _ {A : Type 0} (at : ℕ) where
-  pub alone : (made : A) → Chooses at (λ x. Some (made, at))
+module _ {A : Type 0} (offset : ℕ) where
+  pub alone : (made : A) → Chooses offset (λ x. Some (made, offset))
   alone made = inl (made, λ x. refl)
 
-  pub goes-on : Chooses {A = A} at (λ x. x)
+  pub goes-on : Chooses {A = A} offset (λ x. x)
   goes-on = inr (λ x. refl)
 
   -- two choices, by a test
-  pub by : (b : Bool) {f g : Option (A × ℕ) → Option (A × ℕ)} → Chooses at f → Chooses at g → Chooses at (λ x. cond b (f x) (g x))
+  pub by : (b : Bool) {f g : Option (A × ℕ) → Option (A × ℕ)} → Chooses offset f → Chooses offset g → Chooses offset (λ x. cond b (f x) (g x))
   by true c d = c
   by false c d = d
 
   -- what is chosen is chosen again, where the one with a session's id is
-  again : (f : Option (A × ℕ) → Option (A × ℕ)) → Chooses at f → (x y : Option (A × ℕ)) (p : A × ℕ) → f x ≡ Some p → (x ≡ Some p → y ≡ Some p) → f y ≡ Some p
+  again : (f : Option (A × ℕ) → Option (A × ℕ)) → Chooses offset f → (x y : Option (A × ℕ)) (p : A × ℕ) → f x ≡ Some p → (x ≡ Some p → y ≡ Some p) → f y ≡ Some p
   again f (inl c) x y p e more = c.1 y ∙ sym (c.1 x) ∙ e
   again f (inr c) x y p e more = c y ∙ more (sym (c x) ∙ e)
 
-  size-of : (made : A) (p : A × ℕ) → Some (made, at) ≡ Some p → at ≡ p.1
-  size-of made p e = let pair : ◌≡◌ {A = A × ℕ} (made, at) p = cc in ap (λ (q : A × ℕ). q.1) pair
+  size-of : (made : A) (p : A × ℕ) → Some (made, offset) ≡ Some p → offset ≡ p.1
+  size-of made p e = let pair : ◌≡◌ {A = A × ℕ} (made, offset) p = cc in ap (λ (q : A × ℕ). q.1) pair
 
   -- what is chosen ends from here on, and within a bound
-  ends : (f : Option (A × ℕ) → Option (A × ℕ)) → Chooses at f → (bound : ℕ) (x : Option (A × ℕ)) (p : A × ℕ) → f x ≡ Some p → at ≤ bound → (x ≡ Some p → (at ≤ p.1) × (p.1 ≤ bound)) → (at ≤ p.1) × (p.1 ≤ bound)
+  ends : (f : Option (A × ℕ) → Option (A × ℕ)) → Chooses offset f → (bound : ℕ) (x : Option (A × ℕ)) (p : A × ℕ) → f x ≡ Some p → offset ≤ bound → (x ≡ Some p → (offset ≤ p.1) × (p.1 ≤ bound)) → (offset ≤ p.1) × (p.1 ≤ bound)
   ends f (inl c) bound x p e le more = let size = size-of c.0 p (sym (c.1 x) ∙ e) in (omega (arith, size), omega (arith, size))
   ends f (inr c) bound x p e le more = more (sym (c x) ∙ e)
 
 -- a header after its type, and with a session's id after that
 pub record IsTyped {A : Type 0} (session : ℕ → Option (ℕ × ℕ) → Option (A × ℕ)) (by-type : ℕ → ℕ → Option (A × ℕ) → Option (A × ℕ)) (typed : List ℕ → Option (ℕ × ℕ) → Option (A × ℕ)) : Type 0 where
   pub made : ℕ → ℕ × ℕ → A
-  pub no-session : (at : ℕ) → session at None ≡ None
-  pub a-session : (at : ℕ) (s : ℕ × ℕ) → session at (Some s) ≡ Some (made at s, at + s.1)
+  pub no-session : (offset : ℕ) → session offset None ≡ None
+  pub a-session : (offset : ℕ) (s : ℕ × ℕ) → session offset (Some s) ≡ Some (made offset s, offset + s.1)
   pub no-type : (xs : List ℕ) → typed xs None ≡ None
   pub a-type : (xs : List ℕ) (t : ℕ × ℕ) → typed xs (Some t) ≡ by-type t.0 t.1 (session t.1 (varint_at (drop t.1 xs)))
-  pub chooses : (kind at : ℕ) → Chooses at (by-type kind at)
+  pub chooses : (kind offset : ℕ) → Chooses offset (by-type kind offset)
 
 module _ {A : Type 0} (session : ℕ → Option (ℕ × ℕ) → Option (A × ℕ)) (by-type : ℕ → ℕ → Option (A × ℕ) → Option (A × ℕ)) (typed : List ℕ → Option (ℕ × ℕ) → Option (A × ℕ)) (is : IsTyped session by-type typed) where
-  session-size : (at : ℕ) (s : ℕ × ℕ) (p : A × ℕ) → session at (Some s) ≡ Some p → at + s.1 ≡ p.1
-  session-size at s p f = size-of (at + s.1) (is.made at s) p (sym (is.a-session at s) ∙ f)
+  session-size : (offset : ℕ) (s : ℕ × ℕ) (p : A × ℕ) → session offset (Some s) ≡ Some p → offset + s.1 ≡ p.1
+  session-size offset s p f = size-of (offset + s.1) (is.made offset s) p (sym (is.a-session offset s) ∙ f)
 
   -- a header with a session's id ends from here on, and within the bytes
-  session-ends : (at : ℕ) (xs : List ℕ) (s : Option (ℕ × ℕ)) (p : A × ℕ) → varint_at xs ≡ s → session at s ≡ Some p → (at ≤ p.1) × (p.1 ≤ at + length xs)
-  session-ends at xs None p e f = absurd (let none = is.no-session at in cc)
-  session-ends at xs (Some s) p e f = let size = session-size at s p f in (omega (arith, size), omega (arith, size, varint_at-within xs s e))
+  session-ends : (offset : ℕ) (xs : List ℕ) (s : Option (ℕ × ℕ)) (p : A × ℕ) → varint_at xs ≡ s → session offset s ≡ Some p → (offset ≤ p.1) × (p.1 ≤ offset + length xs)
+  session-ends offset xs None p e f = absurd (let none = is.no-session offset in cc)
+  session-ends offset xs (Some s) p e f = let size = session-size offset s p f in (omega (arith, size), omega (arith, size, varint_at-within xs s e))
 
   -- it stays under more bytes
-  session-more : (at : ℕ) (xs ys : List ℕ) (s : Option (ℕ × ℕ)) (p : A × ℕ) → varint_at xs ≡ s → session at s ≡ Some p → session at (varint_at (xs ++ ys)) ≡ Some p
-  session-more at xs ys None p e f = absurd (let none = is.no-session at in cc)
-  session-more at xs ys (Some s) p e f = rw (varint_at-more xs ys s e) f
+  session-more : (offset : ℕ) (xs ys : List ℕ) (s : Option (ℕ × ℕ)) (p : A × ℕ) → varint_at xs ≡ s → session offset s ≡ Some p → session offset (varint_at (xs ++ ys)) ≡ Some p
+  session-more offset xs ys None p e f = absurd (let none = is.no-session offset in cc)
+  session-more offset xs ys (Some s) p e f = rw (varint_at-more xs ys s e) f
 
   -- and is read from its own bytes
-  session-front : (at : ℕ) (xs ys : List ℕ) (s : Option (ℕ × ℕ)) (p : A × ℕ) → varint_at (xs ++ ys) ≡ s → session at s ≡ Some p → p.1 ≤ at + length xs → session at (varint_at xs) ≡ Some p
-  session-front at xs ys None p e f le = absurd (let none = is.no-session at in cc)
-  session-front at xs ys (Some s) p e f le =
-      let within : s.1 ≤ length xs = omega (arith, session-size at s p f) in
+  session-front : (offset : ℕ) (xs ys : List ℕ) (s : Option (ℕ × ℕ)) (p : A × ℕ) → varint_at (xs ++ ys) ≡ s → session offset s ≡ Some p → p.1 ≤ offset + length xs → session offset (varint_at xs) ≡ Some p
+  session-front offset xs ys None p e f le = absurd (let none = is.no-session offset in cc)
+  session-front offset xs ys (Some s) p e f le =
+      let within : s.1 ≤ length xs = omega (arith, session-size offset s p f) in
       rw (varint_at-front xs ys s e within) f
 
   -- it ends after its type, and within the bytes

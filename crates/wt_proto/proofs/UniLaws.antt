@@ -14,15 +14,15 @@ use Rattle.wt_proto.proofs.ProgressLaws.{progress-cut, progress-stopped, walk-pr
 use Rattle.wt_proto.proofs.TypedHeaders.{Chooses, IsTyped, alone, by, goes-on, header-reader, header-within}
 use Rattle.wt_proto.proofs.WalkLaws.{outcome-stays}
 
-by_type-chooses : (kind at : ℕ) → Chooses at (header_by_type kind at)
-by_type-chooses kind at =
-    by at (kind == 0x00) (alone at _) (by at (kind == 0x02) (alone at _) (by at (kind == 0x03) (alone at _) (by at (kind == 0x54) (goes-on at) (alone at _))))
+by_type-chooses : (kind offset : ℕ) → Chooses offset (header_by_type kind offset)
+by_type-chooses kind offset =
+    by offset (kind == 0x00) (alone offset _) (by offset (kind == 0x02) (alone offset _) (by offset (kind == 0x03) (alone offset _) (by offset (kind == 0x54) (goes-on offset) (alone offset _))))
 
 header-typed : IsTyped session_header_at header_by_type typed_header_at
 header-typed = record {
-  made = λ at s. session_verdict s.0 (at + s.1);
-  no-session = λ at. refl;
-  a-session = λ at s. refl;
+  made = λ offset s. session_verdict s.0 (offset + s.1);
+  no-session = λ offset. refl;
+  a-session = λ offset s. refl;
   no-type = λ xs. refl;
   a-type = λ xs t. refl;
   chooses = by_type-chooses;

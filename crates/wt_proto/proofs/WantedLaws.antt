@@ -94,46 +94,46 @@ chosen-few true u v n f g = f
 chosen-few false u v n f g = g
 
 -- the integer after a place
-pub behind-still : (bytes ys : List ℕ) (at : ℕ) → at ≤ length bytes → length (bytes ++ ys) < at + varint_wants (drop at bytes) → varint_at (drop at (bytes ++ ys)) ≡ None
-behind-still bytes ys at le lt =
-    rw (drop-append-le at bytes ys le) (varint-still (drop at bytes) ys (omega (arith, length-append bytes ys, length-append (drop at bytes) ys, length-drop at bytes)))
+pub after-still : (bytes ys : List ℕ) (offset : ℕ) → offset ≤ length bytes → length (bytes ++ ys) < offset + varint_wants (drop offset bytes) → varint_at (drop offset (bytes ++ ys)) ≡ None
+after-still bytes ys offset le lt =
+    rw (drop-append-le offset bytes ys le) (varint-still (drop offset bytes) ys (omega (arith, length-append bytes ys, length-append (drop offset bytes) ys, length-drop offset bytes)))
 
-pub behind-onward : (bytes : List ℕ) (at : ℕ) → at ≤ length bytes → varint_at (drop at bytes) ≡ None → length bytes < at + varint_wants (drop at bytes)
-behind-onward bytes at le e = omega (arith, varint-onward (drop at bytes) e, length-drop at bytes)
+pub after-onward : (bytes : List ℕ) (offset : ℕ) → offset ≤ length bytes → varint_at (drop offset bytes) ≡ None → length bytes < offset + varint_wants (drop offset bytes)
+after-onward bytes offset le e = omega (arith, varint-onward (drop offset bytes) e, length-drop offset bytes)
 
-behind-more : (bytes ys : List ℕ) (at : ℕ) (p : ℕ × ℕ) → at ≤ length bytes → varint_at (drop at bytes) ≡ Some p → varint_at (drop at (bytes ++ ys)) ≡ Some p
-behind-more bytes ys at p le e = rw (drop-append-le at bytes ys le) (varint_at-more (drop at bytes) ys p e)
+after-more : (bytes ys : List ℕ) (offset : ℕ) (p : ℕ × ℕ) → offset ≤ length bytes → varint_at (drop offset bytes) ≡ Some p → varint_at (drop offset (bytes ++ ys)) ≡ Some p
+after-more bytes ys offset p le e = rw (drop-append-le offset bytes ys le) (varint_at-more (drop offset bytes) ys p e)
 
-length-still : (bytes ys : List ℕ) (kind at : ℕ) (l : Option (ℕ × ℕ)) → at ≤ length bytes → varint_at (drop at bytes) ≡ l → length (bytes ++ ys) < length_wants bytes kind at l →
-    frame_with_length (bytes ++ ys) kind at (varint_at (drop at (bytes ++ ys))) ≡ None
-length-still bytes ys kind at None le e lt = rw (behind-still bytes ys at le lt) refl
-length-still bytes ys kind at (Some l) le e lt =
-    rw (behind-more bytes ys at l le e)
-    (given-still (is_known_type kind) (length (bytes ++ ys)) (at + l.1) l.0 _ _ _ (omega (arith, varint_at-within (drop at bytes) l e, length-drop at bytes, length-append bytes ys)) lt)
+length-still : (bytes ys : List ℕ) (kind offset : ℕ) (l : Option (ℕ × ℕ)) → offset ≤ length bytes → varint_at (drop offset bytes) ≡ l → length (bytes ++ ys) < length_wants bytes kind offset l →
+    frame_with_length (bytes ++ ys) kind offset (varint_at (drop offset (bytes ++ ys))) ≡ None
+length-still bytes ys kind offset None le e lt = rw (after-still bytes ys offset le lt) refl
+length-still bytes ys kind offset (Some l) le e lt =
+    rw (after-more bytes ys offset l le e)
+    (given-still (is_known_type kind) (length (bytes ++ ys)) (offset + l.1) l.0 _ _ _ (omega (arith, varint_at-within (drop offset bytes) l e, length-drop offset bytes, length-append bytes ys)) lt)
 
-length-onward : (bytes : List ℕ) (kind at : ℕ) (l : Option (ℕ × ℕ)) → at ≤ length bytes → varint_at (drop at bytes) ≡ l → frame_with_length bytes kind at l ≡ None → length bytes < length_wants bytes kind at l
-length-onward bytes kind at None le e f = behind-onward bytes at le e
-length-onward bytes kind at (Some l) le e f = given-onward (is_known_type kind) (length bytes) (at + l.1) l.0 _ _ _ f
+length-onward : (bytes : List ℕ) (kind offset : ℕ) (l : Option (ℕ × ℕ)) → offset ≤ length bytes → varint_at (drop offset bytes) ≡ l → frame_with_length bytes kind offset l ≡ None → length bytes < length_wants bytes kind offset l
+length-onward bytes kind offset None le e f = after-onward bytes offset le e
+length-onward bytes kind offset (Some l) le e f = given-onward (is_known_type kind) (length bytes) (offset + l.1) l.0 _ _ _ f
 
-length-few : (bytes : List ℕ) (kind at : ℕ) (l : Option (ℕ × ℕ)) → at ≤ 8 → varint_at (drop at bytes) ≡ l → length_wants bytes kind at l ≤ 4112
-length-few bytes kind at None le e = omega (arith, varint-few (drop at bytes))
-length-few bytes kind at (Some l) le e = omega (arith, header-few kind (at + l.1) l.0, varint_at-within (drop at bytes) l e)
+length-few : (bytes : List ℕ) (kind offset : ℕ) (l : Option (ℕ × ℕ)) → offset ≤ 8 → varint_at (drop offset bytes) ≡ l → length_wants bytes kind offset l ≤ 4112
+length-few bytes kind offset None le e = omega (arith, varint-few (drop offset bytes))
+length-few bytes kind offset (Some l) le e = omega (arith, header-few kind (offset + l.1) l.0, varint_at-within (drop offset bytes) l e)
 
 -- an id that is read after a signal, or isn't
 record AwaitsId (reads_id : Bool) (id_at : List ℕ → Option (ℕ × ℕ)) : Type 0 where
-  pub still : (bytes ys : List ℕ) (at : ℕ) → at ≤ length bytes → length (bytes ++ ys) < id_wants reads_id bytes at → id_at (drop at (bytes ++ ys)) ≡ None
-  pub onward : (bytes : List ℕ) (at : ℕ) → at ≤ length bytes → id_at (drop at bytes) ≡ None → length bytes < id_wants reads_id bytes at
-  pub few : (bytes : List ℕ) (at : ℕ) → id_wants reads_id bytes at ≤ at + 8
+  pub still : (bytes ys : List ℕ) (offset : ℕ) → offset ≤ length bytes → length (bytes ++ ys) < id_wants reads_id bytes offset → id_at (drop offset (bytes ++ ys)) ≡ None
+  pub onward : (bytes : List ℕ) (offset : ℕ) → offset ≤ length bytes → id_at (drop offset bytes) ≡ None → length bytes < id_wants reads_id bytes offset
+  pub few : (bytes : List ℕ) (offset : ℕ) → id_wants reads_id bytes offset ≤ offset + 8
 
 unread-id : AwaitsId false session_id_ignored
 unread-id = record {
-  still = λ bytes ys at le lt. absurd (omega (arith, length-append bytes ys));
-  onward = λ bytes at le e. absurd cc;
-  few = λ bytes at. omega arith;
+  still = λ bytes ys offset le lt. absurd (omega (arith, length-append bytes ys));
+  onward = λ bytes offset le e. absurd cc;
+  few = λ bytes offset. omega arith;
 }
 
 varint-id : AwaitsId true varint_at
-varint-id = record { still = behind-still; onward = behind-onward; few = λ bytes at. omega (arith, varint-few (drop at bytes)) }
+varint-id = record { still = after-still; onward = after-onward; few = λ bytes offset. omega (arith, varint-few (drop offset bytes)) }
 
 module _ (reads_id : Bool) (id_at : List ℕ → Option (ℕ × ℕ)) (awaits : AwaitsId reads_id id_at) where
   type-still : (xs ys : List ℕ) (t : Option (ℕ × ℕ)) → varint_at xs ≡ t → length (xs ++ ys) < type_wants reads_id xs t → frame_with_type id_at (xs ++ ys) (varint_at (xs ++ ys)) ≡ None
@@ -145,9 +145,9 @@ module _ (reads_id : Bool) (id_at : List ℕ → Option (ℕ × ℕ)) (awaits : 
       (λ less. ap (λ (i : Option (ℕ × ℕ)). signal_with_id t.1 i) (awaits.still xs ys t.1 within less))
       (λ less. length-still xs ys t.0 t.1 (varint_at (drop t.1 xs)) within refl less))
 
-  id-onward : (at n u : ℕ) (i : Option (ℕ × ℕ)) → signal_with_id at i ≡ None → (i ≡ None → n < u) → n < u
-  id-onward at n u None e f = f refl
-  id-onward at n u (Some i) e f = absurd cc
+  id-onward : (offset n u : ℕ) (i : Option (ℕ × ℕ)) → signal_with_id offset i ≡ None → (i ≡ None → n < u) → n < u
+  id-onward offset n u None e f = f refl
+  id-onward offset n u (Some i) e f = absurd cc
 
   type-onward : (xs : List ℕ) (t : Option (ℕ × ℕ)) → varint_at xs ≡ t → frame_with_type id_at xs t ≡ None → length xs < type_wants reads_id xs t
   type-onward xs None e f = varint-onward xs e

@@ -20,32 +20,32 @@ use Rattle.wt_proto.specs.Walk.{outcome_at, whole_walk}
 
 -- a request in front of this offset, or what it is refused with
 abbrev pub parsed_verdict : ℕ → Result Fields HeadersParseError → Verdict
-parsed_verdict at (Ok request) = Request request at
-parsed_verdict at (Err MethodNotConnect) = Refused RequestRejected
-parsed_verdict at (Err Other) = Refused Message
+parsed_verdict offset (Ok request) = Request request offset
+parsed_verdict offset (Err MethodNotConnect) = Refused RequestRejected
+parsed_verdict offset (Err Other) = Refused Message
 
 -- the verdict of a HEADERS frame by its field section
 abbrev pub headers_verdict : ℕ → Result Fields ErrorCode → Verdict
-headers_verdict at (Ok fields) = parsed_verdict at (request_of fields)
-headers_verdict at (Err fault) = Fault fault
+headers_verdict offset (Ok fields) = parsed_verdict offset (request_of fields)
+headers_verdict offset (Err fault) = Fault fault
 
 -- the state is the offset of the frame; the first one that isn't skipped is judged;
 -- a signal may stand after frames that are skipped (this repository's rule; draft-ietf-webtrans-http3, section 4.3, has it at the very front, and asks H3_FRAME_ERROR elsewhere)
 abbrev pub bi_effect : ℕ → ℕ → frames.Frame → Step ℕ Verdict
-bi_effect at size (frames.Skipped kind) = Goes (at + size) size
-bi_effect at size (frames.Signal id) = Stops (session_verdict id (at + size)) size
-bi_effect at size (frames.Headers payload) = Stops (headers_verdict (at + size) (headers_of payload)) size
-bi_effect at size frames.TooLong = Stops (Fault ExcessiveLoad) size
-bi_effect at size (frames.Data payload) = Stops (Fault FrameUnexpected) size
-bi_effect at size (frames.Settings payload) = Stops (Fault FrameUnexpected) size
+bi_effect offset size (frames.Skipped kind) = Goes (offset + size) size
+bi_effect offset size (frames.Signal id) = Stops (session_verdict id (offset + size)) size
+bi_effect offset size (frames.Headers payload) = Stops (headers_verdict (offset + size) (headers_of payload)) size
+bi_effect offset size frames.TooLong = Stops (Fault ExcessiveLoad) size
+bi_effect offset size (frames.Data payload) = Stops (Fault FrameUnexpected) size
+bi_effect offset size (frames.Settings payload) = Stops (Fault FrameUnexpected) size
 
 -- what the frame at the front of a peer's bidirectional stream does
 unfoldable pub bi_decides : ℕ → List ℕ → Step ℕ Verdict
-bi_decides at bytes = step_of_item (bi_effect at) (frames.frame_at varint_at bytes)
+bi_decides offset bytes = step_of_item (bi_effect offset) (frames.frame_at varint_at bytes)
 
 -- the verdict while no frame has decided it
 abbrev pub bi_unfinished : StreamEnd → ℕ → Bool → Verdict
-bi_unfinished end at between = at_stream_end end
+bi_unfinished end offset between = at_stream_end end
 
 -- the verdict of a peer's bidirectional stream over all its bytes and its end
 unfoldable pub bi_verdict_of : List ℕ → StreamEnd → Verdict

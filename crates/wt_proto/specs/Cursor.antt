@@ -20,9 +20,9 @@ pub record IsPlaced {S O : Type 0} (decide : S → List ℕ → Step S O) (c : C
 
 -- how far the walk is that went over bytes
 abbrev pub progress_passed : {S O : Type 0} → S → PassedItems O → List ℕ → WalkProgress S O
-progress_passed s p bytes = record { state = s; stop = p.stop; skip = p.skip; kept = drop p.rest (take p.taken bytes) }
+progress_passed s p bytes = record { state = s; stop = p.stop; skip = p.skip; kept = drop p.rest (take p.consumed bytes) }
 
 -- and its outcome
 abbrev pub passed_outcome : {S O : Type 0} → (StreamEnd → S → Bool → O) → StreamEnd → S → PassedItems O → O
 passed_outcome unfinished end s p = if is_some p.stop
-    && p.skip == 0 then unwrap_or p.stop (unfinished end s true) else unfinished end s (p.skip == 0 && p.rest == p.taken)
+    && p.skip == 0 then unwrap_or p.stop (unfinished end s true) else unfinished end s (p.skip == 0 && p.rest == p.consumed)

@@ -18,32 +18,32 @@ use Rattle.wt_proto.specs.Walk.{outcome_at, whole_walk}
 
 -- a response in front of this offset; fields with no status code are a malformed message
 abbrev pub parsed_response : ℕ → Result Fields BadStatus → ResponseWalk
-parsed_response at (Ok response) = Response response at
-parsed_response at (Err bad) = Fault Message
+parsed_response offset (Ok response) = Response response offset
+parsed_response offset (Err bad) = Fault Message
 
 -- the response of a HEADERS frame by its field section, or its fault
 abbrev pub headers_response : ℕ → Result Fields ErrorCode → ResponseWalk
-headers_response at (Ok fields) = parsed_response at (response_of fields)
-headers_response at (Err fault) = Fault fault
+headers_response offset (Ok fields) = parsed_response offset (response_of fields)
+headers_response offset (Err fault) = Fault fault
 
 -- the state is the offset of the frame; the first one that isn't skipped is judged
 abbrev pub response_effect : ℕ → ℕ → frames.Frame → Step ℕ ResponseWalk
-response_effect at size (frames.Skipped kind) = Goes (at + size) size
-response_effect at size (frames.Headers payload) = Stops (headers_response (at + size) (headers_of payload)) size
-response_effect at size frames.TooLong = Stops (Fault ExcessiveLoad) size
-response_effect at size (frames.Data payload) = Stops (Fault FrameUnexpected) size
-response_effect at size (frames.Settings payload) = Stops (Fault FrameUnexpected) size
-response_effect at size (frames.Signal id) = Stops (Fault FrameUnexpected) size
+response_effect offset size (frames.Skipped kind) = Goes (offset + size) size
+response_effect offset size (frames.Headers payload) = Stops (headers_response (offset + size) (headers_of payload)) size
+response_effect offset size frames.TooLong = Stops (Fault ExcessiveLoad) size
+response_effect offset size (frames.Data payload) = Stops (Fault FrameUnexpected) size
+response_effect offset size (frames.Settings payload) = Stops (Fault FrameUnexpected) size
+response_effect offset size (frames.Signal id) = Stops (Fault FrameUnexpected) size
 
 -- what the frame at the front of a client's session stream does before the response
 unfoldable pub response_decides : ℕ → List ℕ → Step ℕ ResponseWalk
-response_decides at bytes = step_of_item (response_effect at) (frames.frame_at frames.session_id_ignored bytes)
+response_decides offset bytes = step_of_item (response_effect offset) (frames.frame_at frames.session_id_ignored bytes)
 
 -- where no response and no fault came before
 abbrev pub response_unfinished : StreamEnd → ℕ → Bool → ResponseWalk
-response_unfinished Running at between = Incomplete
-response_unfinished Fin at between = Ended
-response_unfinished (Reset code) at between = Ended
+response_unfinished Running offset between = Incomplete
+response_unfinished Fin offset between = Ended
+response_unfinished (Reset code) offset between = Ended
 
 -- the response on a client's session stream, or its fault, over all bytes and the end
 unfoldable pub response_walk_of : List ℕ → StreamEnd → ResponseWalk
@@ -52,18 +52,18 @@ response_walk_of bytes end = outcome_at response_unfinished end (whole_walk resp
 -- an outcome that more bytes and an end don't change
 abbrev pub is_answered : ResponseWalk → Bool
 is_answered Incomplete = false
-is_answered (Response response at) = true
+is_answered (Response response offset) = true
 is_answered Ended = true
 is_answered (Fault fault) = true
 
 -- a response or a fault: after it no more bytes are taken
 abbrev pub is_response_final : ResponseWalk → Bool
 is_response_final Incomplete = false
-is_response_final (Response response at) = true
+is_response_final (Response response offset) = true
 is_response_final Ended = false
 is_response_final (Fault fault) = true
 
 -- the offset after a response
 abbrev pub response_offset : ResponseWalk → Option ℕ
-response_offset (Response response at) = Some at
+response_offset (Response response offset) = Some offset
 response_offset _ = None

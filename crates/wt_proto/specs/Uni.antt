@@ -19,20 +19,20 @@ at_stream_end (Reset code) = Dropped
 
 -- the id of a session that ends at this offset: a multiple of 4
 abbrev pub session_verdict : ℕ → ℕ → Verdict
-session_verdict id at = if id % 4 == 0 then WebTransport id at else Fault Id
+session_verdict id offset = if id % 4 == 0 then WebTransport id offset else Fault Id
 
 -- a verdict, and how many bytes the header takes
 abbrev pub session_header_at : ℕ → Option (ℕ × ℕ) → Option (Verdict × ℕ)
-session_header_at at None = None
-session_header_at at (Some s) = Some (session_verdict s.0 (at + s.1), at + s.1)
+session_header_at offset None = None
+session_header_at offset (Some s) = Some (session_verdict s.0 (offset + s.1), offset + s.1)
 
 -- by the stream's type, which so many bytes encode; of every other type the stream is of no use
 abbrev pub header_by_type : ℕ → ℕ → Option (Verdict × ℕ) → Option (Verdict × ℕ)
-header_by_type kind at session =
-    if kind == control_type then Some (Control at, at) else
-    (if kind == encoder_type then Some (Encoder at, at) else
-    (if kind == decoder_type then Some (Decoder at, at) else
-    (if kind == webtransport_type then session else Some (Dropped, at))))
+header_by_type kind offset session =
+    if kind == control_type then Some (Control offset, offset) else
+    (if kind == encoder_type then Some (Encoder offset, offset) else
+    (if kind == decoder_type then Some (Decoder offset, offset) else
+    (if kind == webtransport_type then session else Some (Dropped, offset))))
 
 -- the header of a stream after its type, where that is whole
 abbrev pub typed_header_at : List ℕ → Option (ℕ × ℕ) → Option (Verdict × ℕ)
@@ -67,11 +67,11 @@ uni_verdict_of bytes end = or_at_stream_end end (uni_header_at bytes)
 -- a verdict that more bytes and an end don't change
 abbrev pub is_final : Verdict → Bool
 is_final Incomplete = false
-is_final (WebTransport session at) = true
-is_final (Control at) = true
-is_final (Encoder at) = true
-is_final (Decoder at) = true
-is_final (Request request at) = true
+is_final (WebTransport session offset) = true
+is_final (Control offset) = true
+is_final (Encoder offset) = true
+is_final (Decoder offset) = true
+is_final (Request request offset) = true
 is_final (Refused code) = true
 is_final Dropped = true
 is_final (Fault code) = true

@@ -45,7 +45,7 @@ pub record IsProper {S O : Type 0} (decide : S → List ℕ → Step S O) (p : W
 -- the first n bytes of a piece lead from one progress to the next, and in front of the last of them the walk didn't stop
 pub record Advances {S O : Type 0} (decide : S → List ℕ → Step S O) (old new : WalkProgress S O) (piece : List ℕ) (n : ℕ) : Type 0 where
   pub within : n ≤ length piece
-  pub taken : new ≡ progress_after decide old (take n piece)
+  pub fed : new ≡ progress_after decide old (take n piece)
   pub running : (k : ℕ) → k < n → (reached_in (progress_after decide old (take k piece))).stop ≡ None
 
 -- some first bytes of a piece do
@@ -67,7 +67,7 @@ pub record Reading (S O : Type 0) : Type 0 where
   pub progress : WalkProgress S O
   pub end : StreamEnd
 
--- the reader stands where one does that took these bytes, from this state on, and was told this end
+-- the reader stands where one does that took these bytes, from this state on, and learned this end
 abbrev pub HasRead : {S O : Type 0} → (S → List ℕ → Step S O) → S → Reading S O → List ℕ → StreamEnd → Type 0
 HasRead decide start r bytes end = r ≡ record { progress = progress_over decide start None 0 bytes; end = end }
 
@@ -75,6 +75,6 @@ HasRead decide start r bytes end = r ≡ record { progress = progress_over decid
 abbrev pub fed_reading : {S O : Type 0} → (S → List ℕ → Step S O) → Reading S O → List ℕ → Reading S O
 fed_reading decide r more = record { progress = progress_after decide r.progress more; end = r.end }
 
--- a reader's value once it took these bytes and was told the end
+-- a reader's value once it took these bytes and learned the end
 abbrev pub read_on : {S O : Type 0} → (S → List ℕ → Step S O) → Reading S O → List ℕ → StreamEnd → Reading S O
 read_on decide r bytes end = record { progress = progress_after decide r.progress bytes; end = end }

@@ -15,12 +15,12 @@ payload_wants kind header size = if is_known_type kind && nat_le size longest_pa
 
 -- of a frame whose type is read: its length, then its payload
 abbrev pub length_wants : List ℕ → ℕ → ℕ → Option (ℕ × ℕ) → ℕ
-length_wants bytes kind at None = at + varint_wants (drop at bytes)
-length_wants bytes kind at (Some l) = payload_wants kind (at + l.1) l.0
+length_wants bytes kind offset None = offset + varint_wants (drop offset bytes)
+length_wants bytes kind offset (Some l) = payload_wants kind (offset + l.1) l.0
 
 -- of a signal: the id of its session, where that is read
 abbrev pub id_wants : Bool → List ℕ → ℕ → ℕ
-id_wants reads_id bytes at = if reads_id then at + varint_wants (drop at bytes) else at
+id_wants reads_id bytes offset = if reads_id then offset + varint_wants (drop offset bytes) else offset
 
 -- of a frame by its type, where that is read
 abbrev pub type_wants : Bool → List ℕ → Option (ℕ × ℕ) → ℕ

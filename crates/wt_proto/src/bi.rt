@@ -6,7 +6,7 @@ ghost use Rattle.wt_message.specs.Requests.{request_of};
 
 use crate::cursor::walk_over;
 use crate::verdict::{Verdict, of_session, verdict_at_stream_end};
-use crate::walk::{Step, Walk, behind_item};
+use crate::walk::{Step, Walk, after_item};
 use crate::wanted::frame_wanted;
 use std::alloc::Global;
 use wt_message::session::{HeadersParseError, SessionRequest};
@@ -17,11 +17,11 @@ use wt_wire::side::StreamEnd;
 use wt_wire::varint::read_varint;
 
 /// What a request in front of this offset says.
-fn of_request(headers: Headers, at: usize) -> Verdict
-    ensures { result ≡ parsed_verdict at (request_of headers) }
+fn of_request(headers: Headers, offset: usize) -> Verdict
+    ensures { result ≡ parsed_verdict offset (request_of headers) }
 {
     match SessionRequest::try_from(headers) {
-        Ok(request) => Verdict::Request(request, at),
+        Ok(request) => Verdict::Request(request, offset),
         Err(HeadersParseError::MethodNotConnect) => Verdict::Refused(ErrorCode::RequestRejected),
         Err(HeadersParseError::Other) => Verdict::Refused(ErrorCode::Message),
     }
@@ -51,15 +51,15 @@ fn faulty(fault: ErrorCode, size: usize) -> Step<u64, Verdict>
 /// What the frame at this offset, from which the bytes stand, does. An offset above 2^64 - 1 is
 /// more than any memory counts.
 #[tactic(auto, unfolding(crate::specs::Bi::bi_decides))]
-fn bi_step(alloc: Global, at: u64, bytes: &[u8]) -> Result<Step<u64, Verdict>, OutOfMemory>
-    ensures { IfOk result (λ step. step ≡ bi_decides at bytes.now) }
+fn bi_step(alloc: Global, offset: u64, bytes: &[u8]) -> Result<Step<u64, Verdict>, OutOfMemory>
+    ensures { IfOk result (λ step. step ≡ bi_decides offset bytes.now) }
 {
     match parse_frame(bytes) {
         ParsedFrame::Incomplete => Ok(Step::Cut),
         ParsedFrame::Signal(id_at) => match read_varint(&bytes[id_at..]) {
             Some((id, length)) => {
                 let size = (id_at + length) as u64;
-                let next_offset = behind_item(at, size)?;
+                let next_offset = after_item(offset, size)?;
                 Ok(Step::Stops(of_session(id, next_offset as usize), size))
             }
             None => Ok(Step::Cut),
@@ -67,13 +67,13 @@ fn bi_step(alloc: Global, at: u64, bytes: &[u8]) -> Result<Step<u64, Verdict>, O
         ParsedFrame::TooLong(header) => Ok(faulty(ErrorCode::ExcessiveLoad, header)),
         ParsedFrame::Headers(header, size) => {
             let payload = &bytes[header..header + size];
-            let next_offset = behind_item(at, (header + size) as u64)?;
+            let next_offset = after_item(offset, (header + size) as u64)?;
             headers_step(alloc, payload, next_offset, header + size)
         }
         ParsedFrame::Data(header, size) | ParsedFrame::Settings(header, size) => {
             Ok(faulty(ErrorCode::FrameUnexpected, header + size))
         }
-        ParsedFrame::Skipped(_, size) => Ok(Step::Goes(behind_item(at, size)?, size)),
+        ParsedFrame::Skipped(_, size) => Ok(Step::Goes(after_item(offset, size)?, size)),
     }
 }
 
@@ -106,8 +106,8 @@ impl Walk for BiHeader {
         0
     }
 
-    fn step(alloc: Global, at: &u64, bytes: &[u8]) -> Result<Step<u64, Verdict>, OutOfMemory> {
-        bi_step(alloc, *at, bytes)
+    fn step(alloc: Global, offset: &u64, bytes: &[u8]) -> Result<Step<u64, Verdict>, OutOfMemory> {
+        bi_step(alloc, *offset, bytes)
     }
 
     fn wanted(bytes: &[u8]) -> usize {

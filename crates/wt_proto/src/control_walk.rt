@@ -72,7 +72,7 @@ fn control_step(settings: &Option<Settings>, bytes: &[u8]) -> Step<Option<Settin
 {
     match parse_frame(bytes) {
         ParsedFrame::Incomplete => Step::Cut,
-        ParsedFrame::Signal(at) => faulty(*settings, ErrorCode::FrameUnexpected, at as u64),
+        ParsedFrame::Signal(offset) => faulty(*settings, ErrorCode::FrameUnexpected, offset as u64),
         ParsedFrame::TooLong(header) => faulty(*settings, ErrorCode::ExcessiveLoad, header as u64),
         ParsedFrame::Data(header, size) | ParsedFrame::Headers(header, size) => {
             let whole = (header + size) as u64;

@@ -16,31 +16,31 @@ pub(crate) struct PassedItems<O> {
     pub(crate) stop: Option<O>,
     pub(crate) skip: u64,
     pub(crate) rest: usize,
-    pub(crate) taken: usize,
+    pub(crate) consumed: usize,
 }
 
 impl<O> PassedItems<O> {
     /// Nothing stopped the walk.
-    fn running(skip: u64, rest: usize, taken: usize) -> PassedItems<O>
-        ensures { result ≡ record { stop = None; skip = skip; rest = rest; taken = taken } }
+    fn running(skip: u64, rest: usize, consumed: usize) -> PassedItems<O>
+        ensures { result ≡ record { stop = None; skip = skip; rest = rest; consumed = consumed } }
     {
         PassedItems {
             stop: None,
             skip,
             rest,
-            taken,
+            consumed,
         }
     }
 
     /// An item stopped it.
-    fn stopped(outcome: O, skip: u64, taken: usize) -> PassedItems<O>
-        ensures { result ≡ record { stop = Some outcome; skip = skip; rest = taken; taken = taken } }
+    fn stopped(outcome: O, skip: u64, consumed: usize) -> PassedItems<O>
+        ensures { result ≡ record { stop = Some outcome; skip = skip; rest = consumed; consumed = consumed } }
     {
         PassedItems {
             stop: Some(outcome),
             skip,
-            rest: taken,
-            taken,
+            rest: consumed,
+            consumed,
         }
     }
 }
@@ -53,35 +53,35 @@ pub(crate) fn go_over<W: Walk>(
     bytes: &[u8],
 ) -> Result<PassedItems<W::Outcome>, OutOfMemory>
     requires { IsSteady W.decides }
-    ensures advances { IfOk result (λ p. Advances W.decides (at_item state.old) (progress_passed state.new p bytes.now) bytes.now p.taken) }
+    ensures advances { IfOk result (λ p. Advances W.decides (at_item state.old) (progress_passed state.new p bytes.now) bytes.now p.consumed) }
     ensures proper { IfOk result (λ p. IsProper W.decides (progress_passed state.new p bytes.now)) }
-    ensures ordered { IfOk result (λ p. p.rest ≤ p.taken) }
-    ensures all { IfOk result (λ p. p.taken < length bytes.now → (p.skip ≡ 0) × IsSome p.stop) }
-    ensures some { IfOk result (λ p. 0 < length bytes.now → 1 ≤ p.taken) }
-    ensures rest { IfOk result (λ p. p.rest < p.taken → Advances W.decides (at_item state.old) (at_item state.new) bytes.now p.rest) }
+    ensures ordered { IfOk result (λ p. p.rest ≤ p.consumed) }
+    ensures all { IfOk result (λ p. p.consumed < length bytes.now → (p.skip ≡ 0) × IsSome p.stop) }
+    ensures some { IfOk result (λ p. 0 < length bytes.now → 1 ≤ p.consumed) }
+    ensures rest { IfOk result (λ p. p.rest < p.consumed → Advances W.decides (at_item state.old) (at_item state.new) bytes.now p.rest) }
     ensures lost { OnErr result (AdvancesSome W.decides (at_item state.old) (at_item state.new) bytes.now) }
     ensures never { W.never_fails → IsOk result }
 {
-    let mut at = 0;
-    while at < bytes.len() {
-        let left = (bytes.len() - at) as u64;
-        match W::step(alloc, state, &bytes[at..]) {
+    let mut offset = 0;
+    while offset < bytes.len() {
+        let left = (bytes.len() - offset) as u64;
+        match W::step(alloc, state, &bytes[offset..]) {
             Err(error) => return Err(error),
-            Ok(Step::Cut) => return Ok(PassedItems::running(0, at, bytes.len())),
-            Ok(Step::Goes(next, size)) => {
-                *state = next;
+            Ok(Step::Cut) => return Ok(PassedItems::running(0, offset, bytes.len())),
+            Ok(Step::Goes(moved, size)) => {
+                *state = moved;
                 if left < size {
                     return Ok(PassedItems::running(size - left, bytes.len(), bytes.len()));
                 }
-                at += size as usize;
+                offset += size as usize;
             }
             Ok(Step::Stops(outcome, size)) => {
                 let n = size.min(left);
-                return Ok(PassedItems::stopped(outcome, size - n, at + n as usize));
+                return Ok(PassedItems::stopped(outcome, size - n, offset + n as usize));
             }
         }
     }
-    Ok(PassedItems::running(0, at, at))
+    Ok(PassedItems::running(0, offset, offset))
 }
 
 /// The walk over whole bytes and the end.
@@ -108,18 +108,18 @@ fn outcome_passed<W: Walk>(
     state: &W::State,
     passed: PassedItems<W::Outcome>,
 ) -> W::Outcome
-    requires { passed.rest ≤ passed.taken }
+    requires { passed.rest ≤ passed.consumed }
     ensures { result ≡ passed_outcome W.unfinished_at end state.now passed }
 {
     let PassedItems {
         stop,
         skip,
         rest,
-        taken,
+        consumed,
     } = passed;
     match stop {
         Some(outcome) if skip == 0 => outcome,
-        _ => W::unfinished(alloc, end, state, skip == 0 && rest == taken),
+        _ => W::unfinished(alloc, end, state, skip == 0 && rest == consumed),
     }
 }
 
@@ -198,8 +198,8 @@ fn decide_kept<W: Walk>(
         Ok(Step::Cut) => {
             cursor.wanted = W::wanted(cursor.kept.as_slice());
         }
-        Ok(Step::Goes(next, size)) => {
-            cursor.state = next;
+        Ok(Step::Goes(moved, size)) => {
+            cursor.state = moved;
             cursor.leave_item(size);
         }
         Ok(Step::Stops(outcome, size)) => {
@@ -254,12 +254,12 @@ fn pass_items<W: Walk>(
 {
     let alloc = *cursor.kept.allocator();
     let passed = go_over::<W>(alloc, &mut cursor.state, piece)?;
-    let rest = &piece[passed.rest..passed.taken];
+    let rest = &piece[passed.rest..passed.consumed];
     cursor.kept.extend_from_slice(rest)?;
     cursor.stop = passed.stop;
     cursor.skip = passed.skip;
     cursor.wanted = W::wanted(rest);
-    Ok(passed.taken)
+    Ok(passed.consumed)
 }
 
 /// Takes some bytes of a piece, of which there are some, in a walk that didn't stop.
@@ -299,12 +299,12 @@ pub(crate) fn take_in<W: Walk>(
     ensures all { IfOk result (λ n. n < length piece.now → (is_some cursor.new.stop && cursor.new.skip == 0) ≡ true) }
     ensures lost { OnErr result (AdvancesSome W.decides (progress_of cursor.old) (progress_of cursor.new) piece.now) }
 {
-    let mut taken = 0;
-    while taken < piece.len() && !cursor.is_over() {
-        match advance::<W>(cursor, &piece[taken..]) {
-            Ok(n) => taken += n,
+    let mut consumed = 0;
+    while consumed < piece.len() && !cursor.is_over() {
+        match advance::<W>(cursor, &piece[consumed..]) {
+            Ok(n) => consumed += n,
             Err(error) => return Err(error),
         }
     }
-    Ok(taken)
+    Ok(consumed)
 }

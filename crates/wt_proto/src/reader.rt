@@ -125,10 +125,10 @@ impl<W: Walk> StreamReader<W> {
             return Ok(0);
         }
         let alloc = *self.cursor.kept.allocator();
-        let taken = take_in::<W>(&mut self.cursor, piece);
+        let consumed = take_in::<W>(&mut self.cursor, piece);
         let between = self.cursor.is_between();
         self.unfinished = W::unfinished(alloc, self.end, &self.cursor.state, between);
-        taken
+        consumed
     }
 
     /// Takes the bytes of the piece up to the one with which the outcome is final, else all of them,
@@ -140,7 +140,7 @@ impl<W: Walk> StreamReader<W> {
         steps: &mut Steps<L>,
     ) -> Result<usize, OutOfMemory>
         ensures within { IfOk result (λ n. n ≤ length piece.now) }
-        ensures taken { IfOk result (λ n. self.new ≡ fed_reading W.decides self.old (take n piece.now)) }
+        ensures fed { IfOk result (λ n. self.new ≡ fed_reading W.decides self.old (take n piece.now)) }
         ensures read { (bytes : List ℕ) (end : StreamEnd) → HasRead W.decides W.start_state self.old bytes end →
             IfOk result (λ n. HasRead W.decides W.start_state self.new (bytes ++ take n piece.now) end) }
         ensures running { (bytes : List ℕ) (end : StreamEnd) (k : ℕ) → HasRead W.decides W.start_state self.old bytes end →

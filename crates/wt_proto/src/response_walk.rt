@@ -5,7 +5,7 @@ ghost use Rattle.wt_proto.specs.ResponseWalk.{headers_response, parsed_response,
 ghost use Rattle.wt_message.specs.Responses.{response_of};
 
 use crate::cursor::walk_over;
-use crate::walk::{Step, Walk, behind_item};
+use crate::walk::{Step, Walk, after_item};
 use crate::wanted::frame_wanted;
 use std::alloc::Global;
 use wt_message::session::SessionResponse;
@@ -28,11 +28,11 @@ pub enum ResponseWalk {
 }
 
 /// What a response in front of this offset says.
-fn of_response(headers: Headers, at: usize) -> ResponseWalk
-    ensures { result ≡ parsed_response at (response_of headers) }
+fn of_response(headers: Headers, offset: usize) -> ResponseWalk
+    ensures { result ≡ parsed_response offset (response_of headers) }
 {
     match SessionResponse::try_from(headers) {
-        Ok(response) => ResponseWalk::Response(response, at),
+        Ok(response) => ResponseWalk::Response(response, offset),
         Err(_) => ResponseWalk::Fault(ErrorCode::Message),
     }
 }
@@ -63,10 +63,10 @@ fn headers_step(
 #[tactic(auto, unfolding(crate::specs::ResponseWalk::response_decides))]
 fn response_step(
     alloc: Global,
-    at: u64,
+    offset: u64,
     bytes: &[u8],
 ) -> Result<Step<u64, ResponseWalk>, OutOfMemory>
-    ensures { IfOk result (λ step. step ≡ response_decides at bytes.now) }
+    ensures { IfOk result (λ step. step ≡ response_decides offset bytes.now) }
 {
     match parse_frame(bytes) {
         ParsedFrame::Incomplete => Ok(Step::Cut),
@@ -74,19 +74,19 @@ fn response_step(
         ParsedFrame::TooLong(header) => Ok(faulty(ErrorCode::ExcessiveLoad, header)),
         ParsedFrame::Headers(header, size) => {
             let payload = &bytes[header..header + size];
-            let next_offset = behind_item(at, (header + size) as u64)?;
+            let next_offset = after_item(offset, (header + size) as u64)?;
             headers_step(alloc, payload, next_offset, header + size)
         }
         ParsedFrame::Data(header, size) | ParsedFrame::Settings(header, size) => {
             Ok(faulty(ErrorCode::FrameUnexpected, header + size))
         }
-        ParsedFrame::Skipped(_, size) => Ok(Step::Goes(behind_item(at, size)?, size)),
+        ParsedFrame::Skipped(_, size) => Ok(Step::Goes(after_item(offset, size)?, size)),
     }
 }
 
 /// The walk where no frame stopped it.
 fn ended(end: StreamEnd) -> ResponseWalk
-    ensures { (at : ℕ) (between : Bool) → result ≡ response_unfinished end at between }
+    ensures { (offset : ℕ) (between : Bool) → result ≡ response_unfinished end offset between }
 {
     match end {
         StreamEnd::Running => ResponseWalk::Incomplete,
@@ -119,8 +119,12 @@ impl Walk for ResponseWalk {
         0
     }
 
-    fn step(alloc: Global, at: &u64, bytes: &[u8]) -> Result<Step<u64, ResponseWalk>, OutOfMemory> {
-        response_step(alloc, *at, bytes)
+    fn step(
+        alloc: Global,
+        offset: &u64,
+        bytes: &[u8],
+    ) -> Result<Step<u64, ResponseWalk>, OutOfMemory> {
+        response_step(alloc, *offset, bytes)
     }
 
     fn wanted(bytes: &[u8]) -> usize {

@@ -58,7 +58,7 @@ fn session_step(alloc: Global, bytes: &[u8]) -> Result<Step<(), SessionWalk>, Ou
 {
     match parse_frame(bytes) {
         ParsedFrame::Incomplete => Ok(Step::Cut),
-        ParsedFrame::Signal(at) => Ok(faulty(ErrorCode::FrameUnexpected, at as u64)),
+        ParsedFrame::Signal(offset) => Ok(faulty(ErrorCode::FrameUnexpected, offset as u64)),
         ParsedFrame::TooLong(header) => Ok(faulty(ErrorCode::ExcessiveLoad, header as u64)),
         ParsedFrame::Data(header, size) => {
             let payload = &bytes[header..header + size];

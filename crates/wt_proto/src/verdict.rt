@@ -47,11 +47,11 @@ pub(crate) fn verdict_at_stream_end(end: StreamEnd) -> Verdict
 }
 
 /// The session that a stream names in front of this offset.
-pub(crate) fn of_session(id: VarInt, at: usize) -> Verdict
-    ensures { result ≡ session_verdict id at }
+pub(crate) fn of_session(id: VarInt, offset: usize) -> Verdict
+    ensures { result ≡ session_verdict id offset }
 {
     match SessionId::try_from_session_stream(StreamId::new(id)) {
-        Some(session) => Verdict::WebTransport(session, at),
+        Some(session) => Verdict::WebTransport(session, offset),
         None => Verdict::Fault(ErrorCode::Id),
     }
 }
@@ -72,23 +72,23 @@ impl Verdict {
 fn uni_header(bytes: &[u8]) -> Option<(Verdict, usize)>
     ensures { result ≡ uni_header_at bytes.now }
 {
-    let (kind, at) = read_varint(bytes)?;
+    let (kind, offset) = read_varint(bytes)?;
     match kind.into_inner() {
-        0x00 => Some((Verdict::Control(at), at)),
-        0x02 => Some((Verdict::Encoder(at), at)),
-        0x03 => Some((Verdict::Decoder(at), at)),
-        0x54 => session_header(&bytes[at..], at),
-        _ => Some((Verdict::Dropped, at)),
+        0x00 => Some((Verdict::Control(offset), offset)),
+        0x02 => Some((Verdict::Encoder(offset), offset)),
+        0x03 => Some((Verdict::Decoder(offset), offset)),
+        0x54 => session_header(&bytes[offset..], offset),
+        _ => Some((Verdict::Dropped, offset)),
     }
 }
 
 /// The id of a session, after a type of so many bytes.
-fn session_header(bytes: &[u8], at: usize) -> Option<(Verdict, usize)>
-    requires { at ≤ 8 }
-    ensures { result ≡ session_header_at at (varint_at bytes.now) }
+fn session_header(bytes: &[u8], offset: usize) -> Option<(Verdict, usize)>
+    requires { offset ≤ 8 }
+    ensures { result ≡ session_header_at offset (varint_at bytes.now) }
 {
     let (id, length) = read_varint(bytes)?;
-    Some((of_session(id, at + length), at + length))
+    Some((of_session(id, offset + length), offset + length))
 }
 
 /// The walk over the header of a peer's unidirectional stream.

@@ -80,8 +80,8 @@ pub trait Walk {
 }
 
 /// The offset after an item. One above 2^64 - 1 is more than any memory counts.
-pub(crate) fn behind_item(at: u64, size: u64) -> Result<u64, OutOfMemory>
-    ensures { IfOk result (λ next_offset. next_offset ≡ at + size) }
+pub(crate) fn after_item(offset: u64, size: u64) -> Result<u64, OutOfMemory>
+    ensures { IfOk result (λ next_offset. next_offset ≡ offset + size) }
 {
-    at.checked_add(size).ok_or(OutOfMemory)
+    offset.checked_add(size).ok_or(OutOfMemory)
 }

@@ -36,14 +36,14 @@ fn payload_wanted(kind: u64, header: usize, size: u64) -> usize
     }
 }
 
-fn length_wanted(bytes: &[u8], kind: u64, at: usize) -> usize
-    requires within { at ≤ length bytes.now }
-    requires few { at ≤ 8 }
-    ensures { result ≡ length_wants bytes.now kind at (varint_at (drop at bytes.now)) }
+fn length_wanted(bytes: &[u8], kind: u64, offset: usize) -> usize
+    requires within { offset ≤ length bytes.now }
+    requires few { offset ≤ 8 }
+    ensures { result ≡ length_wants bytes.now kind offset (varint_at (drop offset bytes.now)) }
 {
-    match read_varint(&bytes[at..]) {
-        None => at + varint_wanted(&bytes[at..]),
-        Some((size, length)) => payload_wanted(kind, at + length, size.into_inner()),
+    match read_varint(&bytes[offset..]) {
+        None => offset + varint_wanted(&bytes[offset..]),
+        Some((size, length)) => payload_wanted(kind, offset + length, size.into_inner()),
     }
 }
 
@@ -54,13 +54,13 @@ pub(crate) fn frame_wanted(bytes: &[u8], reads_id: bool) -> usize
 {
     match read_varint(bytes) {
         None => varint_wanted(bytes),
-        Some((kind, at)) => {
+        Some((kind, offset)) => {
             if kind.into_inner() != 0x41 {
-                length_wanted(bytes, kind.into_inner(), at)
+                length_wanted(bytes, kind.into_inner(), offset)
             } else if reads_id {
-                at + varint_wanted(&bytes[at..])
+                offset + varint_wanted(&bytes[offset..])
             } else {
-                at
+                offset
             }
         }
     }
@@ -73,11 +73,11 @@ pub(crate) fn uni_wanted(bytes: &[u8]) -> usize
 {
     match read_varint(bytes) {
         None => varint_wanted(bytes),
-        Some((kind, at)) => {
+        Some((kind, offset)) => {
             if kind.into_inner() == 0x54 {
-                at + varint_wanted(&bytes[at..])
+                offset + varint_wanted(&bytes[offset..])
             } else {
-                at
+                offset
             }
         }
     }

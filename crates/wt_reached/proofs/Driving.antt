@@ -17,11 +17,11 @@ use Rattle.wt_laws.specs.Reachable.{IsReachable}
 use Rattle.wt_reached.proofs.Ends.{IsSession, Mild, mild-pending}
 use Rattle.wt_reached.proofs.Handshaking.{control-unfinished, control-unreset, established-sends, reached-holds}
 use Rattle.wt_reached.proofs.There.{session-receives}
-use Rattle.wt_reached.specs.Driving.{KeepsOwnStreams}
+use Rattle.wt_reached.specs.Driving.{KeepsLocalStreams}
 use Rattle.wt_spec.specs.Driver.{ControlSent, apply_if, close_actions, control_actions, control_sent, established_session, flush, is_moment, opened_if, pending_actions, session_id, stop_actions, stream_table}
 use Rattle.wt_spec.specs.StreamTable.{ByFault, BySession, Ending, Stopped}
 
-pub driver-facts : (side : Side) (log : Log) → IsReachable side log → KeepsOwnStreams side log
+pub driver-facts : (side : Side) (log : Log) → IsReachable side log → KeepsLocalStreams side log
 driver-facts side log r =
     let h = reached-holds side log r in
     record {
@@ -36,17 +36,17 @@ driver-facts side log r =
 -- ---- one action more
 
 exists-later : (side : Side) (a : Action) (log : Log) (k : ℕ) → exists side log k ≡ true → exists side (Sent a ∷ log) k ≡ true
-exists-later side a log k e = at (opens (k % 4) a)
+exists-later side a log k e = by (opens (k % 4) a)
   where
-    at : (b : Bool) → nat_lt (k / 4) (peer_count side (all_events_of log) (k % 4) + one_more_if b (local_count (actions_of log) (k % 4))) ≡ true
-    at true = lt-ltb (k / 4) (peer_count side (all_events_of log) (k % 4) + (local_count (actions_of log) (k % 4) + 1)) (let l = ltb-true (k / 4) (peer_count side (all_events_of log) (k % 4) + local_count (actions_of log) (k % 4)) e in omega arith)
-    at false = e
+    by : (b : Bool) → nat_lt (k / 4) (peer_count side (all_events_of log) (k % 4) + one_more_if b (local_count (actions_of log) (k % 4))) ≡ true
+    by true = lt-ltb (k / 4) (peer_count side (all_events_of log) (k % 4) + (local_count (actions_of log) (k % 4) + 1)) (let l = ltb-true (k / 4) (peer_count side (all_events_of log) (k % 4) + local_count (actions_of log) (k % 4)) e in omega arith)
+    by false = e
 
 pub half-later : (side : Side) (a : Action) (log : Log) (k kind : ℕ) → (exists side log k && not (kind == k % 4)) ≡ true → (exists side (Sent a ∷ log) k && not (kind == k % 4)) ≡ true
 half-later side a log k kind c = let p = and_parts (exists side log k) (not (kind == k % 4)) c in and_from (exists side (Sent a ∷ log) k) (not (kind == k % 4)) (exists-later side a log k p.0) p.1
 
 -- the session's stream isn't this end's control stream
-session-apart : (side : Side) (log : Log) → KeepsOwnStreams side log → IsSession (calls_of log) (local_uni side) → ⊥
+session-apart : (side : Side) (log : Log) → KeepsLocalStreams side log → IsSession (calls_of log) (local_uni side) → ⊥
 session-apart side log h s =
     absurd (let r = subst (λ (j : ℕ). can_receive side log j ≡ true) s.2 (h.session_receives s.0 s.1) in let n = (and_parts (exists side log (local_uni side)) (not (local_uni side == local_uni side % 4)) r).1 in let y = self side in cc)
   where
@@ -54,7 +54,7 @@ session-apart side log h s =
     self Client = refl
     self Server = refl
 
-later-facts : (side : Side) (as_ : List Action) (log : Log) → Mild (calls_of log) as_ → KeepsOwnStreams side log → KeepsOwnStreams side (with_actions as_ log)
+later-facts : (side : Side) (as_ : List Action) (log : Log) → Mild (calls_of log) as_ → KeepsLocalStreams side log → KeepsLocalStreams side (with_actions as_ log)
 later-facts side [] log m h = h
 later-facts side (a ∷ as_) log m h = later-facts side as_ (Sent a ∷ log) m.1 (record {
   sends = record {
@@ -65,14 +65,14 @@ later-facts side (a ∷ as_) log m h = later-facts side as_ (Sent a ∷ log) m.1
   session_receives = λ s e. half-later side a log s.0 (local_uni side) (h.session_receives s e);
 })
 
-pub facts-flushed : (side : Side) (log : Log) → KeepsOwnStreams side log → KeepsOwnStreams side (flush side log)
+pub facts-flushed : (side : Side) (log : Log) → KeepsLocalStreams side log → KeepsLocalStreams side (flush side log)
 unfolding flush
 facts-flushed side [] h = h
-facts-flushed side (e ∷ log) h = at (is_moment e && is_open (e ∷ log))
+facts-flushed side (e ∷ log) h = by (is_moment e && is_open (e ∷ log))
   where
-    at : (b : Bool) → KeepsOwnStreams side (apply_if b (with_actions (pending_actions side (e ∷ log))) (e ∷ log))
-    at true = later-facts side (pending_actions side (e ∷ log)) (e ∷ log) (mild-pending side (e ∷ log)) h
-    at false = h
+    by : (b : Bool) → KeepsLocalStreams side (apply_if b (with_actions (pending_actions side (e ∷ log))) (e ∷ log))
+    by true = later-facts side (pending_actions side (e ∷ log)) (e ∷ log) (mild-pending side (e ∷ log)) h
+    by false = h
 
 -- ---- before an action
 
@@ -123,7 +123,7 @@ half-before : (side : Side) (a : Action) (log : Log) (k kind : ℕ) → opens (k
 half-before side a log k kind o c =
     ap (λ (b : Bool). nat_lt (k / 4) (peer_count side (all_events_of log) (k % 4) + one_more_if b (local_count (actions_of log) (k % 4))) && not (kind == k % 4)) (sym o) ∙ c
 
-facts-before : (side : Side) (as_ : List Action) (log : Log) → OpensControl side as_ → KeepsOwnStreams side (with_actions as_ log) → KeepsOwnStreams side log
+facts-before : (side : Side) (as_ : List Action) (log : Log) → OpensControl side as_ → KeepsLocalStreams side (with_actions as_ log) → KeepsLocalStreams side log
 facts-before side [] log o h = h
 facts-before side (a ∷ as_) log o h =
     let g = facts-before side as_ (Sent a ∷ log) o.1 h in
@@ -136,14 +136,14 @@ facts-before side (a ∷ as_) log o h =
       session_receives = λ s e. half-before side a log s.0 (local_uni side) (unopened g s e) (g.session_receives s e);
     }
   where
-    unopened : KeepsOwnStreams side (Sent a ∷ log) → (s : ℕ × ℕ) → established_session (calls_of log) ≡ Some s → opens (s.0 % 4) a ≡ false
+    unopened : KeepsLocalStreams side (Sent a ∷ log) → (s : ℕ × ℕ) → established_session (calls_of log) ≡ Some s → opens (s.0 % 4) a ≡ false
     unopened g s e = o.0 (s.0 % 4) (not-true _ (and_parts (exists side (Sent a ∷ log) s.0) (not (local_uni side == s.0 % 4)) (g.session_receives s e)).1)
 
-pub facts-unflushed : (side : Side) (log : Log) → KeepsOwnStreams side (flush side log) → KeepsOwnStreams side log
+pub facts-unflushed : (side : Side) (log : Log) → KeepsLocalStreams side (flush side log) → KeepsLocalStreams side log
 unfolding flush
 facts-unflushed side [] h = h
-facts-unflushed side (e ∷ log) h = at (is_moment e && is_open (e ∷ log)) h
+facts-unflushed side (e ∷ log) h = by (is_moment e && is_open (e ∷ log)) h
   where
-    at : (b : Bool) → KeepsOwnStreams side (apply_if b (with_actions (pending_actions side (e ∷ log))) (e ∷ log)) → KeepsOwnStreams side (e ∷ log)
-    at true h = facts-before side (pending_actions side (e ∷ log)) (e ∷ log) (opens-pending side (e ∷ log)) h
-    at false h = h
+    by : (b : Bool) → KeepsLocalStreams side (apply_if b (with_actions (pending_actions side (e ∷ log))) (e ∷ log)) → KeepsLocalStreams side (e ∷ log)
+    by true h = facts-before side (pending_actions side (e ∷ log)) (e ∷ log) (opens-pending side (e ∷ log)) h
+    by false h = h

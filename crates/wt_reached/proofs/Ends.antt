@@ -92,11 +92,11 @@ module _ (side : Side) (turn : Turn) where
 
   ends-flush : (e : Entry) (log : Log) → Ends side (e ∷ log) → Ends side (log_and_flush side log e)
   unfolding flush
-  ends-flush e log h = at (is_moment e && is_open (e ∷ log))
+  ends-flush e log h = by (is_moment e && is_open (e ∷ log))
     where
-      at : (b : Bool) → Ends side (apply_if b (with_actions (pending_actions side (e ∷ log))) (e ∷ log))
-      at true = ends-driver (pending_actions side (e ∷ log)) (e ∷ log) (mild-pending side (e ∷ log)) h
-      at false = h
+      by : (b : Bool) → Ends side (apply_if b (with_actions (pending_actions side (e ∷ log))) (e ∷ log))
+      by true = ends-driver (pending_actions side (e ∷ log)) (e ∷ log) (mild-pending side (e ∷ log)) h
+      by false = h
 
   -- ---- what a call sends
 
@@ -130,7 +130,7 @@ module _ (side : Side) (turn : Turn) where
   new-unsent log k _ c e = absurd (cc)
 
   still-session : (log : Log) (k : ℕ) (r : CallRecord) → Ends side log → RecordCause side turn log r → IsSession (calls_of log) k → IsSession (r ∷ calls_of log) k
-  still-session log k (SessionEstablished id at) h c s = absurd (no-new-session side log c.own c.before c.is c.under_way h.given.handshakes (ap is_some s.1))
+  still-session log k (SessionEstablished id by) h c s = absurd (no-new-session side log c.own c.before c.is c.under_way h.given.handshakes (ap is_some s.1))
   still-session log k _ h c s = s
 
   still-finished : (log : Log) (k : ℕ) (r : CallRecord) → (is_accepted log k ≡ true) ⊎ (list_any (delivers k) (calls_of log) ≡ true) → (is_accepted (Called r ∷ log) k ≡ true) ⊎ (list_any (delivers k) (r ∷ calls_of log) ≡ true)

@@ -43,34 +43,34 @@ module _ (side : Side) (log : Log) (h : Reached side log) where
   opening-there k o = opening-sends side log h.out.heads k (and_parts (list_any (starts_opening k) (calls_of log)) _ o).0
 
   pub opening-unfinished : (k : ℕ) → is_opening log k ≡ true → is_finished (actions_of log) k ≡ false
-  opening-unfinished k o = not-true-so (is_finished (actions_of log) k) (λ f. at (h.ends.finished k f))
+  opening-unfinished k o = not-true-so (is_finished (actions_of log) k) (λ f. by (h.ends.finished k f))
     where
-      at : (is_accepted log k ≡ true) ⊎ (list_any (delivers k) (calls_of log) ≡ true) → ⊥
-      at (inl a) = opening-unaccepted k o a
-      at (inr d) = not-request side log h.out.heads k (h.out.heads.given.facts_hold.openings k (and_parts (list_any (starts_opening k) (calls_of log)) _ o).0) d
+      by : (is_accepted log k ≡ true) ⊎ (list_any (delivers k) (calls_of log) ≡ true) → ⊥
+      by (inl a) = opening-unaccepted k o a
+      by (inr d) = not-request side log h.out.heads k (h.out.heads.given.facts_hold.openings k (and_parts (list_any (starts_opening k) (calls_of log)) _ o).0) d
 
   pub opening-unreset : (k : ℕ) → is_opening log k ≡ true → is_reset log k ≡ false
-  opening-unreset k o = not-true-so (is_reset log k) (λ f. at (h.ends.reset k f))
+  opening-unreset k o = not-true-so (is_reset log k) (λ f. by (h.ends.reset k f))
     where
-      at : (is_accepted log k ≡ true) ⊎ IsSession (calls_of log) k → ⊥
-      at (inl a) = opening-unaccepted k o a
-      at (inr s) = session-not-opening side h.frame log h.out k s (and_parts (list_any (starts_opening k) (calls_of log)) _ o).0
+      by : (is_accepted log k ≡ true) ⊎ IsSession (calls_of log) k → ⊥
+      by (inl a) = opening-unaccepted k o a
+      by (inr s) = session-not-opening side h.frame log h.out k s (and_parts (list_any (starts_opening k) (calls_of log)) _ o).0
 
   -- ---- this end's control stream
 
   pub control-unfinished : is_finished (actions_of log) (local_uni side) ≡ false
-  control-unfinished = not-true-so (is_finished (actions_of log) (local_uni side)) (λ f. at (h.ends.finished (local_uni side) f))
+  control-unfinished = not-true-so (is_finished (actions_of log) (local_uni side)) (λ f. by (h.ends.finished (local_uni side) f))
     where
-      at : (is_accepted log (local_uni side) ≡ true) ⊎ (list_any (delivers (local_uni side)) (calls_of log) ≡ true) → ⊥
-      at (inl a) = control-not-given side log h.out.heads a
-      at (inr d) = not-request side log h.out.heads (local_uni side) (is-local-uni side) d
+      by : (is_accepted log (local_uni side) ≡ true) ⊎ (list_any (delivers (local_uni side)) (calls_of log) ≡ true) → ⊥
+      by (inl a) = control-not-given side log h.out.heads a
+      by (inr d) = not-request side log h.out.heads (local_uni side) (is-local-uni side) d
 
   pub control-unreset : is_reset log (local_uni side) ≡ false
-  control-unreset = not-true-so (is_reset log (local_uni side)) (λ f. at (h.ends.reset (local_uni side) f))
+  control-unreset = not-true-so (is_reset log (local_uni side)) (λ f. by (h.ends.reset (local_uni side) f))
     where
-      at : (is_accepted log (local_uni side) ≡ true) ⊎ IsSession (calls_of log) (local_uni side) → ⊥
-      at (inl a) = control-not-given side log h.out.heads a
-      at (inr s) = session-not-control side h.frame log h.out s
+      by : (is_accepted log (local_uni side) ≡ true) ⊎ IsSession (calls_of log) (local_uni side) → ⊥
+      by (inl a) = control-not-given side log h.out.heads a
+      by (inr s) = session-not-control side h.frame log h.out s
 
   pub established-sends : (s : ℕ × ℕ) → established_session (calls_of log) ≡ Some s → can_send side log s.0 ≡ true
   established-sends s e = session-sends side h.frame log h.out s.0 (s, e, refl)
@@ -96,11 +96,11 @@ module _ (side : Side) (log : Log) (h : Reached side log) where
     request-there = request-sends side log h.out.heads id was-delivered
 
     pub request-unreset : is_reset log (requested_stream (calls_of log)) ≡ false
-    request-unreset = not-true-so (is_reset log id) (λ f. at (h.ends.reset id f))
+    request-unreset = not-true-so (is_reset log id) (λ f. by (h.ends.reset id f))
       where
-        at : (is_accepted log id ≡ true) ⊎ IsSession (calls_of log) id → ⊥
-        at (inl a) = request-not-accepted side log h.out.heads id was-delivered a
-        at (inr s) = none-established id (request-under-way (handshake_state (calls_of log)) q) s
+        by : (is_accepted log id ≡ true) ⊎ IsSession (calls_of log) id → ⊥
+        by (inl a) = request-not-accepted side log h.out.heads id was-delivered a
+        by (inr s) = none-established id (request-under-way (handshake_state (calls_of log)) q) s
 
     -- it is the session's stream
     pub request-frame : is_finished (actions_of log) id ≡ true → h.frame ≡ Some (sent_on (actions_of log) id)
@@ -116,11 +116,11 @@ module _ (side : Side) (log : Log) (h : Reached side log) where
   -- before its answer nothing is out on it
   module _ (s : HandshakeState) (i : handshake_state (calls_of log) ≡ s) (w : awaits_answer s ≡ true) where
     unanswered-so : (has_request s ≡ true) × (is_unanswered s ≡ true)
-    unanswered-so = at s w
+    unanswered-so = by s w
       where
-        at : (s : HandshakeState) → awaits_answer s ≡ true → (has_request s ≡ true) × (is_unanswered s ≡ true)
-        at (Requested id) w = (refl, refl)
-        at _ w = absurd (cc)
+        by : (s : HandshakeState) → awaits_answer s ≡ true → (has_request s ≡ true) × (is_unanswered s ≡ true)
+        by (Requested id) w = (refl, refl)
+        by _ w = absurd (cc)
 
     pub asking : has_request (handshake_state (calls_of log)) ≡ true
     asking = ap has_request i ∙ unanswered-so.0
@@ -153,15 +153,15 @@ module _ (side : Side) (log : Log) (h : Reached side log) where
     connect-unaccepted a = not-given side h.frame log (local_bi side) h.out (for-client side (calls_of log) (local_bi side) (h.out.connecting reserved head e).1 refl) a
 
     pub connect-unfinished : is_finished (actions_of log) (local_bi side) ≡ false
-    connect-unfinished = not-true-so (is_finished (actions_of log) (local_bi side)) (λ f. at (h.ends.finished (local_bi side) f))
+    connect-unfinished = not-true-so (is_finished (actions_of log) (local_bi side)) (λ f. by (h.ends.finished (local_bi side) f))
       where
-        at : (is_accepted log (local_bi side) ≡ true) ⊎ (list_any (delivers (local_bi side)) (calls_of log) ≡ true) → ⊥
-        at (inl a) = connect-unaccepted a
-        at (inr d) = not-request side log h.out.heads (local_bi side) (is-local-bi side) d
+        by : (is_accepted log (local_bi side) ≡ true) ⊎ (list_any (delivers (local_bi side)) (calls_of log) ≡ true) → ⊥
+        by (inl a) = connect-unaccepted a
+        by (inr d) = not-request side log h.out.heads (local_bi side) (is-local-bi side) d
 
     pub connect-unreset : is_reset log (local_bi side) ≡ false
-    connect-unreset = not-true-so (is_reset log (local_bi side)) (λ f. at (h.ends.reset (local_bi side) f))
+    connect-unreset = not-true-so (is_reset log (local_bi side)) (λ f. by (h.ends.reset (local_bi side) f))
       where
-        at : (is_accepted log (local_bi side) ≡ true) ⊎ IsSession (calls_of log) (local_bi side) → ⊥
-        at (inl a) = connect-unaccepted a
-        at (inr s) = none-established (local_bi side) (ap is_under_way e) s
+        by : (is_accepted log (local_bi side) ≡ true) ⊎ IsSession (calls_of log) (local_bi side) → ⊥
+        by (inl a) = connect-unaccepted a
+        by (inr s) = none-established (local_bi side) (ap is_under_way e) s

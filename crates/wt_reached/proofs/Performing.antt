@@ -22,9 +22,9 @@ module _ (side : Side) (log : Log) (call : Call) (r : IsReachable side log) (l :
     record { act = a; spares = s },
     record { may = m.may; can = m.can; half = m.half; sends = λ o. (step-facts side log call r l own made reply e).sends },
   )
-  performs (Establish own id at) e a s m = (
+  performs (Establish own id offset) e a s m = (
     record { act = a; spares = s },
-    record { may = m.may; can = m.can; half = m.half; sends = λ o. (establish-facts side log call r l own id at e).sends },
+    record { may = m.may; can = m.can; half = m.half; sends = λ o. (establish-facts side log call r l own id offset e).sends },
   )
   performs (AcceptUni session) e a s m = tt
   performs (AcceptBi session) e a s m = tt

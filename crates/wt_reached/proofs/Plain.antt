@@ -13,7 +13,7 @@ use Rattle.wt_turn.specs.declared.turn.Turn.TheVariants as turns
 use Rattle.wt_wire.specs.declared.side.Side.{Side}
 use Rattle.wt_laws.specs.Reachable.{AfterTurn, IsReachable}
 use Rattle.wt_reached.proofs.Driving.{driver-facts, facts-unflushed, half-later}
-use Rattle.wt_reached.specs.Driving.{KeepsOwnStreams, leaves_driver}
+use Rattle.wt_reached.specs.Driving.{KeepsLocalStreams, leaves_driver}
 use Rattle.wt_session_spec.proofs.Theorems.{planned_theorem}
 use Rattle.wt_session_spec.specs.CallFacts.{facts_of}
 use Rattle.wt_session_spec.specs.Plan.{Establish, Plan, Step, perform}
@@ -37,11 +37,11 @@ action-leaves side _ p = refl
 
 record-leaves : (side : Side) (r : CallRecord) → leaves_driver side (Called r) ≡ true → resets (local_uni side) (Called r) ≡ false
 record-leaves side (ResetUnsent id code) p = not-true _ p
-record-leaves side (SessionEstablished id at) p = refl
+record-leaves side (SessionEstablished id offset) p = refl
 record-leaves side _ p = refl
 
 same-established : (side : Side) (r : CallRecord) (cs : List CallRecord) → leaves_driver side (Called r) ≡ true → established_session (r ∷ cs) ≡ established_session cs
-same-established side (SessionEstablished id at) cs p = absurd (cc)
+same-established side (SessionEstablished id offset) cs p = absurd (cc)
 same-established side (ResetUnsent id code) cs p = refl
 same-established side _ cs p = refl
 
@@ -49,14 +49,14 @@ counts-more : (b : Bool) (k p n : ℕ) → nat_lt k (p + n) ≡ true → nat_lt 
 counts-more true k p n e = lt-ltb k ((p + 1) + n) (let l = ltb-true k (p + n) e in omega arith)
 counts-more false k p n e = e
 
--- a half stays once the transport told more
-half-told : (side : Side) (e : Event) (log : Log) (k kind : ℕ) → (exists side log k && not (kind == k % 4)) ≡ true
+-- a half stays once the transport reported more
+half-reported : (side : Side) (e : Event) (log : Log) (k kind : ℕ) → (exists side log k && not (kind == k % 4)) ≡ true
     → (nat_lt (k / 4) (one_more_if (peer_opens side (k % 4) e) (peer_count side (all_events_of log) (k % 4)) + local_count (actions_of log) (k % 4)) && not (kind == k % 4)) ≡ true
-half-told side e log k kind c =
+half-reported side e log k kind c =
     let p = and_parts (exists side log k) (not (kind == k % 4)) c in
     and_from _ (not (kind == k % 4)) (counts-more (peer_opens side (k % 4) e) (k / 4) (peer_count side (all_events_of log) (k % 4)) (local_count (actions_of log) (k % 4)) p.0) p.1
 
-pub facts-stay : (side : Side) (e : Entry) (log : Log) → leaves_driver side e ≡ true → KeepsOwnStreams side log → KeepsOwnStreams side (e ∷ log)
+pub facts-stay : (side : Side) (e : Entry) (log : Log) → leaves_driver side e ≡ true → KeepsLocalStreams side log → KeepsLocalStreams side (e ∷ log)
 facts-stay side (Sent a) log p h = record {
   sends = record {
     unfinished = ap (λ b. b || is_finished (actions_of log) (local_uni side)) (not-finishing side a p) ∙ h.sends.unfinished;
@@ -77,30 +77,30 @@ facts-stay side (Reported e) log p h = record {
   sends = record {
     unfinished = h.sends.unfinished;
     unreset = h.sends.unreset;
-    session = λ s q. half-told side e log s.0 (peer_uni side) (h.sends.session s q);
+    session = λ s q. half-reported side e log s.0 (peer_uni side) (h.sends.session s q);
   };
-  session_receives = λ s q. half-told side e log s.0 (local_uni side) (h.session_receives s q);
+  session_receives = λ s q. half-reported side e log s.0 (local_uni side) (h.session_receives s q);
 }
 facts-stay side (ReportedLate e) log p h = record {
   sends = record {
     unfinished = h.sends.unfinished;
     unreset = h.sends.unreset;
-    session = λ s q. half-told side e log s.0 (peer_uni side) (h.sends.session s q);
+    session = λ s q. half-reported side e log s.0 (peer_uni side) (h.sends.session s q);
   };
-  session_receives = λ s q. half-told side e log s.0 (local_uni side) (h.session_receives s q);
+  session_receives = λ s q. half-reported side e log s.0 (local_uni side) (h.session_receives s q);
 }
 facts-stay side (Received id b) log p h = record { sends = record { unfinished = h.sends.unfinished; unreset = h.sends.unreset; session = h.sends.session }; session_receives = h.session_receives }
 
 -- ---- a call's moment
 
 module _ (side : Side) (log : Log) (call : Call) (r : IsReachable side log) (l : is_lawful side log (turns.Call call) ≡ true) where
-  performed : (plan : Plan) → plan_of (facts_of side log) (session_state log) call ≡ plan → KeepsOwnStreams side (perform side log plan).log
-  performed plan e = subst (KeepsOwnStreams side) (ap (λ (x : Effect). x.log) (planned_theorem side log call ∙ ap (perform side log) e)) (driver-facts side (log_after side log (turns.Call call)) (AfterTurn (turns.Call call) r l))
+  performed : (plan : Plan) → plan_of (facts_of side log) (session_state log) call ≡ plan → KeepsLocalStreams side (perform side log plan).log
+  performed plan e = subst (KeepsLocalStreams side) (ap (λ (x : Effect). x.log) (planned_theorem side log call ∙ ap (perform side log) e)) (driver-facts side (log_after side log (turns.Call call)) (AfterTurn (turns.Call call) r l))
 
-  pub step-facts : (own : List Action) (c : CallRecord) (reply : Reply) → plan_of (facts_of side log) (session_state log) call ≡ Step own c reply → KeepsOwnStreams side (Called c ∷ with_actions own log)
+  pub step-facts : (own : List Action) (c : CallRecord) (reply : Reply) → plan_of (facts_of side log) (session_state log) call ≡ Step own c reply → KeepsLocalStreams side (Called c ∷ with_actions own log)
   step-facts own c reply e = facts-unflushed side (Called c ∷ with_actions own log) (performed (Step own c reply) e)
 
-  pub establish-facts : (own : List Action) (id at : ℕ) → plan_of (facts_of side log) (session_state log) call ≡ Establish own id at → KeepsOwnStreams side (Called (SessionEstablished id at) ∷ with_actions own log)
-  establish-facts own id at e =
-      let h = facts-unflushed side (Called Polled ∷ log_call side log own (SessionEstablished id at)) (performed (Establish own id at) e) in
-      facts-unflushed side (Called (SessionEstablished id at) ∷ with_actions own log) (record { sends = record { unfinished = h.sends.unfinished; unreset = h.sends.unreset; session = h.sends.session }; session_receives = h.session_receives })
+  pub establish-facts : (own : List Action) (id offset : ℕ) → plan_of (facts_of side log) (session_state log) call ≡ Establish own id offset → KeepsLocalStreams side (Called (SessionEstablished id offset) ∷ with_actions own log)
+  establish-facts own id offset e =
+      let h = facts-unflushed side (Called Polled ∷ log_call side log own (SessionEstablished id offset)) (performed (Establish own id offset) e) in
+      facts-unflushed side (Called (SessionEstablished id offset) ∷ with_actions own log) (record { sends = record { unfinished = h.sends.unfinished; unreset = h.sends.unreset; session = h.sends.session }; session_receives = h.session_receives })

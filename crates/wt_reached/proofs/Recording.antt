@@ -66,19 +66,19 @@ verdict_in (Some c) = Some c.verdict
 
 pub found-verdict : (k : ℕ) (cs : List Classified) → verdict_of k cs ≡ verdict_in (classified_of k cs)
 found-verdict k [] = refl
-found-verdict k (c ∷ cs) = at (c.id == k) (found-verdict k cs)
+found-verdict k (c ∷ cs) = by (c.id == k) (found-verdict k cs)
   where
-    at : (b : Bool) → verdict_of k cs ≡ verdict_in (classified_of k cs) → (if b then Some c.verdict else verdict_of k cs) ≡ verdict_in (if b then Some c else classified_of k cs)
-    at true e = refl
-    at false e = e
+    by : (b : Bool) → verdict_of k cs ≡ verdict_in (classified_of k cs) → (if b then Some c.verdict else verdict_of k cs) ≡ verdict_in (if b then Some c else classified_of k cs)
+    by true e = refl
+    by false e = e
 
 found-stays : (k : ℕ) (x c : Classified) (cs : List Classified) → classified_of k cs ≡ Some c → classified_of k (cs ++ x ∷ []) ≡ Some c
 found-stays k x c [] e = absurd (cc)
-found-stays k x c (y ∷ cs) e = at (y.id == k) e (found-stays k x c cs)
+found-stays k x c (y ∷ cs) e = by (y.id == k) e (found-stays k x c cs)
   where
-    at : (b : Bool) → (if b then Some y else classified_of k cs) ≡ Some c → (classified_of k cs ≡ Some c → classified_of k (cs ++ x ∷ []) ≡ Some c) → (if b then Some y else classified_of k (cs ++ x ∷ [])) ≡ Some c
-    at true e f = e
-    at false e f = f e
+    by : (b : Bool) → (if b then Some y else classified_of k cs) ≡ Some c → (classified_of k cs ≡ Some c → classified_of k (cs ++ x ∷ []) ≡ Some c) → (if b then Some y else classified_of k (cs ++ x ∷ [])) ≡ Some c
+    by true e f = e
+    by false e f = f e
 
 entry-stays : (side : Side) (k : ℕ) (c : Classified) (e : Entry) (log : Log) → classified_of k (stream_table side log).classified ≡ Some c → classified_of k (stream_table side (e ∷ log)).classified ≡ Some c
 entry-stays side k c e log p =
@@ -95,7 +95,7 @@ queued-stays : (side : Side) (e : Entry) (log : Log) (k : ℕ) → IsQueued side
 queued-stays side e log k q = record { request = q.request; is_found = entry-stays side k q.request e log q.is_found; queued = q.queued }
 
 pub delivers-queued : (side : Side) {turn : Turn} (log : Log) (k : ℕ) → DeliverCause side turn log k → IsQueued side log k
-delivers-queued side log k c = at (settings_came side log) c.first
+delivers-queued side log k c = by (settings_came side log) c.first
   where
     cs : List Classified
     cs = (stream_table side log).classified
@@ -113,13 +113,13 @@ delivers-queued side log k c = at (settings_came side log) c.first
           queued = (and_parts (not (list_any (delivers c.queued.id) (calls_of log))) _ p.1).1;
         }
 
-    at : (b : Bool) → (if b then (dispatched_streams (call_view log) (stream_table side log).classified).requests else []) ≡ c.queued ∷ c.later → IsQueued side log k
-    at true e = picks e
-    at false e = absurd (cc)
+    by : (b : Bool) → (if b then (dispatched_streams (call_view log) (stream_table side log).classified).requests else []) ≡ c.queued ∷ c.later → IsQueued side log k
+    by true e = picks e
+    by false e = absurd (cc)
 
 request-end-of : (v : Verdict) (s : Bool) → (is_request v && not s) ≡ true → request_at s v ≡ Some (request_end (Some v))
-request-end-of (verdicts.Request headers at) false e = refl
-request-end-of (verdicts.Request headers at) true e = absurd (cc)
+request-end-of (verdicts.Request headers offset) false e = refl
+request-end-of (verdicts.Request headers offset) true e = absurd (cc)
 request-end-of _ s e = absurd (cc)
 
 pub queued-end : (side : Side) (log : Log) (k : ℕ) → IsQueued side log k → queued_at (classified_of k (stream_table side log).classified) ≡ Some (request_end (verdict_of k (stream_table side log).classified))
@@ -154,7 +154,7 @@ new-queued side turn log k _ c e = absurd (cc)
 
 passed-there : (side : Side) (turn : Turn) (log : Log) (k : ℕ) → FoundStream side turn log k false → IsThere side log k
 passed-there side turn log k f =
-    (f.found.verdict, subst (λ (j : ℕ). verdict_of j (stream_table side log).classified ≡ Some f.found.verdict) f.same (next-is-due side log (accepted_kind side turn) f.session f.found f.next).among)
+    (f.found.verdict, subst (λ (j : ℕ). verdict_of j (stream_table side log).classified ≡ Some f.found.verdict) f.same (next-is-due side log (accepted_kind side turn) f.session f.found f.is_next).among)
 
 new-passed : (side : Side) (turn : Turn) (log : Log) (k : ℕ) (r : CallRecord) → RecordCause side turn log r → passes k r ≡ true → IsThere side log k
 new-passed side turn log k (StreamPassed id) c e = subst (λ (j : ℕ). IsThere side log j) (eqb-true id k e) (passed-there side turn log id c)
@@ -165,7 +165,7 @@ new-goes-on : (side : Side) (turn : Turn) (log : Log) (r : CallRecord) (reserved
 new-goes-on side turn log (ConnectStarted o h) reserved head k g c e = ap (λ (cs : List CallRecord). (use_of k cs).is_over) c.first
 new-goes-on side turn log (RequestDelivered id) reserved head k g c e = absurd (cc)
 new-goes-on side turn log (ResponseStarted a h) reserved head k g c e = absurd (cc)
-new-goes-on side turn log (SessionEstablished id at) reserved head k g c e = absurd (cc)
+new-goes-on side turn log (SessionEstablished id offset) reserved head k g c e = absurd (cc)
 new-goes-on side turn log HandshakeOver reserved head k g c e = absurd (cc)
 new-goes-on side turn log _ reserved head k g c e = g.still_going reserved head k e
 
@@ -238,9 +238,9 @@ reads-own side k l n u = ap (λ (r : StreamRole). is_for_application r None) (ow
     is-bi = from-or (k % 4 == local_uni side) (k % 4 == local_bi side) (λ x. absurd (cc)) (λ x. x) l
 
 -- and those that the peer opened for a session
-reads-sessions : (role : StreamRole) (o : Option Classified) (session at : ℕ) → verdict_in o ≡ Some (verdicts.WebTransport session at) → is_for_application role o ≡ true
-reads-sessions role None session at e = absurd (cc)
-reads-sessions role (Some c) session at e = let x : c.verdict ≡ verdicts.WebTransport session at = cc in ap is_webtransport x
+reads-sessions : (role : StreamRole) (o : Option Classified) (session offset : ℕ) → verdict_in o ≡ Some (verdicts.WebTransport session offset) → is_for_application role o ≡ true
+reads-sessions role None session offset e = absurd (cc)
+reads-sessions role (Some c) session offset e = let x : c.verdict ≡ verdicts.WebTransport session offset = cc in ap is_webtransport x
 
 pub unclassified : (side : Side) (log : Log) (k : ℕ) → is_local side k ≡ true → classified_of k (stream_table side log).classified ≡ None
 unclassified side log k l = missing k (stream_table side log).classified (local-unclassified side log k l)
@@ -253,11 +253,11 @@ driver-asks side log (AfterTurn turn r l) = turn_theorem side _ turn (driver-ask
 
 opened-so : (b : Bool) (id credit : ℕ) (s : ControlSent) (xs ys : List Action) → ((control_actions b id credit s ++ xs) ++ ys) ≡ [] → b ≡ true → s.opened ≡ true
 opened-so false id credit s xs ys e t = absurd (cc)
-opened-so true id credit s xs ys e t = at s.opened (send_of id (drop s.sent (take credit local_control_bytes))) e
+opened-so true id credit s xs ys e t = by s.opened (send_of id (drop s.sent (take credit local_control_bytes))) e
   where
-    at : (o : Bool) (piece : List Action) → (((opened_if (not o) id ++ piece) ++ xs) ++ ys) ≡ [] → o ≡ true
-    at true piece e = refl
-    at false piece e = absurd (cc)
+    by : (o : Bool) (piece : List Action) → (((opened_if (not o) id ++ piece) ++ xs) ++ ys) ≡ [] → o ≡ true
+    by true piece e = refl
+    by false piece e = absurd (cc)
 
 silent-opened : (side : Side) (log : Log) → AtRest side log → nat_lt 0 (unis_allowed (events_of log)) ≡ true → (control_sent side log).opened ≡ true
 unfolding state_of
@@ -309,14 +309,14 @@ module _ (side : Side) (log : Log) (r : IsReachable side log) where
   }
 
   receives : (k : ℕ) → has_receiving_now side (session_state log) k ≡ true → is_for_application (role_of side k) (classified_of k (stream_table side log).classified) ≡ true
-  receives k g = at (given-origin side log holds.out.heads k p.0)
+  receives k g = by (given-origin side log holds.out.heads k p.0)
     where
       p : (is_accepted log k ≡ true) × (not (k % 4 == local_uni side) ≡ true)
       p = and_parts (is_accepted log k) (not (k % 4 == local_uni side)) (and_parts (is_accepted log k && not (k % 4 == local_uni side)) _ (sym (same-receiving side log k) ∙ g)).0
 
-      at : Origin side log k → is_for_application (role_of side k) (classified_of k (stream_table side log).classified) ≡ true
-      at (ByPeer session offset v) = reads-sessions (role_of side k) (classified_of k (stream_table side log).classified) session offset (sym (found-verdict k (stream_table side log).classified) ∙ v)
-      at (ByCall l o) = ap (is_for_application (role_of side k)) (unclassified side log k l) ∙ reads-own side k l (not-asked k o) (not-true (k % 4 == local_uni side) p.1)
+      by : Origin side log k → is_for_application (role_of side k) (classified_of k (stream_table side log).classified) ≡ true
+      by (ByPeer session offset v) = reads-sessions (role_of side k) (classified_of k (stream_table side log).classified) session offset (sym (found-verdict k (stream_table side log).classified) ∙ v)
+      by (ByCall l o) = ap (is_for_application (role_of side k)) (unclassified side log k l) ∙ reads-own side k l (not-asked k o) (not-true (k % 4 == local_uni side) p.1)
 
   sends : (k : ℕ) → has_sending_now side (session_state log) k ≡ true → (k == local_uni side) ≡ false
   sends k g =

@@ -78,11 +78,11 @@ whole-actions (a ∷ as_) log q w =
 
 whole-flush : (side : Side) (e : Entry) (log : Log) → (has_request (handshake_state (calls_of (e ∷ log))) ≡ true → (local_uni side == requested_stream (calls_of (e ∷ log))) ≡ false) → RejectsWhole (e ∷ log) → RejectsWhole (log_and_flush side log e)
 unfolding flush
-whole-flush side e log n w = at (is_moment e && is_open (e ∷ log))
+whole-flush side e log n w = by (is_moment e && is_open (e ∷ log))
   where
-    at : (b : Bool) → RejectsWhole (apply_if b (with_actions (pending_actions side (e ∷ log))) (e ∷ log))
-    at true = whole-actions (pending_actions side (e ∷ log)) (e ∷ log) (λ x. pending-other side (e ∷ log) (requested_stream (calls_of (e ∷ log))) (n x)) w
-    at false = w
+    by : (b : Bool) → RejectsWhole (apply_if b (with_actions (pending_actions side (e ∷ log))) (e ∷ log))
+    by true = whole-actions (pending_actions side (e ∷ log)) (e ∷ log) (λ x. pending-other side (e ∷ log) (requested_stream (calls_of (e ∷ log))) (n x)) w
+    by false = w
 
 -- ---- a request's stream
 
@@ -91,11 +91,11 @@ module _ (side : Side) (log : Log) (g : GivenStreams side log) where
   request-not-local k l d = absurd (let w = (g.handshakes.delivered k d).verdict in let n = local-unclassified side log k l in cc)
 
   request-not-given : (k : ℕ) → list_any (delivers k) (calls_of log) ≡ true → is_accepted log k ≡ true → ⊥
-  request-not-given k d a = at (g.facts_hold.accepted k a)
+  request-not-given k d a = by (g.facts_hold.accepted k a)
     where
-      at : (is_local side k ≡ true) ⊎ IsSessions side log k → ⊥
-      at (inl l) = request-not-local k l d
-      at (inr s) = absurd (let w = (g.handshakes.delivered k d).verdict in let v = s.verdict in cc)
+      by : (is_local side k ≡ true) ⊎ IsSessions side log k → ⊥
+      by (inl l) = request-not-local k l d
+      by (inr s) = absurd (let w = (g.handshakes.delivered k d).verdict in let v = s.verdict in cc)
 
   not-control : has_request (handshake_state (calls_of log)) ≡ true → (local_uni side == requested_stream (calls_of log)) ≡ false
   not-control q = not-true-so (local_uni side == requested_stream (calls_of log)) (λ e. request-not-local (requested_stream (calls_of log)) (subst (λ (j : ℕ). is_local side j ≡ true) (eqb-true (local_uni side) (requested_stream (calls_of log)) e) (is-local-uni side)) (g.handshakes.has_one q))
@@ -104,14 +104,14 @@ module _ (side : Side) (log : Log) (g : GivenStreams side log) where
 
 module _ (side : Side) (turn : Turn) (never : (cs : List CallRecord) (accepts : Bool) (head : List ℕ) → ResponseFrom turn cs accepts head → ⊥) where
   quiet-action : (log : Log) (a : Action) → GivenStreams side log → ActionCause side turn log a → has_request (handshake_state (calls_of log)) ≡ true → piece_on (requested_stream (calls_of log)) a ≡ []
-  quiet-action log (actions.Send id piece) g c q = at (id == requested_stream (calls_of log)) refl c.1
+  quiet-action log (actions.Send id piece) g c q = by (id == requested_stream (calls_of log)) refl c.1
     where
-      at : (b : Bool) → (id == requested_stream (calls_of log)) ≡ b → SendCause side turn log id piece → (if b then piece else []) ≡ []
-      at false e x = refl
-      at true e (OfWrite bytes b w m p) = absurd (request-not-given side log g (requested_stream (calls_of log)) (g.handshakes.has_one q) (subst (λ (j : ℕ). is_accepted log j ≡ true) (eqb-true id (requested_stream (calls_of log)) e) (and_parts (is_accepted log id) _ w).0))
-      at true e (OfHeader session t z d o p) = absurd (request-not-local side log g (requested_stream (calls_of log)) (subst (λ (j : ℕ). is_local side j ≡ true) (eqb-true id (requested_stream (calls_of log)) e) (g.facts_hold.openings id (and_parts (list_any (starts_opening id) (calls_of log)) _ o).0)) (g.handshakes.has_one q))
-      at true e (OfResponse accepts head f r p) = absurd (never (calls_of log) accepts head f)
-      at true e (OfRequest head t s r z p) = absurd (let x = ap has_request s in cc)
+      by : (b : Bool) → (id == requested_stream (calls_of log)) ≡ b → SendCause side turn log id piece → (if b then piece else []) ≡ []
+      by false e x = refl
+      by true e (OfWrite bytes b w m p) = absurd (request-not-given side log g (requested_stream (calls_of log)) (g.handshakes.has_one q) (subst (λ (j : ℕ). is_accepted log j ≡ true) (eqb-true id (requested_stream (calls_of log)) e) (and_parts (is_accepted log id) _ w).0))
+      by true e (OfHeader session t z d o p) = absurd (request-not-local side log g (requested_stream (calls_of log)) (subst (λ (j : ℕ). is_local side j ≡ true) (eqb-true id (requested_stream (calls_of log)) e) (g.facts_hold.openings id (and_parts (list_any (starts_opening id) (calls_of log)) _ o).0)) (g.handshakes.has_one q))
+      by true e (OfResponse accepts head f r p) = absurd (never (calls_of log) accepts head f)
+      by true e (OfRequest head t s r z p) = absurd (let x = ap has_request s in cc)
   quiet-action log _ g c q = refl
 
   whole-own : (own : List Action) (log : Log) → OwnCauses side turn log own → Ends side log → RejectsWhole log → RejectsWhole (with_actions own log)
@@ -122,7 +122,7 @@ module _ (side : Side) (turn : Turn) (never : (cs : List CallRecord) (accepts : 
   whole-record log (ResponseStarted accepts head) c w = absurd (never (calls_of log) accepts head c.0)
   whole-record log (RequestDelivered id) c w = not-rejecting (Called (RequestDelivered id) ∷ log) refl
   whole-record log (ConnectStarted reserved head) c w = not-rejecting (Called (ConnectStarted reserved head) ∷ log) refl
-  whole-record log (SessionEstablished id at) c w = not-rejecting (Called (SessionEstablished id at) ∷ log) refl
+  whole-record log (SessionEstablished id by) c w = not-rejecting (Called (SessionEstablished id by) ∷ log) refl
   whole-record log HandshakeOver c w = not-rejecting (Called HandshakeOver ∷ log) refl
   whole-record log _ c w = w
 
@@ -159,7 +159,7 @@ unanswering side log (ResponseStarted accepts head) c n = from c.0
     from (FromBefore t s) = absurd (let x = ap is_responding s in cc)
 unanswering side log (RequestDelivered id) c n = refl
 unanswering side log (ConnectStarted reserved head) c n = refl
-unanswering side log (SessionEstablished id at) c n = refl
+unanswering side log (SessionEstablished id offset) c n = refl
 unanswering side log HandshakeOver c n = refl
 unanswering side log _ c n = n
 
@@ -178,11 +178,11 @@ finished-with k (a ∷ as_) log f = finished-with k as_ (Sent a ∷ log) (or_rig
 
 finished-flush : (side : Side) (k : ℕ) (e : Entry) (log : Log) → is_finished (actions_of (e ∷ log)) k ≡ true → is_finished (actions_of (log_and_flush side log e)) k ≡ true
 unfolding flush
-finished-flush side k e log f = at (is_moment e && is_open (e ∷ log))
+finished-flush side k e log f = by (is_moment e && is_open (e ∷ log))
   where
-    at : (b : Bool) → is_finished (actions_of (apply_if b (with_actions (pending_actions side (e ∷ log))) (e ∷ log))) k ≡ true
-    at true = finished-with k (pending_actions side (e ∷ log)) (e ∷ log) f
-    at false = f
+    by : (b : Bool) → is_finished (actions_of (apply_if b (with_actions (pending_actions side (e ∷ log))) (e ∷ log))) k ≡ true
+    by true = finished-with k (pending_actions side (e ∷ log)) (e ∷ log) f
+    by false = f
 
 finished-last : (k : ℕ) (as_ : List Action) (log : Log) → is_finished (actions_of (with_actions (as_ ++ actions.Finish k ∷ []) log)) k ≡ true
 finished-last k [] log = or_left (k == k) _ (eq-eqb k k refl)
@@ -306,13 +306,13 @@ module _ (side : Side) (log : Log) (r : IsReachable side log) (w : RejectsWhole 
   polled l false n =
       not-rejecting (log_after side log (turns.Call calls.Handshake)) (rejects-never (handshake_state (calls_of (log_after side log (turns.Call calls.Handshake))))
       (keeps-turn {P = λ (g : Log). is_responding (handshake_state (calls_of g)) ≡ false} (by-entries (unanswering-entries side)) log l n))
-  polled l true n = at (handshake_state (calls_of log)) refl n
+  polled l true n = by (handshake_state (calls_of log)) refl n
     where
-      at : (s : HandshakeState) → handshake_state (calls_of log) ≡ s → is_responding s ≡ true → RejectsWhole (continue_by (handshake_state (calls_of log)) side log).log
-      at (Responding accepts head) i n =
+      by : (s : HandshakeState) → handshake_state (calls_of log) ≡ s → is_responding s ≡ true → RejectsWhole (continue_by (handshake_state (calls_of log)) side log).log
+      by (Responding accepts head) i n =
           subst (λ z. RejectsWhole (continue_by z side log).log) (sym i)
           (whole-respond side log accepts head Polled refl i (not-control side log (ends-hold side log r).given (ap has_request i)))
-      at _ i n = absurd (cc)
+      by _ i n = absurd (cc)
 
   answered : (turn : Turn) → is_lawful side log turn ≡ true → is_answering turn ≡ true → RejectsWhole (log_after side log turn)
   unfolding call_effect
@@ -327,11 +327,11 @@ module _ (side : Side) (log : Log) (r : IsReachable side log) (w : RejectsWhole 
   answered _ l n = absurd (cc)
 
   rejects-turn : (turn : Turn) → is_lawful side log turn ≡ true → RejectsWhole (log_after side log turn)
-  rejects-turn turn l = at (is_answering turn) refl
+  rejects-turn turn l = by (is_answering turn) refl
     where
-      at : (b : Bool) → is_answering turn ≡ b → RejectsWhole (log_after side log turn)
-      at true n = answered turn l n
-      at false n = rejected-after side turn (never-answers turn n) log l (ends-hold side log r) w
+      by : (b : Bool) → is_answering turn ≡ b → RejectsWhole (log_after side log turn)
+      by true n = answered turn l n
+      by false n = rejected-after side turn (never-answers turn n) log l (ends-hold side log r) w
 
 pub rejects-whole : (side : Side) (log : Log) → IsReachable side log → RejectsWhole log
 rejects-whole side [] AtStart = not-rejecting [] refl

@@ -12,7 +12,7 @@ use Rattle.wt_reached.proofs.Recording.{record-facts}
 use Rattle.wt_reached.proofs.Rejecting.{rejects-whole}
 use Rattle.wt_reached.proofs.Used.{uses-hold}
 use Rattle.wt_reached.proofs.There.{given-receives, given-sends}
-use Rattle.wt_reached.specs.Driving.{KeepsOwnStreams, leaves_driver}
+use Rattle.wt_reached.specs.Driving.{KeepsLocalStreams, leaves_driver}
 use Rattle.wt_reached.specs.Reading.{Origin}
 use Rattle.wt_seam_spec.specs.Sent.{is_finished, is_reset}
 use Rattle.wt_seam_spec.specs.Streams.{can_receive, can_send, local_uni}
@@ -84,22 +84,22 @@ session_sends_theorem side log s r e = (driver-facts side log r).sends.session s
 pub session_receives_theorem : (side : Side) (log : Log) (s : ℕ × ℕ) → IsReachable side log → established_session (calls_of log) ≡ Some s → can_receive side log s.0 ≡ true
 session_receives_theorem side log s r e = (driver-facts side log r).session_receives s e
 
-pub driver_facts_theorem : (side : Side) (log : Log) → IsReachable side log → KeepsOwnStreams side log
+pub driver_facts_theorem : (side : Side) (log : Log) → IsReachable side log → KeepsLocalStreams side log
 driver_facts_theorem side log r = driver-facts side log r
 
-pub flushed_theorem : (side : Side) (log : Log) → KeepsOwnStreams side log → KeepsOwnStreams side (flush side log)
+pub flushed_theorem : (side : Side) (log : Log) → KeepsLocalStreams side log → KeepsLocalStreams side (flush side log)
 flushed_theorem side log h = facts-flushed side log h
 
-pub unflushed_theorem : (side : Side) (log : Log) → KeepsOwnStreams side (flush side log) → KeepsOwnStreams side log
+pub unflushed_theorem : (side : Side) (log : Log) → KeepsLocalStreams side (flush side log) → KeepsLocalStreams side log
 unflushed_theorem side log h = facts-unflushed side log h
 
-pub entry_theorem : (side : Side) (log : Log) (e : Entry) → leaves_driver side e ≡ true → KeepsOwnStreams side log → KeepsOwnStreams side (e ∷ log)
+pub entry_theorem : (side : Side) (log : Log) (e : Entry) → leaves_driver side e ≡ true → KeepsLocalStreams side log → KeepsLocalStreams side (e ∷ log)
 entry_theorem side log e p h = facts-stay side e log p h
 
 pub step_theorem : (side : Side) (log : Log) (call : Call) (own : List Action) (made : CallRecord) (reply : Reply) → IsReachable side log → is_lawful side log (turns.Call call) ≡ true → plan_of (facts_of side log) (session_state log) call ≡ Step own made reply
-    → KeepsOwnStreams side (Called made ∷ with_actions own log)
+    → KeepsLocalStreams side (Called made ∷ with_actions own log)
 step_theorem side log call own made reply r l e = step-facts side log call r l own made reply e
 
-pub establish_theorem : (side : Side) (log : Log) (call : Call) (own : List Action) (id at : ℕ) → IsReachable side log → is_lawful side log (turns.Call call) ≡ true → plan_of (facts_of side log) (session_state log) call ≡ Establish own id at
-    → KeepsOwnStreams side (Called (SessionEstablished id at) ∷ with_actions own log)
-establish_theorem side log call own id at r l e = establish-facts side log call r l own id at e
+pub establish_theorem : (side : Side) (log : Log) (call : Call) (own : List Action) (id offset : ℕ) → IsReachable side log → is_lawful side log (turns.Call call) ≡ true → plan_of (facts_of side log) (session_state log) call ≡ Establish own id offset
+    → KeepsLocalStreams side (Called (SessionEstablished id offset) ∷ with_actions own log)
+establish_theorem side log call own id offset r l e = establish-facts side log call r l own id offset e

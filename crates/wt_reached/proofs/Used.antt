@@ -101,7 +101,7 @@ uses-called side log own r m u = uses-flushed side (Called r) (with_actions own 
 module _ (side : Side) where
   uses-accepted : (n : ℕ) (reply : ℕ → Reply) (kind s : ℕ) (log : Log) → Uses side log → Uses side (accept_first n side reply kind s log).log
   uses-accepted zero reply kind s log u = uses-called side log [] Polled tt u
-  uses-accepted (suc n) reply kind s log u = at (next_due side log kind s) refl (λ later v. uses-accepted n reply kind s later v)
+  uses-accepted (suc n) reply kind s log u = by (next_due side log kind s) refl (λ later v. uses-accepted n reply kind s later v)
     where
       given : (b : Bool) (c : Classified) → next_due side log kind s ≡ Some c → ((later : Log) → Uses side later → Uses side (accept_first n side reply kind s later).log)
           → Uses side (give_or_pass b side reply (λ later. accept_first n side reply kind s later) log c.id).log
@@ -110,28 +110,28 @@ module _ (side : Side) where
           let stop = actions.StopOut c.id (code_of h3.BufferedStreamRejected) in
           again _ (uses-called side log (stop ∷ []) (StreamPassed c.id) (may-pass side log kind s c e stop) u)
 
-      at : (o : Option Classified) → next_due side log kind s ≡ o → ((later : Log) → Uses side later → Uses side (accept_first n side reply kind s later).log)
+      by : (o : Option Classified) → next_due side log kind s ≡ o → ((later : Log) → Uses side later → Uses side (accept_first n side reply kind s later).log)
           → Uses side (accept_due side reply (λ later. accept_first n side reply kind s later) s log o).log
-      at None e again = uses-called side log [] Polled tt u
-      at (Some c) e again = given (is_for_session s c.verdict) c e again
+      by None e again = uses-called side log [] Polled tt u
+      by (Some c) e again = given (is_for_session s c.verdict) c e again
 
   uses-received : (n s : ℕ) (log : Log) → Uses side log → Uses side (receive_first n side s log).log
   uses-received zero s log u = uses-called side log [] Polled tt u
-  uses-received (suc n) s log u = at (next_datagram side log) refl (λ later v. uses-received n s later v)
+  uses-received (suc n) s log u = by (next_datagram side log) refl (λ later v. uses-received n s later v)
     where
       given : (b : Bool) (d : ℕ × List ℕ) → next_datagram side log ≡ Some d → ((later : Log) → Uses side later → Uses side (receive_first n side s later).log)
           → Uses side (receive_or_pass b side (λ later. receive_first n side s later) log d.1).log
       given true d e again = uses-called side (log_call side log [] DatagramReceived) [] Polled tt (uses-called side log [] DatagramReceived (next-within side log d e) u)
       given false d e again = again _ (uses-called side log [] DatagramPassed (next-within side log d e) u)
 
-      at : (o : Option (ℕ × List ℕ)) → next_datagram side log ≡ o → ((later : Log) → Uses side later → Uses side (receive_first n side s later).log)
+      by : (o : Option (ℕ × List ℕ)) → next_datagram side log ≡ o → ((later : Log) → Uses side later → Uses side (receive_first n side s later).log)
           → Uses side (receive_next side (λ later. receive_first n side s later) s log o).log
-      at None e again = uses-called side log [] Polled tt u
-      at (Some d) e again = given (4 * d.0 == s) d e again
+      by None e again = uses-called side log [] Polled tt u
+      by (Some d) e again = given (4 * d.0 == s) d e again
 
   uses-performed : (log : Log) (plan : Plan) → RecordMayBeMade side log plan → Uses side log → Uses side (perform side log plan).log
   uses-performed log (Step own made reply) m u = uses-called side log own made m.can u
-  uses-performed log (Establish own id at) m u = uses-called side (log_call side log own (SessionEstablished id at)) [] Polled tt (uses-called side log own (SessionEstablished id at) m.can u)
+  uses-performed log (Establish own id by) m u = uses-called side (log_call side log own (SessionEstablished id by)) [] Polled tt (uses-called side log own (SessionEstablished id by) m.can u)
   uses-performed log (AcceptUni s) m u = uses-accepted (suc (peer_count side (events_of log) (peer_uni side))) replies.Uni (peer_uni side) s log u
   uses-performed log (AcceptBi s) m u = uses-accepted (suc (peer_count side (events_of log) (peer_bi side))) replies.Bi (peer_bi side) s log u
   uses-performed log (Receive s) m u = uses-received (suc (length (datagrams_of (events_of log)))) s log u
@@ -139,19 +139,19 @@ module _ (side : Side) where
   -- ---- what the transport tells
 
   uses-event : (log : Log) (e : Event) → Uses side log → Uses side (flush side (log_event log e))
-  uses-event log e u = at (is_open log)
+  uses-event log e u = by (is_open log)
     where
-      at : (b : Bool) → Uses side (flush side (event_entry b e ∷ log))
-      at true = uses-flushed side (Reported e) log (tt, u)
-      at false = uses-flushed side (ReportedLate e) log (tt, u)
+      by : (b : Bool) → Uses side (flush side (event_entry b e ∷ log))
+      by true = uses-flushed side (Reported e) log (tt, u)
+      by false = uses-flushed side (ReportedLate e) log (tt, u)
 
   uses-bytes : (bytes : List ℕ) (log : Log) (k : ℕ) → Uses side log → Uses side (receive side log k bytes)
   uses-bytes [] log k u = u
-  uses-bytes (b ∷ bytes) log k u = uses-bytes bytes (if is_open log then log_and_flush side log (Received k b) else log) k (at (is_open log))
+  uses-bytes (b ∷ bytes) log k u = uses-bytes bytes (if is_open log then log_and_flush side log (Received k b) else log) k (by (is_open log))
     where
-      at : (o : Bool) → Uses side (if o then log_and_flush side log (Received k b) else log)
-      at true = uses-flushed side (Received k b) log (tt, u)
-      at false = u
+      by : (o : Bool) → Uses side (if o then log_and_flush side log (Received k b) else log)
+      by true = uses-flushed side (Received k b) log (tt, u)
+      by false = u
 
   module _ (made : (log : Log) (call : Call) → IsReachable side log → is_lawful side log (turns.Call call) ≡ true → RecordMayBeMade side log (plan_of (facts_of side log) (session_state log) call)) where
     uses-turn : (log : Log) (turn : Turn) → IsReachable side log → is_lawful side log turn ≡ true → Uses side log → Uses side (log_after side log turn)

@@ -9,7 +9,7 @@ use Rattle.wt_wire.specs.declared.side.Side.{Side}
 
 -- This end's control stream is neither finished nor reset (RFC 9114, section 6.2.1), and the stream of the established
 -- session has both halves.
-pub record KeepsOwnStreams (side : Side) (log : Log) : Type 0 where
+pub record KeepsLocalStreams (side : Side) (log : Log) : Type 0 where
   pub sends : SendFacts side log
   pub session_receives : (s : ℕ × ℕ) → established_session (calls_of log) ≡ Some s → can_receive side log s.0 ≡ true
 
@@ -18,5 +18,5 @@ abbrev pub leaves_driver : Side → Entry → Bool
 leaves_driver side (Sent (actions.Finish id)) = not (id == local_uni side)
 leaves_driver side (Sent (actions.ResetOut id code)) = not (id == local_uni side)
 leaves_driver side (Called (ResetUnsent id code)) = not (id == local_uni side)
-leaves_driver side (Called (SessionEstablished id at)) = false
+leaves_driver side (Called (SessionEstablished id offset)) = false
 leaves_driver side _ = true

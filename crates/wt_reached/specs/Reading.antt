@@ -11,5 +11,5 @@ use Rattle.wt_wire.specs.declared.side.Side.{Side}
 
 -- A stream comes from the peer, classified as one of a session, or this end opened it for a call.
 pub data Origin (side : Side) (log : Log) (k : ℕ) : Type 0 where
-  ByPeer : (session at : ℕ) → verdict_of k (stream_table side log).classified ≡ Some (verdicts.WebTransport session at) → Origin side log k
+  ByPeer : (session offset : ℕ) → verdict_of k (stream_table side log).classified ≡ Some (verdicts.WebTransport session offset) → Origin side log k
   ByCall : (k % 4 == local_uni side || k % 4 == local_bi side) ≡ true → list_any (starts_opening k) (calls_of log) ≡ true → Origin side log k

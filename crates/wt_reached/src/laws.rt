@@ -2,7 +2,7 @@
 ghost use Rattle.std.specs.Prelude.{◌≡◌, ◌∷◌, Some, true, false, ℕ, List, []};
 ghost use Rattle.wt_laws.specs.Reachable.{IsReachable};
 ghost use Rattle.wt_driver_spec.specs.Uses.{Uses};
-ghost use Rattle.wt_reached.specs.Driving.{KeepsOwnStreams, leaves_driver};
+ghost use Rattle.wt_reached.specs.Driving.{KeepsLocalStreams, leaves_driver};
 ghost use Rattle.wt_reached.specs.Reading.{Origin};
 ghost use Rattle.wt_seam_spec.specs.Sent.{is_finished, is_reset};
 ghost use Rattle.wt_seam_spec.specs.Streams.{can_receive, can_send, local_uni};
@@ -100,10 +100,10 @@ pub fn the_driver_may_send()
 /// after it.
 #[tactic(auto, using(crate::proofs::Theorems::driver_facts_theorem, crate::proofs::Theorems::entry_theorem, crate::proofs::Theorems::flushed_theorem, crate::proofs::Theorems::unflushed_theorem))]
 pub fn the_driver_may_send_at_moments()
-    ensures facts { (side : Side) (log : Log) → IsReachable side log → KeepsOwnStreams side log }
-    ensures entry { (side : Side) (log : Log) (e : Entry) → leaves_driver side e ≡ true → KeepsOwnStreams side log → KeepsOwnStreams side (e ∷ log) }
-    ensures after { (side : Side) (log : Log) → KeepsOwnStreams side log → KeepsOwnStreams side (flush side log) }
-    ensures before { (side : Side) (log : Log) → KeepsOwnStreams side (flush side log) → KeepsOwnStreams side log }
+    ensures facts { (side : Side) (log : Log) → IsReachable side log → KeepsLocalStreams side log }
+    ensures entry { (side : Side) (log : Log) (e : Entry) → leaves_driver side e ≡ true → KeepsLocalStreams side log → KeepsLocalStreams side (e ∷ log) }
+    ensures after { (side : Side) (log : Log) → KeepsLocalStreams side log → KeepsLocalStreams side (flush side log) }
+    ensures before { (side : Side) (log : Log) → KeepsLocalStreams side (flush side log) → KeepsLocalStreams side log }
 {}
 
 /// What lets the driver send holds at a call's moment: after its own actions and its record.
@@ -111,8 +111,8 @@ pub fn the_driver_may_send_at_moments()
 pub fn the_driver_may_send_for_calls()
     ensures step { (side : Side) (log : Log) (call : Call) (own : List Action) (made : CallRecord) (reply : Reply) → IsReachable side log
         → is_lawful side log (turns.Call call) ≡ true → plan_of (facts_of side log) (session_state log) call ≡ Step own made reply
-        → KeepsOwnStreams side (Called made ∷ with_actions own log) }
-    ensures establish { (side : Side) (log : Log) (call : Call) (own : List Action) (id at : ℕ) → IsReachable side log
-        → is_lawful side log (turns.Call call) ≡ true → plan_of (facts_of side log) (session_state log) call ≡ Establish own id at
-        → KeepsOwnStreams side (Called (SessionEstablished id at) ∷ with_actions own log) }
+        → KeepsLocalStreams side (Called made ∷ with_actions own log) }
+    ensures establish { (side : Side) (log : Log) (call : Call) (own : List Action) (id offset : ℕ) → IsReachable side log
+        → is_lawful side log (turns.Call call) ≡ true → plan_of (facts_of side log) (session_state log) call ≡ Establish own id offset
+        → KeepsLocalStreams side (Called (SessionEstablished id offset) ∷ with_actions own log) }
 {}

@@ -1,4 +1,4 @@
-//! What the caller of a turn is told. It stands below the turns, so that neither is long to prove; wt_turn offers it again.
+//! What the caller of a turn is answered. It stands below the turns, so that neither is long to prove; wt_turn offers it again.
 #![tactic(auto)]
 
 pub mod reply;

@@ -1,4 +1,4 @@
-//! What the caller of a turn is told.
+//! What the caller of a turn is answered.
 ghost use Rattle.std.specs.Prelude.{◌≡◌, ◌↔◌, IfOk, IsTrue};
 
 use std::alloc::Global;

@@ -51,8 +51,8 @@ byte-follows side log id b false = same-follows log
 bytes-follow : (side : Side) (id : ℕ) (bytes : List ℕ) (log : Log) → Follows log (receive side log id bytes)
 bytes-follow side id [] log = same-follows log
 bytes-follow side id (b ∷ bytes) log =
-    let next = if is_open log then log_and_flush side log (Received id b) else log in
-    both-follow log next (receive side next id bytes) (byte-follows side log id b (is_open log)) (bytes-follow side id bytes next)
+    let following = if is_open log then log_and_flush side log (Received id b) else log in
+    both-follow log following (receive side following id bytes) (byte-follows side log id b (is_open log)) (bytes-follow side id bytes following)
 
 still-fits : (a t u b c d : Bool) → (t ≡ true → u ≡ true) → (((a && (t && b)) && c) && d) ≡ true → (((a && (u && b)) && c) && d) ≡ true
 still-fits true true u true true true f e = rw (f refl) refl

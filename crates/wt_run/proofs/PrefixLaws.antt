@@ -85,12 +85,12 @@ run-ends side ts =
 
 pub answered : (side : Side) (ts : List Turn) (result : Result (List Answer) TraceError) (P : List Answer → Type 0) → IsTrace side ts result → P (run side ts).answers → IfAnswered result P
 answered side ts (Ok answers) P e p = subst P (ap (λ (r : Run). r.answers) e) p
-answered side ts (Err (errors.Unlawful at answers)) P e p = subst P (ap (λ (r : Run). r.answers) e.0) p
+answered side ts (Err (errors.Unlawful offset answers)) P e p = subst P (ap (λ (r : Run). r.answers) e.0) p
 answered side ts (Err errors.OutOfMemory) P e p = tt
 
 pub stops-rightly : (side : Side) (ts : List Turn) (result : Result (List Answer) TraceError) → IsTrace side ts result → StopsRightly side ts result
 stops-rightly side ts (Ok answers) e = subst (λ (r : Run). EndIs side [] ts (length r.answers) r.stop) e (run-ends side ts)
-stops-rightly side ts (Err (errors.Unlawful at answers)) e =
+stops-rightly side ts (Err (errors.Unlawful offset answers)) e =
     let end = subst (λ (r : Run). EndIs side [] ts (length r.answers) r.stop) e.0 (run-ends side ts) in
     subst (λ n. EndIs side [] ts n AtUnlawful) (sym e.1) end
 stops-rightly side ts (Err errors.OutOfMemory) e = tt
@@ -98,6 +98,6 @@ stops-rightly side ts (Err errors.OutOfMemory) e = tt
 -- a lawful list is answered, unless memory runs out
 pub completes : (side : Side) (ts : List Turn) (result : Result (List Answer) TraceError) → IsTrace side ts result → AllLawful side [] ts → IfErr result (λ error. error ≡ errors.OutOfMemory)
 completes side ts (Ok answers) e a = tt
-completes side ts (Err (errors.Unlawful at answers)) e a =
+completes side ts (Err (errors.Unlawful offset answers)) e a =
     let both : AtUnlawful ≡ Finished = sym (ap (λ (r : Run). r.stop) e.0) ∙ lawful_runs_theorem side ts a in absurd (cc)
 completes side ts (Err errors.OutOfMemory) e a = refl

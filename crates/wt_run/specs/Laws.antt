@@ -13,13 +13,13 @@ use Rattle.wt_wire.specs.declared.lookup.Lookup.{Lookup}
 use Rattle.wt_wire.specs.declared.side.Side.{Side}
 use Rattle.wt_driver_spec.specs.Dequeued.{StreamsDequeued}
 use Rattle.wt_driver_spec.specs.LookOrder.{LooksInOrder}
-use Rattle.wt_laws.specs.Datagrams.{DatagramTold}
+use Rattle.wt_laws.specs.Datagrams.{DatagramReported}
 use Rattle.wt_laws.specs.Ended.{EndingGoesOut, PendingGoesOut}
 use Rattle.wt_laws.specs.Exactly.{AsksFirst, ConnectGoesOn, ConnectsAnswer, HeadsGoOut, MaySend, ReceivingCallsAnswer, RequestGoesOn, RequestsAnswer, ResponsesAnswer, SendingCallsAnswer, SessionCallsAnswer}
 use Rattle.wt_laws.specs.Faults.{ClassifiedRightly, DatagramOrEnds, EndsForCause, FaultlessOrEnds, OnceEach, SettingsComeRead, StreamsFaultless}
-use Rattle.wt_laws.specs.FirstFault.{FirstIsTold}
+use Rattle.wt_laws.specs.FirstFault.{FirstIsReported}
 use Rattle.wt_laws.specs.GivenOnce.{GivenOnce}
-use Rattle.wt_laws.specs.Laws.{DatagramsInOrder, FaultCloses, GoesOnFrom, HeadersOut, NothingAfterEnd, OneSession, OpenExactly, ReadsFromStart, ReadsInOrder, ReplyHasCause, RequestTold, ResultStays, SendsAll, SendsEnd, SendsInOrder, SessionStreamOut, SessionTold, SessionsRightly, SettingsOut, StreamsAcceptedRightly, TakenGoesOut, WithinCredit}
+use Rattle.wt_laws.specs.Laws.{DatagramsInOrder, FaultCloses, GoesOnFrom, HeadersOut, NothingAfterEnd, OneSession, OpenExactly, ReadsFromStart, ReadsInOrder, ReplyHasCause, RequestReported, ResultStays, SendsAll, SendsEnd, SendsInOrder, SessionStreamOut, SessionReported, SessionsRightly, SettingsOut, StreamsAcceptedRightly, WrittenGoesOut, WithinCredit}
 use Rattle.wt_laws.specs.LeavesRecord.{LeavesRecord}
 use Rattle.wt_laws.specs.Left.{PendingExactly, is_pending}
 use Rattle.wt_laws.specs.OpenedInOrder.{OpenedInOrder}
@@ -56,7 +56,7 @@ pub record FaultsClose (side : Side) (log : Log) : Type 0 where
   pub closes : (since : Log) → GoesOnFrom since log → FaultCloses side since
   pub went_out : PendingGoesOut side log
 
--- once the connection has ended, what it is told as stays
+-- once the connection has ended, what it is reported as stays
 abbrev pub ResultStaysAfterEnd : Side → Log → Turn → Type 0
 ResultStaysAfterEnd side log turn = is_open log ≡ false → ResultStays side log turn
 
@@ -72,9 +72,9 @@ DoneAfterEnd side log turn = is_call turn ≡ false → is_open log ≡ false �
 abbrev pub LateIsForgotten : Side → Log → Type 0
 LateIsForgotten side log = (e : Event) (later : List Turn) → LateChangesNothing side log e later
 
--- what was settled at an earlier moment stays
-abbrev pub SettledStays : Side → Log → Type 0
-SettledStays side log = (earlier : Log) → GoesOnFrom earlier log → StaysSo side earlier log
+-- what was decided at an earlier moment stays
+abbrev pub DecidedStays : Side → Log → Type 0
+DecidedStays side log = (earlier : Log) → GoesOnFrom earlier log → StaysSo side earlier log
 
 -- the peer's bidirectional streams are classified in the order in which they were opened
 abbrev pub BiStreamsInOrder : Side → Log → Type 0
@@ -91,12 +91,12 @@ AtEachEntry Law log = (e : Entry) (earlier : Log) → GoesOnFrom (e ∷ earlier)
 pub record DriverIsRead (side : Side) (log : Log) : Type 0 where
   pub classified : ClassifiedRightly side log  -- a classified stream was opened by the peer, and has its verdict over all bytes that came for it
   pub settings : AtEachEntry (SettingsComeRead side) log  -- SETTINGS came at a moment that found the connection open, and at which the walk over the first control stream had read them
-  pub ending : AtEachEntry (EndsForCause side) log  -- the driver ended the connection at an entry that shows a fault in the stream or datagram that it takes, or after those taken, or the end of the session
+  pub ending : AtEachEntry (EndsForCause side) log  -- the driver ended the connection at an entry that shows a fault in the stream that it classifies or the datagram that it dequeues, or after those, or the end of the session
   pub streams : StreamsFaultless side log  -- while it ended none, no classified stream has a fault; one that has a fault is classified last
   pub once : OnceEach side log  -- while it ended none, the control stream and the QPACK streams were classified once each
   pub datagram : AtEachEntry (DatagramOrEnds side) log  -- the datagram that a moment dequeues is the next that came, and has a quarter id, or the driver ends the connection then
   pub order : AtEachEntry (LooksInOrder side) log  -- of several streams that a moment classifies, unidirectional ones come first, then those of a kind by id, and none that is due before another is passed over
-  pub first : AtEachEntry (FirstIsTold side) log  -- of several faults of one moment that of a stream before all others, then the first in the driver's order ends the connection
+  pub first : AtEachEntry (FirstIsReported side) log  -- of several faults of one moment that of a stream before all others, then the first in the driver's order ends the connection
   pub faultless : AtEachEntry (FaultlessOrEnds side) log  -- a moment at which it doesn't end an open connection shows no fault after the streams
 
 -- ---- what a call answers
@@ -104,7 +104,7 @@ pub record DriverIsRead (side : Side) (log : Log) : Type 0 where
 -- each call that asks for a session or a stream answers exactly as it stands with these
 pub record CallsAnswer (side : Side) (log : Log) : Type 0 where
   pub first : (call : Call) → AsksFirst side log call
-  pub session : (s at : ℕ) → established_session (calls_of log) ≡ Some (s, at) → SessionCallsAnswer side log s
+  pub session : (s index : ℕ) → established_session (calls_of log) ≡ Some (s, index) → SessionCallsAnswer side log s
   pub sending : (k : ℕ) → has_sending_half side log k ≡ true → SendingCallsAnswer side log k
   pub receiving : (k : ℕ) → has_receiving_half side log k ≡ true → ReceivingCallsAnswer side log k
 
@@ -151,15 +151,15 @@ MayBeCut side all answers =
 pub record KeepsLaws (side : Side) (all : List Turn) (answers : List Answer) : Type 0 where
   pub sessions : Throughout side (SessionsRightly side) all answers
   pub one_session : AtEachTurn side (OneSession side) all answers
-  pub reported : AtEachTurn side (SessionTold side) all answers
-  pub requests : AtEachTurn side (RequestTold side) all answers
+  pub reported : AtEachTurn side (SessionReported side) all answers
+  pub requests : AtEachTurn side (RequestReported side) all answers
   pub streams : AtEachTurn side (StreamsAcceptedRightly side) all answers
   pub given_once : OfExchanges side (λ before log. GivenOnce before) all answers
   pub bi_order : Throughout side (BiStreamsInOrder side) all answers
   pub reads : OfExchanges side (ReadsInOrder side) all answers
   pub local_reads : Throughout side (ReadsFromStart side) all answers
   pub datagrams : OfExchanges side (DatagramsInOrder side) all answers
-  pub next_datagram : AtEachTurn side (DatagramTold side) all answers
+  pub next_datagram : AtEachTurn side (DatagramReported side) all answers
   pub pending : AtEachTurn side (PendingExactly side) all answers
   pub none_pending : AtEachTurn side (NonePendingAfterEnd side) all answers
   pub calls : Throughout side (CallsAnswer side) all answers
@@ -180,7 +180,7 @@ pub record KeepsLaws (side : Side) (all : List Turn) (answers : List Answer) : T
   pub after_end : Throughout side NothingAfterEnd all answers
   pub late : AtEachTurn side (DoneAfterEnd side) all answers
   pub forgotten : Throughout side (LateIsForgotten side) all answers
-  pub settled_stay : Throughout side (SettledStays side) all answers
+  pub decided_stay : Throughout side (DecidedStays side) all answers
   pub settings : Throughout side (SettingsOut side) all answers
   pub headers : Throughout side (HeadersOut side) all answers
   pub heads : AtEachTurn side (HeadGoesOut side) all answers
@@ -189,6 +189,6 @@ pub record KeepsLaws (side : Side) (all : List Turn) (answers : List Answer) : T
   pub sends_all : OfExchanges side (SendsAll side) all answers
   pub sends_end : AtEachTurn side (SendsEnd side) all answers
   pub credit : Throughout side (WithinCredit side) all answers
-  pub taken_goes_out : Throughout side (TakenGoesOut side) all answers
+  pub written_goes_out : Throughout side (WrittenGoesOut side) all answers
   pub opened_in_order : Throughout side OpenedInOrder all answers
   pub cutting : MayBeCut side all answers

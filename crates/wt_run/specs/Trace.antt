@@ -11,13 +11,13 @@ use Rattle.wt_run.specs.declared.trace.TraceError.TheVariants as errors
 -- what an answer of `run_trace` says of the run: its answers, and how it ended; nothing where memory ran out
 abbrev pub IsTrace : Side → List Turn → Result (List Answer) TraceError → Type 0
 IsTrace side all (Ok answers) = run side all ≡ record { answers = answers; stop = Finished }
-IsTrace side all (Err (errors.Unlawful at answers)) = (run side all ≡ record { answers = answers; stop = AtUnlawful }) × (at ≡ length answers)
+IsTrace side all (Err (errors.Unlawful index answers)) = (run side all ≡ record { answers = answers; stop = AtUnlawful }) × (index ≡ length answers)
 IsTrace side all (Err errors.OutOfMemory) = Unit {0}
 
 -- the answers of a run, whether it reached its end or stopped before
 abbrev pub IfAnswered : Result (List Answer) TraceError → (List Answer → Type 0) → Type 0
 IfAnswered (Ok answers) P = P answers
-IfAnswered (Err (errors.Unlawful at answers)) P = P answers
+IfAnswered (Err (errors.Unlawful index answers)) P = P answers
 IfAnswered (Err errors.OutOfMemory) P = Unit {0}
 
 -- the log after the first n turns
@@ -27,8 +27,8 @@ log_at side all n = log_from side [] (take n all)
 -- the run reached its end, or it stopped where the turn isn't lawful after those before it
 abbrev pub StopsRightly : Side → List Turn → Result (List Answer) TraceError → Type 0
 StopsRightly side all (Ok answers) = length answers ≡ length all
-StopsRightly side all (Err (errors.Unlawful at answers)) = (turn : Turn) × (slice_get all at ≡ Some turn)
-    × (is_lawful side (log_at side all at) turn ≡ false)
+StopsRightly side all (Err (errors.Unlawful index answers)) = (turn : Turn) × (slice_get all index ≡ Some turn)
+    × (is_lawful side (log_at side all index) turn ≡ false)
 StopsRightly side all (Err errors.OutOfMemory) = Unit {0}
 
 -- each answer is that to its turn, after the log of the turns before it

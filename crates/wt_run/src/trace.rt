@@ -2,10 +2,10 @@
 ghost use Rattle.std.specs.Prelude.{◌≡◌, [], IfErr, List, length, take};
 ghost use Rattle.wt_core.specs.CoreState.{Refines};
 ghost use Rattle.wt_driver_spec.specs.Dequeued.{StreamsDequeued};
-ghost use Rattle.wt_laws.specs.Datagrams.{DatagramTold};
+ghost use Rattle.wt_laws.specs.Datagrams.{DatagramReported};
 ghost use Rattle.wt_laws.specs.Ended.{EndingGoesOut};
 ghost use Rattle.wt_laws.specs.GivenOnce.{GivenOnce};
-ghost use Rattle.wt_laws.specs.Laws.{DatagramsInOrder, HeadersOut, NothingAfterEnd, OneSession, OpenExactly, ReadsFromStart, ReadsInOrder, ReplyHasCause, RequestTold, SendsAll, SendsEnd, SendsInOrder, SessionStreamOut, SessionTold, SessionsRightly, SettingsOut, StreamsAcceptedRightly, TakenGoesOut, WithinCredit};
+ghost use Rattle.wt_laws.specs.Laws.{DatagramsInOrder, HeadersOut, NothingAfterEnd, OneSession, OpenExactly, ReadsFromStart, ReadsInOrder, ReplyHasCause, RequestReported, SendsAll, SendsEnd, SendsInOrder, SessionStreamOut, SessionReported, SessionsRightly, SettingsOut, StreamsAcceptedRightly, WrittenGoesOut, WithinCredit};
 ghost use Rattle.wt_laws.specs.LeavesRecord.{LeavesRecord};
 ghost use Rattle.wt_laws.specs.Left.{PendingExactly};
 ghost use Rattle.wt_laws.specs.OpenedInOrder.{OpenedInOrder};
@@ -14,7 +14,7 @@ ghost use Rattle.wt_laws.specs.Runs.{DoneAtOnce};
 ghost use Rattle.wt_laws.specs.Telling.{TellingArrives};
 ghost use Rattle.wt_laws.specs.TurnCauses.{ActionsWentOut, EntriesHaveCauses, ReplyIsRecorded};
 ghost use Rattle.wt_spec.specs.Answers.{answers_to};
-ghost use Rattle.wt_run.specs.Laws.{AtEachTurn, BiStreamsInOrder, CallsAnswer, DoneAfterEnd, DriverIsRead, FaultsClose, HandshakesAnswer, HeadGoesOut, LateIsForgotten, MayBeCut, NonePendingAfterEnd, OfExchanges, ResultStaysAfterEnd, SettledStays, Throughout};
+ghost use Rattle.wt_run.specs.Laws.{AtEachTurn, BiStreamsInOrder, CallsAnswer, DoneAfterEnd, DriverIsRead, FaultsClose, HandshakesAnswer, HeadGoesOut, LateIsForgotten, MayBeCut, NonePendingAfterEnd, OfExchanges, ResultStaysAfterEnd, DecidedStays, Throughout};
 ghost use Rattle.wt_run.specs.Trace.{EachAnswered, IfAnswered, IsTrace, StopsRightly};
 
 use std::alloc::Global;
@@ -51,9 +51,9 @@ impl From<OutOfMemory> for TraceError {
 /// The clauses after these say what is true of them, of every list: where a session is established, which
 /// requests, streams and datagrams are given and in what order, what reads give (`sessions` to `next_datagram`);
 /// where a call is pending, what it answers, why each reply and each action comes, and that what the
-/// transport told and what calls did is kept for later answers (`pending` to `events`);
+/// transport reported and what calls did is kept for later answers (`pending` to `events`);
 /// what ends the connection and where in the peer's bytes that is read, which of its streams are dequeued
-/// and classified, how the end is told, and what stays (`opened` to `settled`); what goes out (`settings`
+/// and classified, how the end is reported, and what stays (`opened` to `decided_stay`); what goes out (`settings`
 /// to `opened_in_order`); and that a piece may come in two parts (`cutting`).
 pub fn run_trace(alloc: Global, side: Side, turns: &[Turn]) -> Result<Answers, TraceError>
     ensures trace { IsTrace side turns.now result }
@@ -64,15 +64,15 @@ pub fn run_trace(alloc: Global, side: Side, turns: &[Turn]) -> Result<Answers, T
     ensures complete { AllLawful side [] turns.now → IfErr result (λ error. error ≡ TraceError.OutOfMemory) }
     ensures sessions { IfAnswered result (Throughout side (SessionsRightly side) turns.now) }
     ensures one_session { IfAnswered result (AtEachTurn side (OneSession side) turns.now) }
-    ensures reported { IfAnswered result (AtEachTurn side (SessionTold side) turns.now) }
-    ensures requests { IfAnswered result (AtEachTurn side (RequestTold side) turns.now) }
+    ensures reported { IfAnswered result (AtEachTurn side (SessionReported side) turns.now) }
+    ensures requests { IfAnswered result (AtEachTurn side (RequestReported side) turns.now) }
     ensures streams { IfAnswered result (AtEachTurn side (StreamsAcceptedRightly side) turns.now) }
     ensures given_once { IfAnswered result (OfExchanges side (λ before log. GivenOnce before) turns.now) }
     ensures bi_order { IfAnswered result (Throughout side (BiStreamsInOrder side) turns.now) }
     ensures reads { IfAnswered result (OfExchanges side (ReadsInOrder side) turns.now) }
     ensures local_reads { IfAnswered result (Throughout side (ReadsFromStart side) turns.now) }
     ensures datagrams { IfAnswered result (OfExchanges side (DatagramsInOrder side) turns.now) }
-    ensures next_datagram { IfAnswered result (AtEachTurn side (DatagramTold side) turns.now) }
+    ensures next_datagram { IfAnswered result (AtEachTurn side (DatagramReported side) turns.now) }
     ensures pending { IfAnswered result (AtEachTurn side (PendingExactly side) turns.now) }
     ensures none_pending { IfAnswered result (AtEachTurn side (NonePendingAfterEnd side) turns.now) }
     ensures calls { IfAnswered result (Throughout side (CallsAnswer side) turns.now) }
@@ -93,7 +93,7 @@ pub fn run_trace(alloc: Global, side: Side, turns: &[Turn]) -> Result<Answers, T
     ensures after_end { IfAnswered result (Throughout side NothingAfterEnd turns.now) }
     ensures late { IfAnswered result (AtEachTurn side (DoneAfterEnd side) turns.now) }
     ensures forgotten { IfAnswered result (Throughout side (LateIsForgotten side) turns.now) }
-    ensures settled_stay { IfAnswered result (Throughout side (SettledStays side) turns.now) }
+    ensures decided_stay { IfAnswered result (Throughout side (DecidedStays side) turns.now) }
     ensures settings { IfAnswered result (Throughout side (SettingsOut side) turns.now) }
     ensures headers { IfAnswered result (Throughout side (HeadersOut side) turns.now) }
     ensures heads { IfAnswered result (AtEachTurn side (HeadGoesOut side) turns.now) }
@@ -102,7 +102,7 @@ pub fn run_trace(alloc: Global, side: Side, turns: &[Turn]) -> Result<Answers, T
     ensures sends_all { IfAnswered result (OfExchanges side (SendsAll side) turns.now) }
     ensures sends_end { IfAnswered result (AtEachTurn side (SendsEnd side) turns.now) }
     ensures credit { IfAnswered result (Throughout side (WithinCredit side) turns.now) }
-    ensures taken_goes_out { IfAnswered result (Throughout side (TakenGoesOut side) turns.now) }
+    ensures written_goes_out { IfAnswered result (Throughout side (WrittenGoesOut side) turns.now) }
     ensures opened_in_order { IfAnswered result (Throughout side OpenedInOrder turns.now) }
     ensures cutting { IfAnswered result (MayBeCut side turns.now) }
 {
@@ -122,8 +122,8 @@ fn run_on(alloc: Global, core: &mut Core, turns: &[Turn]) -> Result<Answers, Tra
     ensures trace { IsTrace core.old.side turns.now result }
 {
     let mut answers = Answers::new(alloc);
-    for (at, turn) in turns.iter().enumerate() {
-        let at = at as u64;
+    for (index, turn) in turns.iter().enumerate() {
+        let at = index as u64;
         if !core.is_lawful(turn) {
             return Err(TraceError::Unlawful { at, answers });
         }

@@ -21,9 +21,9 @@ stage-again stages id = λ i k. same k i
     same : (k : ℕ) → with_stage stages id (stages id) k ≡ stages k
     same k = by k (id == k) refl
 
-module _ (side : Side) (x : InboxState) (log : Log) (untaken : List Action) where
+module _ (side : Side) (x : InboxState) (log : Log) (uncollected : List Action) where
   -- each stream may be at another stage of which as much is known
-  pub restaged : (stage other : ℕ → Stage) → Refines side x log stage untaken → ((k : ℕ) → stage k ≡ other k) → Refines side x log other untaken
+  pub restaged : (stage other : ℕ → Stage) → Refines side x log stage uncollected → ((k : ℕ) → stage k ≡ other k) → Refines side x log other uncollected
   restaged stage other r same = record {
     position = r.position;
     transport = r.transport;
@@ -33,7 +33,7 @@ module _ (side : Side) (x : InboxState) (log : Log) (untaken : List Action) wher
   }
 
   -- a stage that is set twice
-  pub twice : (stage : ℕ → Stage) (id : ℕ) (first second : Stage) → Refines side x log (with_stage (with_stage stage id first) id second) untaken → Refines side x log (with_stage stage id second) untaken
+  pub twice : (stage : ℕ → Stage) (id : ℕ) (first second : Stage) → Refines side x log (with_stage (with_stage stage id first) id second) uncollected → Refines side x log (with_stage stage id second) uncollected
   twice stage id first second r = restaged (with_stage (with_stage stage id first) id second) (with_stage stage id second) r (λ k. by k (id == k))
     where
       by : (k : ℕ) (b : Bool) → (if b then second else (if b then first else stage k)) ≡ (if b then second else stage k)
@@ -41,11 +41,11 @@ module _ (side : Side) (x : InboxState) (log : Log) (untaken : List Action) wher
       by k false = refl
 
   -- a stream whose half can receive is given up
-  pub gone-there : (stage : ℕ → Stage) (id : ℕ) (can : Bool) → can ≡ true → Refines side x log (with_stage stage id GivenUp) untaken → Refines side x log (with_stage stage id (unless_given_up can (stage id))) untaken
+  pub gone-there : (stage : ℕ → Stage) (id : ℕ) (can : Bool) → can ≡ true → Refines side x log (with_stage stage id GivenUp) uncollected → Refines side x log (with_stage stage id (unless_given_up can (stage id))) uncollected
   gone-there stage id true e r = r
   gone-there stage id false e r = absurd cc
 
   -- nothing is done with another one
-  pub left-there : (stage : ℕ → Stage) (id : ℕ) (can : Bool) → can ≡ false → Refines side x log stage untaken → Refines side x log (with_stage stage id (unless_given_up can (stage id))) untaken
+  pub left-there : (stage : ℕ → Stage) (id : ℕ) (can : Bool) → can ≡ false → Refines side x log stage uncollected → Refines side x log (with_stage stage id (unless_given_up can (stage id))) uncollected
   left-there stage id true e r = absurd cc
-  left-there stage id false e r = subst (λ (stages : ℕ → Stage). Refines side x log stages untaken) (sym (stage-again stage id)) r
+  left-there stage id false e r = subst (λ (stages : ℕ → Stage). Refines side x log stages uncollected) (sym (stage-again stage id)) r

@@ -51,17 +51,17 @@ drop-removed (x ∷ xs) (suc i) = drop-removed xs i
 
 -- ---- the loop
 
-module _ (side : Side) (log : Log) (untaken : List Action) (ready : Bool) (half : Half) (rule : SlotRule) where
+module _ (side : Side) (log : Log) (uncollected : List Action) (ready : Bool) (half : Half) (rule : SlotRule) where
   -- how far a scan is, with the stages of the streams
-  pub record ScansSoFar (stage : ℕ → Stage) (old : List Slot) (known_old : Known) (at : ℕ) (ls : List Slot) (c : Known) (x : InboxState) : Type 0 where
+  pub record ScansSoFar (stage : ℕ → Stage) (old : List Slot) (known_old : Known) (offset : ℕ) (ls : List Slot) (c : Known) (x : InboxState) : Type 0 where
     pub stages : ℕ → Stage
-    pub inbox : Refines side x log stages untaken
-    pub so_far : SoFar ready rule (scan_slots ready rule 0 old known_old) at ls c
-    pub staged : scan_stages ready half rule 0 old known_old stage ≡ scan_stages ready half rule at (drop at ls) c stages
-    pub awaits : AllAwait half stages (drop at ls)
-    pub receive : SlotsReceive side log (drop at ls)
+    pub inbox : Refines side x log stages uncollected
+    pub so_far : SoFar ready rule (scan_slots ready rule 0 old known_old) offset ls c
+    pub staged : scan_stages ready half rule 0 old known_old stage ≡ scan_stages ready half rule offset (drop offset ls) c stages
+    pub awaits : AllAwait half stages (drop offset ls)
+    pub receive : SlotsReceive side log (drop offset ls)
 
-  pub scans-begin : (stage : ℕ → Stage) (old : List Slot) (known_old : Known) (x : InboxState) → Refines side x log stage untaken → AllAwait half stage old → SlotsReceive side log old → AreDistinct old
+  pub scans-begin : (stage : ℕ → Stage) (old : List Slot) (known_old : Known) (x : InboxState) → Refines side x log stage uncollected → AllAwait half stage old → SlotsReceive side log old → AreDistinct old
       → IsBounded rule.slots 0 old → ScansSoFar stage old known_old 0 old known_old x
   scans-begin stage old known_old x r a g d b = record { stages = stage; inbox = r; so_far = scan-begins ready rule old known_old b d; staged = refl; awaits = a; receive = g }
 
@@ -70,10 +70,10 @@ module _ (side : Side) (log : Log) (untaken : List Action) (ready : Bool) (half 
       ≡ stages_on (λ m later s. scan_stages ready half rule m ls later s) (visit_slot ready rule l.phase l n c) (with_stage stages l.id (visit_stage ready half rule l.phase l.id n c (stages l.id)))
   stages-cons n l ls c stages e = rw e refl
 
-  module _ (stage : ℕ → Stage) (old : List Slot) (known_old : Known) (at : ℕ) (ls : List Slot) (c e : Known) (x y : InboxState) (l : Slot)
-      (s : ScansSoFar stage old known_old at ls c x) (lt : at < length ls) (is : l ≡ get_or ls at l) (runs : c.progress.ending ≡ None) where
-    front : drop at ls ≡ l ∷ drop (at + 1) ls
-    front = drop_more ls at l lt ∙ ap (λ (x : Slot). x ∷ drop (at + 1) ls) (sym is)
+  module _ (stage : ℕ → Stage) (old : List Slot) (known_old : Known) (offset : ℕ) (ls : List Slot) (c e : Known) (x y : InboxState) (l : Slot)
+      (s : ScansSoFar stage old known_old offset ls c x) (lt : offset < length ls) (is : l ≡ get_or ls offset l) (runs : c.progress.ending ≡ None) where
+    front : drop offset ls ≡ l ∷ drop (offset + 1) ls
+    front = drop_more ls offset l lt ∙ ap (λ (x : Slot). x ∷ drop (offset + 1) ls) (sym is)
 
     pub front-awaits : AwaitsAt half l.phase (s.stages l.id)
     front-awaits = (rw front at s.awaits).0
@@ -81,47 +81,47 @@ module _ (side : Side) (log : Log) (untaken : List Action) (ready : Bool) (half 
     pub front-receives : can_receive side log l.id ≡ true
     front-receives = (rw front at s.receive).0
 
-    rest-receive : SlotsReceive side log (drop (at + 1) ls)
+    rest-receive : SlotsReceive side log (drop (offset + 1) ls)
     rest-receive = (rw front at s.receive).1
 
     -- the stages once the slot was visited
     abbrev visited_stages : ℕ → Stage
-    visited_stages = with_stage s.stages l.id (visit_stage ready half rule l.phase l.id at c (s.stages l.id))
+    visited_stages = with_stage s.stages l.id (visit_stage ready half rule l.phase l.id offset c (s.stages l.id))
 
-    rest-awaits : AllAwait half visited_stages (drop (at + 1) ls)
-    rest-awaits = awaits-other half s.stages l.id (visit_stage ready half rule l.phase l.id at c (s.stages l.id)) (drop (at + 1) ls) (rw front at s.so_far.distinct).0 (rw front at s.awaits).1
+    rest-awaits : AllAwait half visited_stages (drop (offset + 1) ls)
+    rest-awaits = awaits-other half s.stages l.id (visit_stage ready half rule l.phase l.id offset c (s.stages l.id)) (drop (offset + 1) ls) (rw front at s.so_far.distinct).0 (rw front at s.awaits).1
 
-    opened-stages : scan_stages ready half rule 0 old known_old stage ≡ stages_on (λ m later t. scan_stages ready half rule m (drop (at + 1) ls) later t) (visit_slot ready rule l.phase l at c) visited_stages
-    opened-stages = s.staged ∙ ap (λ (xs : List Slot). scan_stages ready half rule at xs c s.stages) front ∙ stages-cons at l (drop (at + 1) ls) c s.stages runs
+    opened-stages : scan_stages ready half rule 0 old known_old stage ≡ stages_on (λ m later t. scan_stages ready half rule m (drop (offset + 1) ls) later t) (visit_slot ready rule l.phase l offset c) visited_stages
+    opened-stages = s.staged ∙ ap (λ (xs : List Slot). scan_stages ready half rule offset xs c s.stages) front ∙ stages-cons offset l (drop (offset + 1) ls) c s.stages runs
 
-    pub slot-stays-so : (new : Slot) → Leaves side log s.stages untaken l.id (visit_stage ready half rule l.phase l.id at c (s.stages l.id)) (visit_slot ready rule l.phase l at c) at (Some new) y e
-        → ScansSoFar stage old known_old (at + 1) (set ls at new) e y
+    pub slot-stays-so : (new : Slot) → Leaves side log s.stages uncollected l.id (visit_stage ready half rule l.phase l.id offset c (s.stages l.id)) (visit_slot ready rule l.phase l offset c) offset (Some new) y e
+        → ScansSoFar stage old known_old (offset + 1) (set ls offset new) e y
     slot-stays-so new v =
-        let same : drop (at + 1) (set ls at new) ≡ drop (at + 1) ls = drop-set-lt (at + 1) ls at new (omega arith) in
+        let same : drop (offset + 1) (set ls offset new) ≡ drop (offset + 1) ls = drop-set-lt (offset + 1) ls offset new (omega arith) in
         record {
           stages = visited_stages;
           inbox = v.inbox;
-          so_far = slot-written ready rule (scan_slots ready rule 0 old known_old) at ls c e l s.so_far lt is runs new v.visited;
+          so_far = slot-written ready rule (scan_slots ready rule 0 old known_old) offset ls c e l s.so_far lt is runs new v.visited;
           staged =
               opened-stages
-              ∙ ap (λ (z : Visited). stages_on (λ m later t. scan_stages ready half rule m (drop (at + 1) ls) later t) z visited_stages) v.visited
+              ∙ ap (λ (z : Visited). stages_on (λ m later t. scan_stages ready half rule m (drop (offset + 1) ls) later t) z visited_stages) v.visited
               ∙ rw (same, add-one) refl;
           awaits = rw same rest-awaits;
           receive = rw same rest-receive;
         }
 
-    pub slot-goes-so : Leaves side log s.stages untaken l.id (visit_stage ready half rule l.phase l.id at c (s.stages l.id)) (visit_slot ready rule l.phase l at c) at None y e
-        → ScansSoFar stage old known_old at (remove ls at) e y
+    pub slot-goes-so : Leaves side log s.stages uncollected l.id (visit_stage ready half rule l.phase l.id offset c (s.stages l.id)) (visit_slot ready rule l.phase l offset c) offset None y e
+        → ScansSoFar stage old known_old offset (remove ls offset) e y
     slot-goes-so v = record {
       stages = visited_stages;
       inbox = v.inbox;
-      so_far = slot-removed ready rule (scan_slots ready rule 0 old known_old) at ls c e l s.so_far lt is runs v.visited;
+      so_far = slot-removed ready rule (scan_slots ready rule 0 old known_old) offset ls c e l s.so_far lt is runs v.visited;
       staged =
           opened-stages
-          ∙ ap (λ (z : Visited). stages_on (λ m later t. scan_stages ready half rule m (drop (at + 1) ls) later t) z visited_stages) v.visited
-          ∙ rw (drop-removed ls at, add-one) refl;
-      awaits = rw (drop-removed ls at) (rw add-one at rest-awaits);
-      receive = rw (drop-removed ls at) (rw add-one at rest-receive);
+          ∙ ap (λ (z : Visited). stages_on (λ m later t. scan_stages ready half rule m (drop (offset + 1) ls) later t) z visited_stages) v.visited
+          ∙ rw (drop-removed ls offset, add-one) refl;
+      awaits = rw (drop-removed ls offset) (rw add-one at rest-awaits);
+      receive = rw (drop-removed ls offset) (rw add-one at rest-receive);
     }
 
   -- ---- the end of the loop
@@ -140,9 +140,9 @@ module _ (side : Side) (log : Log) (untaken : List Action) (ready : Bool) (half 
   later-too n e = le-ltb (suc n) rule.slots (let le = ltb-false n rule.slots e in omega arith)
 
   -- after the first few slots no stream is read
-  behind-stages : (ls : List Slot) (n : ℕ) (c : Known) (stages : ℕ → Stage) → nat_lt n rule.slots ≡ false → IsBounded rule.slots n ls → scan_stages ready half rule n ls c stages ≡ stages
-  behind-stages [] n c stages e b = refl
-  behind-stages (l ∷ ls) n c stages e b = by c.progress.ending refl (behind-stages ls (suc n) c stages (later-too n e) b.1)
+  after-stages : (ls : List Slot) (n : ℕ) (c : Known) (stages : ℕ → Stage) → nat_lt n rule.slots ≡ false → IsBounded rule.slots n ls → scan_stages ready half rule n ls c stages ≡ stages
+  after-stages [] n c stages e b = refl
+  after-stages (l ∷ ls) n c stages e b = by c.progress.ending refl (after-stages ls (suc n) c stages (later-too n e) b.1)
     where
       one : visit_slot ready rule l.phase l n c ≡ keep_slot l n c
       one = arrived-stays l.phase l.id n c (b.0 e) e
@@ -163,19 +163,19 @@ module _ (side : Side) (log : Log) (untaken : List Action) (ready : Bool) (half 
   ended-stages [] n c stages e f = refl
   ended-stages (l ∷ ls) n c stages e f = rw f refl
 
-  module _ (stage : ℕ → Stage) (old : List Slot) (known_old : Known) (at : ℕ) (ls : List Slot) (c : Known) (x : InboxState) (s : ScansSoFar stage old known_old at ls c x) where
-    scans-end : scan_stages ready half rule at (drop at ls) c s.stages ≡ s.stages → scan_slots ready rule 0 old known_old ≡ record { slots = ls; known = c } → Scans side log untaken ready half rule stage old ls known_old c x
-    scans-end e f = record { inbox = subst (λ (t : ℕ → Stage). Refines side x log t untaken) (sym (s.staged ∙ e)) s.inbox; scanned = f }
+  module _ (stage : ℕ → Stage) (old : List Slot) (known_old : Known) (offset : ℕ) (ls : List Slot) (c : Known) (x : InboxState) (s : ScansSoFar stage old known_old offset ls c x) where
+    scans-end : scan_stages ready half rule offset (drop offset ls) c s.stages ≡ s.stages → scan_slots ready rule 0 old known_old ≡ record { slots = ls; known = c } → Scans side log uncollected ready half rule stage old ls known_old c x
+    scans-end e f = record { inbox = subst (λ (t : ℕ → Stage). Refines side x log t uncollected) (sym (s.staged ∙ e)) s.inbox; scanned = f }
 
-    pub scans-few : rule.slots ≤ at → Scans side log untaken ready half rule stage old ls known_old c x
-    scans-few le = scans-end (behind-stages (drop at ls) at c s.stages (le-ltb at rule.slots le) s.so_far.bounded) (scan-few ready rule (scan_slots ready rule 0 old known_old) at ls c s.so_far le)
+    pub scans-few : rule.slots ≤ offset → Scans side log uncollected ready half rule stage old ls known_old c x
+    scans-few le = scans-end (after-stages (drop offset ls) offset c s.stages (le-ltb offset rule.slots le) s.so_far.bounded) (scan-few ready rule (scan_slots ready rule 0 old known_old) offset ls c s.so_far le)
 
-    pub scans-whole : length ls ≤ at → Scans side log untaken ready half rule stage old ls known_old c x
-    scans-whole le = scans-end (rw (drop_all at ls le) refl) (scan-whole ready rule (scan_slots ready rule 0 old known_old) at ls c s.so_far le)
+    pub scans-whole : length ls ≤ offset → Scans side log uncollected ready half rule stage old ls known_old c x
+    scans-whole le = scans-end (rw (drop_all offset ls le) refl) (scan-whole ready rule (scan_slots ready rule 0 old known_old) offset ls c s.so_far le)
 
-    pub scans-halted : (c.progress.ending ≡ None → ⊥) → Scans side log untaken ready half rule stage old ls known_old c x
-    scans-halted some = scans-end (by c.progress.ending refl) (scan-halted ready rule (scan_slots ready rule 0 old known_old) at ls c s.so_far some)
+    pub scans-halted : (c.progress.ending ≡ None → ⊥) → Scans side log uncollected ready half rule stage old ls known_old c x
+    scans-halted some = scans-end (by c.progress.ending refl) (scan-halted ready rule (scan_slots ready rule 0 old known_old) offset ls c s.so_far some)
       where
-        by : (o : Option Ending) → c.progress.ending ≡ o → scan_stages ready half rule at (drop at ls) c s.stages ≡ s.stages
+        by : (o : Option Ending) → c.progress.ending ≡ o → scan_stages ready half rule offset (drop offset ls) c s.stages ≡ s.stages
         by None e = absurd (some e)
-        by (Some y) e = ended-stages (drop at ls) at c s.stages y e
+        by (Some y) e = ended-stages (drop offset ls) offset c s.stages y e

@@ -31,13 +31,13 @@ pub if_ok : {T E : Type 0} {P Q : T → Type 0} (r : Result T E) → ((x : T) �
 if_ok (Ok x) f p = f x p
 if_ok (Err e) f p = p
 
-module _ (side : Side) (log : Log) (stage : ℕ → Stage) (untaken : List Action) (id n : ℕ) where
+module _ (side : Side) (log : Log) (stage : ℕ → Stage) (uncollected : List Action) (id n : ℕ) where
   pub classify-done : (rule : SlotRule) (d d_then : Dispatched) (p p_then : DriverProgress) (v : Verdict) (e : Consequence) (gives released : Bool) (x : InboxState) (left : Option Slot)
       → v ≡ rule.verdict id → e ≡ rule.consequence d id v → gives ≡ (e.surplus || reads_no_more v) → released ≡ is_released false v
       → p_then ≡ with_consequence e p → d_then ≡ dispatch d (record { id = id; verdict = v; surplus = e.surplus })
-      → Refines side x log (with_stage stage id (unless_given_up gives (stage_from (verdict_offset (rule.verdict id))))) untaken
+      → Refines side x log (with_stage stage id (unless_given_up gives (stage_from (verdict_offset (rule.verdict id))))) uncollected
       → ((m : ℕ) (known : Known) → record { slots = if released then [] else record { id = id; phase = Held } ∷ []; occupied = occupied released m; known = known } ≡ visited_as left m known)
-      → Leaves side log stage untaken id (classified_stage (rule.consequence d id (rule.verdict id)).surplus (rule.verdict id)) (classify_as rule.consequence id (rule.verdict id) n (known_by d p)) n left x (known_by d_then p_then)
+      → Leaves side log stage uncollected id (classified_stage (rule.consequence d id (rule.verdict id)).surplus (rule.verdict id)) (classify_as rule.consequence id (rule.verdict id) n (known_by d p)) n left x (known_by d_then p_then)
   classify-done rule d d_then p p_then v e gives released x left vw ev gv rv pv dv r h =
       let same : e ≡ rule.consequence d id (rule.verdict id) = ev ∙ ap (rule.consequence d id) vw in
       let given : gives ≡ ((rule.consequence d id (rule.verdict id)).surplus || reads_no_more (rule.verdict id)) = gv ∙ (λ i. (same i).surplus || reads_no_more (vw i)) in
@@ -46,7 +46,7 @@ module _ (side : Side) (log : Log) (stage : ℕ → Stage) (untaken : List Actio
       let added : dispatch d (record { id = id; verdict = rule.verdict id; surplus = (rule.consequence d id (rule.verdict id)).surplus }) ≡ d_then =
       (λ i. dispatch d (record { id = id; verdict = sym vw i; surplus = (sym same i).surplus })) ∙ sym dv in
       record {
-        inbox = subst (λ (b : Bool). Refines side x log (with_stage stage id (unless_given_up b (stage_from (verdict_offset (rule.verdict id))))) untaken) given r;
+        inbox = subst (λ (b : Bool). Refines side x log (with_stage stage id (unless_given_up b (stage_from (verdict_offset (rule.verdict id))))) uncollected) given r;
         visited =
             (λ i. record {
               slots = if freed i then [] else record { id = id; phase = Held } ∷ [];
@@ -58,14 +58,14 @@ module _ (side : Side) (log : Log) (stage : ℕ → Stage) (untaken : List Actio
 
   -- the header's stage was set before
   pub leaves-twice : (half : Half) (to : Stage) (visit : Visited) (left : Option Slot) (x : InboxState) (known : Known)
-      → Leaves side log (with_stage stage id (header_stage half)) untaken id to visit n left x known → Leaves side log stage untaken id to visit n left x known
-  leaves-twice half to visit left x known v = record { inbox = twice side x log untaken stage id (header_stage half) to v.inbox; visited = v.visited }
+      → Leaves side log (with_stage stage id (header_stage half)) uncollected id to visit n left x known → Leaves side log stage uncollected id to visit n left x known
+  leaves-twice half to visit left x known v = record { inbox = twice side x log uncollected stage id (header_stage half) to v.inbox; visited = v.visited }
 
   -- the slot of a stream that may not be dequeued stays
-  pub keeps-arrived : (ready : Bool) (half : Half) (rule : SlotRule) (slot new : Slot) (x : InboxState) (known : Known) → Refines side x log stage untaken → record { id = slot.id; phase = Arrived } ≡ new → slot.phase ≡ Arrived
+  pub keeps-arrived : (ready : Bool) (half : Half) (rule : SlotRule) (slot new : Slot) (x : InboxState) (known : Known) → Refines side x log stage uncollected → record { id = slot.id; phase = Arrived } ≡ new → slot.phase ≡ Arrived
       → (ready && nat_lt n rule.slots) ≡ false
-      → Leaves side log stage untaken slot.id (visit_stage ready half rule slot.phase slot.id n known (stage slot.id)) (visit_slot ready rule slot.phase slot n known) n (Some new) x known
+      → Leaves side log stage uncollected slot.id (visit_stage ready half rule slot.phase slot.id n known (stage slot.id)) (visit_slot ready rule slot.phase slot n known) n (Some new) x known
   keeps-arrived ready half rule slot new x known r same p m = rw (p, m) (record {
-    inbox = subst (λ (t : ℕ → Stage). Refines side x log t untaken) (sym (stage-again stage slot.id)) r;
+    inbox = subst (λ (t : ℕ → Stage). Refines side x log t uncollected) (sym (stage-again stage slot.id)) r;
     visited = ap (λ (s : Slot). record { slots = s ∷ []; occupied = suc n; known = known }) same;
   })

@@ -62,9 +62,9 @@ abbrev pub known_by : Dispatched → DriverProgress → Known
 known_by d p = record { dispatched = d; progress = p }
 
 -- A visit of stream `id` leaves it at this stage, and this of its slot.
-pub record Leaves (side : Side) (log : Log) (stage : ℕ → Stage) (untaken : List Action) (id : ℕ) (to : Stage) (visit : Visited) (n : ℕ)
+pub record Leaves (side : Side) (log : Log) (stage : ℕ → Stage) (uncollected : List Action) (id : ℕ) (to : Stage) (visit : Visited) (n : ℕ)
     (left : Option Slot) (x : InboxState) (known : Known) : Type 0 where
-  pub inbox : Refines side x log (with_stage stage id to) untaken
+  pub inbox : Refines side x log (with_stage stage id to) uncollected
   pub visited : visit ≡ visited_as left n known
 
 -- ---- all slots of a kind
@@ -103,8 +103,8 @@ scan_stages ready half rule n (slot ∷ slots) known stage =
     stage known
 
 -- The scan of the slots of a kind leaves the streams at these stages, and this of the slots.
-pub record Scans (side : Side) (log : Log) (untaken : List Action) (ready : Bool) (half : Half) (rule : SlotRule) (stage : ℕ
+pub record Scans (side : Side) (log : Log) (uncollected : List Action) (ready : Bool) (half : Half) (rule : SlotRule) (stage : ℕ
     → Stage) (old new : List Slot)
     (known_old known_new : Known) (x : InboxState) : Type 0 where
-  pub inbox : Refines side x log (scan_stages ready half rule 0 old known_old stage) untaken
+  pub inbox : Refines side x log (scan_stages ready half rule 0 old known_old stage) uncollected
   pub scanned : scan_slots ready rule 0 old known_old ≡ record { slots = new; known = known_new }

@@ -41,8 +41,8 @@ fn slots_of(half: Half) -> usize
 fn has_verdict(inbox: &mut Inbox, half: Half, id: StreamId) -> Result<bool, OutOfMemory>
     ensures answer { TellsAt inbox.old (λ side log stage. awaits half (stage id) ≡ true
         → IfOk result (λ so. so ≡ is_final ((rule_of half (transport_view side log)).verdict id))) }
-    ensures log { OfEachLog inbox.old (λ side log stage untaken. awaits half (stage id) ≡ true
-        → OnOk result (Refines side inbox.new log (with_stage stage id (header_stage half)) untaken)) }
+    ensures log { OfEachLog inbox.old (λ side log stage uncollected. awaits half (stage id) ≡ true
+        → OnOk result (Refines side inbox.new log (with_stage stage id (header_stage half)) uncollected)) }
 {
     match half {
         Half::Uni => inbox.has_uni_verdict(id),
@@ -54,8 +54,8 @@ fn has_verdict(inbox: &mut Inbox, half: Half, id: StreamId) -> Result<bool, OutO
 fn release_header(inbox: &mut Inbox, half: Half, id: StreamId) -> Result<Verdict, OutOfMemory>
     ensures answer { TellsAt inbox.old (λ side log stage. awaits half (stage id) ≡ true
         → IfOk result (λ v. v ≡ (rule_of half (transport_view side log)).verdict id)) }
-    ensures log { OfEachLog inbox.old (λ side log stage untaken. awaits half (stage id) ≡ true
-        → OnOk result (Refines side inbox.new log (with_stage stage id (stage_from (verdict_offset ((rule_of half (transport_view side log)).verdict id)))) untaken)) }
+    ensures log { OfEachLog inbox.old (λ side log stage uncollected. awaits half (stage id) ≡ true
+        → OnOk result (Refines side inbox.new log (with_stage stage id (stage_from (verdict_offset ((rule_of half (transport_view side log)).verdict id)))) uncollected)) }
 {
     match half {
         Half::Uni => inbox.release_uni(id),
@@ -65,9 +65,9 @@ fn release_header(inbox: &mut Inbox, half: Half, id: StreamId) -> Result<Verdict
 
 /// Gives a stream up where the test holds: its bytes are let go.
 fn give_up_if(inbox: &mut Inbox, id: StreamId, test: bool)
-    ensures log { (side : Side) (log : Log) (stage : ℕ → Stage) (to : Stage) (untaken : List Action)
-        → Refines side inbox.old log (with_stage stage id to) untaken → can_receive side log id ≡ true
-        → Refines side inbox.new log (with_stage stage id (unless_given_up test to)) untaken }
+    ensures log { (side : Side) (log : Log) (stage : ℕ → Stage) (to : Stage) (uncollected : List Action)
+        → Refines side inbox.old log (with_stage stage id to) uncollected → can_receive side log id ≡ true
+        → Refines side inbox.new log (with_stage stage id (unless_given_up test to)) uncollected }
 {
     if test && inbox.can_receive(id) {
         inbox.give_up(id);
@@ -102,9 +102,9 @@ fn classify(
     dispatched: &mut DispatchedStreams,
     progress: &mut ConnectionProgress,
 ) -> Result<Option<Slot>, OutOfMemory>
-    ensures log { (side : Side) (log : Log) (stage : ℕ → Stage) (untaken : List Action) (n : ℕ) → Refines side inbox.old log stage untaken
+    ensures log { (side : Side) (log : Log) (stage : ℕ → Stage) (uncollected : List Action) (n : ℕ) → Refines side inbox.old log stage uncollected
         → awaits half (stage id) ≡ true → can_receive side log id ≡ true
-        → IfOk result (λ left. Leaves side log stage untaken id
+        → IfOk result (λ left. Leaves side log stage uncollected id
         (look_stage true half ((rule_of half (transport_view side log)).consequence dispatched.old id ((rule_of half (transport_view side log)).verdict id)).surplus ((rule_of half (transport_view side log)).verdict id))
         (classify_slot true (rule_of half (transport_view side log)) id n (known_by dispatched.old progress.old))
         n left inbox.new (known_by dispatched.new progress.new)) }
@@ -132,9 +132,9 @@ fn look(
     dispatched: &mut DispatchedStreams,
     progress: &mut ConnectionProgress,
 ) -> Result<Option<Slot>, OutOfMemory>
-    ensures log { (side : Side) (log : Log) (stage : ℕ → Stage) (untaken : List Action) (n : ℕ) → Refines side inbox.old log stage untaken
+    ensures log { (side : Side) (log : Log) (stage : ℕ → Stage) (uncollected : List Action) (n : ℕ) → Refines side inbox.old log stage uncollected
         → awaits half (stage id) ≡ true → can_receive side log id ≡ true
-        → IfOk result (λ left. Leaves side log stage untaken id
+        → IfOk result (λ left. Leaves side log stage uncollected id
         (dequeue_stage true half (rule_of half (transport_view side log)) id (known_by dispatched.old progress.old) (stage id))
         (classify_slot (is_final ((rule_of half (transport_view side log)).verdict id)) (rule_of half (transport_view side log)) id n (known_by dispatched.old progress.old))
         n left inbox.new (known_by dispatched.new progress.new)) }
@@ -166,9 +166,9 @@ fn visit(
     dispatched: &mut DispatchedStreams,
     progress: &mut ConnectionProgress,
 ) -> Result<Option<Slot>, OutOfMemory>
-    ensures log { OfEachLog inbox.old (λ side log stage untaken. is_open log ≡ true → AwaitsAt half slot.now.phase (stage slot.now.id)
+    ensures log { OfEachLog inbox.old (λ side log stage uncollected. is_open log ≡ true → AwaitsAt half slot.now.phase (stage slot.now.id)
         → can_receive side log slot.now.id ≡ true
-        → IfOk result (λ left. Leaves side log stage untaken slot.now.id
+        → IfOk result (λ left. Leaves side log stage uncollected slot.now.id
         (visit_stage (settings_ready side log) half (rule_of half (transport_view side log)) slot.now.phase slot.now.id occupied (known_by dispatched.old progress.old) (stage slot.now.id))
         (visit_slot (settings_ready side log) (rule_of half (transport_view side log)) slot.now.phase slot.now occupied (known_by dispatched.old progress.old))
         occupied left inbox.new (known_by dispatched.new progress.new))) }
@@ -189,11 +189,11 @@ fn visit(
 }
 
 /// Removes a slot.
-pub fn remove_at(slots: &mut VecDeque<Slot>, at: usize)
-    requires { at < length slots.old.items }
-    ensures { slots.new.items ≡ remove slots.old.items at }
+pub fn remove_at(slots: &mut VecDeque<Slot>, index: usize)
+    requires { index < length slots.old.items }
+    ensures { slots.new.items ≡ remove slots.old.items index }
 {
-    match slots.remove(at) {
+    match slots.remove(index) {
         Some(_released) => {}
         None => unreachable!(),
     }
@@ -207,20 +207,20 @@ pub fn scan(
     dispatched: &mut DispatchedStreams,
     progress: &mut ConnectionProgress,
 ) -> Result<(), OutOfMemory>
-    ensures log { OfEachLog inbox.old (λ side log stage untaken. is_open log ≡ true → AllAwait half stage slots.old.items
+    ensures log { OfEachLog inbox.old (λ side log stage uncollected. is_open log ≡ true → AllAwait half stage slots.old.items
         → SlotsReceive side log slots.old.items → AreDistinct slots.old.items
         → IsBounded (slots_of half) 0 slots.old.items
-        → OnOk result (Scans side log untaken (settings_ready side log) half (rule_of half (transport_view side log)) stage slots.old.items slots.new.items (known_by dispatched.old progress.old) (known_by dispatched.new progress.new) inbox.new)) }
+        → OnOk result (Scans side log uncollected (settings_ready side log) half (rule_of half (transport_view side log)) stage slots.old.items slots.new.items (known_by dispatched.old progress.old) (known_by dispatched.new progress.new) inbox.new)) }
 {
     let most = slots_of(half);
-    let mut at = 0;
-    while at < most && at < slots.len() && progress.still_going() {
-        match visit(inbox, half, &slots[at], at, dispatched, progress)? {
+    let mut index = 0;
+    while index < most && index < slots.len() && progress.still_going() {
+        match visit(inbox, half, &slots[index], index, dispatched, progress)? {
             Some(slot) => {
-                slots[at] = slot;
-                at += 1;
+                slots[index] = slot;
+                index += 1;
             }
-            None => remove_at(slots, at),
+            None => remove_at(slots, index),
         }
     }
     Ok(())

@@ -10,11 +10,11 @@ use Rattle.wt_script.specs.Script.{read_lines, with_line}
 
 pub refused_here : (number : ℕ) (before : Lines) (line : List ℕ) (lines : List (List ℕ)) → with_line before line ≡ None
     → read_lines number before (line ∷ lines) ≡ Err (record { line = number })
-refused_here number before line lines e = ap (λ (next : Option Lines). elim next [ Some next ↦ read_lines (number + 1) next lines | None ↦ Err (record { line = number }) ]) e
+refused_here number before line lines e = ap (λ (following : Option Lines). elim following [ Some following ↦ read_lines (number + 1) following lines | None ↦ Err (record { line = number }) ]) e
 
-pub taken_here : (number : ℕ) (before next : Lines) (line : List ℕ) (lines : List (List ℕ)) → with_line before line ≡ Some next
-    → read_lines number before (line ∷ lines) ≡ read_lines (number + 1) next lines
-taken_here number before next line lines e = ap (λ (next : Option Lines). elim next [ Some next ↦ read_lines (number + 1) next lines | None ↦ Err (record { line = number }) ]) e
+pub accepted_here : (number : ℕ) (before following : Lines) (line : List ℕ) (lines : List (List ℕ)) → with_line before line ≡ Some following
+    → read_lines number before (line ∷ lines) ≡ read_lines (number + 1) following lines
+accepted_here number before following line lines e = ap (λ (following : Option Lines). elim following [ Some following ↦ read_lines (number + 1) following lines | None ↦ Err (record { line = number }) ]) e
 
 pub at_line_end : (line script : List ℕ) (i : ℕ) → i < length script → get_or script i 0 ≡ 10
     → lines_from line (drop i script) ≡ line ∷ lines_from [] (drop (i + 1) script)
@@ -43,12 +43,12 @@ in_line script start i begun within other =
     ∙ ap (λ l. lines_from l rest) (sym (longer script start i begun within))
 
 -- after a line that is taken the next one begins
-pub next_line : (script line : List ℕ) (i number : ℕ) (before next : Lines) → i < length script → get_or script i 0 ≡ 10
-    → with_line before line ≡ Some next
-    → read_lines (number + 1) next (lines_from (take (i + 1 - (i + 1)) (drop (i + 1) script)) (drop (i + 1) script))
+pub next_line : (script line : List ℕ) (i number : ℕ) (before following : Lines) → i < length script → get_or script i 0 ≡ 10
+    → with_line before line ≡ Some following
+    → read_lines (number + 1) following (lines_from (take (i + 1 - (i + 1)) (drop (i + 1) script)) (drop (i + 1) script))
     ≡ read_lines number before (lines_from line (drop i script))
-next_line script line i number before next within feed taken =
+next_line script line i number before following within feed accepted =
     let none : i + 1 - (i + 1) ≡ 0 = omega arith in
-    ap (λ n. read_lines (number + 1) next (lines_from (take n (drop (i + 1) script)) (drop (i + 1) script))) none
-    ∙ sym (taken_here number before next line (lines_from [] (drop (i + 1) script)) taken)
+    ap (λ n. read_lines (number + 1) following (lines_from (take n (drop (i + 1) script)) (drop (i + 1) script))) none
+    ∙ sym (accepted_here number before following line (lines_from [] (drop (i + 1) script)) accepted)
     ∙ ap (read_lines number before) (sym (at_line_end line script i within feed))

@@ -46,13 +46,13 @@ loss_of_words [] = None
 loss_of_words (kind ∷ []) = bare_loss_of kind
 loss_of_words (kind ∷ field ∷ fields) = coded_loss_of kind (field ∷ fields)
 
--- what the transport tells when the connection stands
+-- what the transport tells when the connection is established
 abbrev pub connected_of : List (List ℕ) → Option Turn
 connected_of (uni ∷ bi ∷ credit ∷ fact ∷ []) =
     option_map (λ p. turns.Connected p.0 p.1.0 p.1.1.0 p.1.1.1) (option_zip (count_of uni) (option_zip (count_of bi) (option_zip (count_of credit) (fact_of fact))))
 connected_of ws = None
 
--- the events that bring bytes or a text
+-- the events that carry bytes or a text
 abbrev pub data_event_of : List ℕ → List (List ℕ) → Option Turn
 data_event_of name fields =
     if is_word name (codes "bytes") then option_map (λ p. turns.Bytes p.0 p.1) (two id_of bytes_of fields) else

@@ -57,7 +57,7 @@ script_at_end number turns (Some side) = Ok (record { side = side; turns = turns
 -- the lines one after another, the first of this number; the first that is none of a script's refuses it
 abbrev pub read_lines : ℕ → Lines → List (List ℕ) → Result Script ScriptRefused
 read_lines number before [] = script_at_end number before.turns before.side
-read_lines number before (line ∷ lines) = elim (with_line before line) [ Some next ↦ read_lines (number + 1) next lines | None ↦ Err (record { line = number }) ]
+read_lines number before (line ∷ lines) = elim (with_line before line) [ Some following ↦ read_lines (number + 1) following lines | None ↦ Err (record { line = number }) ]
 
 -- no line yet
 abbrev pub no_lines : Lines

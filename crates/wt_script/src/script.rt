@@ -63,7 +63,7 @@ impl Draft {
 
     /// Takes a line; false where it isn't in the grammar.
     fn take_line(&mut self, alloc: Global, line: &[u8]) -> Result<bool, OutOfMemory>
-        ensures { IfOk result (λ taken. with_line self.old line.now ≡ (if taken then Some self.new else None)) }
+        ensures { IfOk result (λ accepted. with_line self.old line.now ≡ (if accepted then Some self.new else None)) }
     {
         match line {
             [] => Ok(true),
@@ -88,7 +88,7 @@ impl Draft {
     }
 
     fn take_turn(&mut self, alloc: Global, line: &[u8]) -> Result<bool, OutOfMemory>
-        ensures { IfOk result (λ taken. option_map (with_turn self.old) (turn_of line.now) ≡ (if taken then Some self.new else None)) }
+        ensures { IfOk result (λ accepted. option_map (with_turn self.old) (turn_of line.now) ≡ (if accepted then Some self.new else None)) }
     {
         match read_turn(alloc, line)? {
             Some(turn) => {
@@ -99,7 +99,7 @@ impl Draft {
         }
     }
 
-    /// The script, or its refusal at this line where no line told the side.
+    /// The script, or its refusal at this line where no line gave the side.
     fn finish(self, number: u64) -> Result<Script, ScriptRefused>
         ensures { result ≡ script_at_end number self.turns self.side }
     {
@@ -173,13 +173,13 @@ fn read_on(
     let mut draft = draft;
     let mut number: u64 = 1;
     let mut start = 0;
-    for (at, byte) in script.iter().enumerate() {
+    for (offset, byte) in script.iter().enumerate() {
         if *byte == b'\n' {
-            if !draft.take_line(alloc, &script[start..at])? {
+            if !draft.take_line(alloc, &script[start..offset])? {
                 return Ok(Err(ScriptRefused { line: number }));
             }
             number += 1;
-            start = at + 1;
+            start = offset + 1;
         }
     }
     end_script(alloc, draft, number, &script[start..])

@@ -74,8 +74,8 @@ module _ (side : Side) (log g : Log) (o : OnlyBytes log g) where
   same-count : stream_count side g ≡ stream_count side log
   same-count = λ i kind. peer_count side (o.all_events i) kind + local_count (o.actions i) kind
 
-  same-state : (position : ℕ → ReadPosition) (pieces : ℕ → List (List ℕ)) (untaken : List Action) → state_of side g position pieces untaken ≡ state_of side log position pieces untaken
-  same-state position pieces untaken = λ i. record {
+  same-state : (position : ℕ → ReadPosition) (pieces : ℕ → List (List ℕ)) (uncollected : List Action) → state_of side g position pieces uncollected ≡ state_of side log position pieces uncollected
+  same-state position pieces uncollected = λ i. record {
     side = side;
     is_open = o.open_same i;
     has_dialled = has_dialled (o.actions i);
@@ -87,16 +87,16 @@ module _ (side : Side) (log g : Log) (o : OnlyBytes log g) where
     datagram_fact = datagram_fact (o.events i);
     loss = loss_of (o.events i);
     streams = rows (same-stream position pieces i) (same-count i);
-    actions = joined_actions untaken;
+    actions = joined_actions uncollected;
   }
 
 -- the pieces of one stream with one more hold its bytes
-one-more : (at : ReadPosition) (bytes piece : List ℕ) (pieces : List (List ℕ)) → concat pieces ≡ from_position at bytes → IsWithin at bytes
-    → concat (received_unless (is_given_up at) pieces piece) ≡ from_position at (bytes ++ piece)
+one-more : (read_position : ReadPosition) (bytes piece : List ℕ) (pieces : List (List ℕ)) → concat pieces ≡ from_position read_position bytes → IsWithin read_position bytes
+    → concat (received_unless (is_given_up read_position) pieces piece) ≡ from_position read_position (bytes ++ piece)
 one-more (AtOffset offset) bytes piece pieces e w = concat_more pieces piece ∙ ap (λ xs. xs ++ piece) e ∙ sym (drop-append-le offset bytes piece w)
 one-more GivenUp bytes piece pieces e w = e
 
-more-within : (at : ReadPosition) (bytes piece : List ℕ) → IsWithin at bytes → IsWithin at (bytes ++ piece)
+more-within : (read_position : ReadPosition) (bytes piece : List ℕ) → IsWithin read_position bytes → IsWithin read_position (bytes ++ piece)
 more-within (AtOffset offset) bytes piece w = omega (arith, length-append bytes piece)
 more-within GivenUp bytes piece w = tt
 
@@ -144,9 +144,9 @@ abbrev pub pieces_then : Log → (ℕ → ReadPosition) → (ℕ → List (List 
 pieces_then log position pieces (turns.Bytes id piece) = pieces_if (is_open log) position pieces id piece
 pieces_then log position pieces _ = pieces
 
-module _ (side : Side) (log : Log) (position : ℕ → ReadPosition) (pieces : ℕ → List (List ℕ)) (untaken : List Action) (facts : Facts side log position pieces) where
+module _ (side : Side) (log : Log) (position : ℕ → ReadPosition) (pieces : ℕ → List (List ℕ)) (uncollected : List Action) (facts : Facts side log position pieces) where
   abbrev state : TransportState
-  state = state_of side log position pieces untaken
+  state = state_of side log position pieces uncollected
 
   abbrev stream : ℕ → Stream
   stream = stream_of log position pieces
@@ -155,10 +155,10 @@ module _ (side : Side) (log : Log) (position : ℕ → ReadPosition) (pieces : �
   connected = is_connected (all_events_of log)
 
   bytes-then : (b : Bool) (id : ℕ) (piece : List ℕ) → exists side log id ≡ true
-      → if_so b (record state { streams = with_changed (rows stream (stream_count side log)) id (with_bytes piece) }) state ≡ state_of side (log_bytes_if b log id piece) position (pieces_if b position pieces id piece) untaken
+      → if_so b (record state { streams = with_changed (rows stream (stream_count side log)) id (with_bytes piece) }) state ≡ state_of side (log_bytes_if b log id piece) position (pieces_if b position pieces id piece) uncollected
   bytes-then true id piece x =
       with-streams state stream (stream_of log position (received position pieces id piece)) (stream_count side log) id (with_bytes piece) x (receive-changes log position pieces id piece)
-      ∙ sym (same-state side log (log_bytes log id piece) (only-bytes log id piece) position (received position pieces id piece) untaken)
+      ∙ sym (same-state side log (log_bytes log id piece) (only-bytes log id piece) position (received position pieces id piece) uncollected)
   bytes-then false id piece x = refl
 
   bytes-facts : (b : Bool) (id : ℕ) (piece : List ℕ) → exists side log id ≡ true → (local_uni side == id % 4) ≡ false → Facts side (log_bytes_if b log id piece) position (pieces_if b position pieces id piece)
@@ -204,26 +204,26 @@ module _ (side : Side) (log : Log) (position : ℕ → ReadPosition) (pieces : �
       (first (may_begin side log && not connected && not (nat_lt (2 ^ 60) uni) && not (nat_lt (2 ^ 60) bi)) (nat_lt n (2 ^ 62)) e))))
 
   acks : (id : ℕ) (a b c : Bool) → (connected && is_finished (actions_of log) id && a && b && c) ≡ true → exists side log id ≡ true
-  acks id a b c e = finished-exists side log position pieces untaken facts id (exists side log id) refl (second connected (is_finished (actions_of log) id)
+  acks id a b c e = finished-exists side log position pieces uncollected facts id (exists side log id) refl (second connected (is_finished (actions_of log) id)
       (first (connected && is_finished (actions_of log) id) a (first (connected && is_finished (actions_of log) id && a) b (first (connected && is_finished (actions_of log) id && a && b) c e))))
 
   -- ---- the turn
 
-  came-then : (turn : Turn) → may_come side log turn ≡ true → after_turn state turn ≡ state_of side (log_turn log turn) position (pieces_then log position pieces turn) untaken
-  came-then (turns.Connected uni bi n datagrams) e = connected-then side log position pieces untaken (is_open log) uni bi n datagrams refl (unconnected uni bi n e) facts
-  came-then turns.PeerUni e = uni-then side log position pieces untaken (is_open log) facts
-  came-then turns.PeerBi e = bi-then side log position pieces untaken (is_open log) facts
+  came-then : (turn : Turn) → may_come side log turn ≡ true → after_turn state turn ≡ state_of side (log_turn log turn) position (pieces_then log position pieces turn) uncollected
+  came-then (turns.Connected uni bi n datagrams) e = connected-then side log position pieces uncollected (is_open log) uni bi n datagrams refl (unconnected uni bi n e) facts
+  came-then turns.PeerUni e = uni-then side log position pieces uncollected (is_open log) facts
+  came-then turns.PeerBi e = bi-then side log position pieces uncollected (is_open log) facts
   came-then (turns.Bytes id piece) e = bytes-then (is_open log) id piece (received-exists id (receiving id e))
-  came-then (turns.End id) e = end-then side log position pieces untaken (is_open log) id refl (received-exists id (receiving id e))
-  came-then (turns.Reset id code) e = reset-then side log position pieces untaken (is_open log) id code refl (received-exists id (receiving id e))
-  came-then (turns.Stop id code) e = stop-then side log position pieces untaken (is_open log) id code refl (sending-exists id _ _ e)
-  came-then (turns.Acked id) e = ack-then side log position pieces untaken (is_open log) id refl (acks id _ _ _ e)
-  came-then (turns.Datagram piece) e = datagram-then side log position pieces untaken (is_open log) piece
-  came-then (turns.MaxUni total) e = unis-then side log position pieces untaken (is_open log) total
-  came-then (turns.MaxBi total) e = bis-then side log position pieces untaken (is_open log) total
-  came-then (turns.MaxData id total) e = credit-then side log position pieces untaken (is_open log) id total (sending-exists id _ _ e)
-  came-then (turns.DatagramLimit fact) e = limit-then side log position pieces untaken (is_open log) fact refl
-  came-then (turns.Loss reason) e = loss-then side log position pieces untaken (is_open log) reason refl
+  came-then (turns.End id) e = end-then side log position pieces uncollected (is_open log) id refl (received-exists id (receiving id e))
+  came-then (turns.Reset id code) e = reset-then side log position pieces uncollected (is_open log) id code refl (received-exists id (receiving id e))
+  came-then (turns.Stop id code) e = stop-then side log position pieces uncollected (is_open log) id code refl (sending-exists id _ _ e)
+  came-then (turns.Acked id) e = ack-then side log position pieces uncollected (is_open log) id refl (acks id _ _ _ e)
+  came-then (turns.Datagram piece) e = datagram-then side log position pieces uncollected (is_open log) piece
+  came-then (turns.MaxUni total) e = unis-then side log position pieces uncollected (is_open log) total
+  came-then (turns.MaxBi total) e = bis-then side log position pieces uncollected (is_open log) total
+  came-then (turns.MaxData id total) e = credit-then side log position pieces uncollected (is_open log) id total (sending-exists id _ _ e)
+  came-then (turns.DatagramLimit fact) e = limit-then side log position pieces uncollected (is_open log) fact refl
+  came-then (turns.Loss reason) e = loss-then side log position pieces uncollected (is_open log) reason refl
   came-then (turns.Call call) e = refl
 
   facts-then : (turn : Turn) → may_come side log turn ≡ true → Facts side (log_turn log turn) position (pieces_then log position pieces turn)
@@ -243,7 +243,7 @@ module _ (side : Side) (log : Log) (position : ℕ → ReadPosition) (pieces : �
   facts-then (turns.Loss reason) e = loss-facts side log position pieces facts (is_open log) reason refl
   facts-then (turns.Call call) e = facts
 
-  pub turn-is : (turn : Turn) → fits side log turn ≡ true → after_turn state turn ≡ state_of side (log_turn log turn) position (pieces_then log position pieces turn) untaken
+  pub turn-is : (turn : Turn) → fits side log turn ≡ true → after_turn state turn ≡ state_of side (log_turn log turn) position (pieces_then log position pieces turn) uncollected
   turn-is turn e = came-then turn (first (may_come side log turn) (not (is_some (loss_of (all_events_of log)))) e)
 
   pub turn-facts : (turn : Turn) → fits side log turn ≡ true → Facts side (log_turn log turn) position (pieces_then log position pieces turn)

@@ -1,4 +1,4 @@
--- What a transport that refines a log tells of what was told and of what went out.
+-- What a transport that refines a log tells of what was reported and of what went out.
 use Rattle.std.proofs.Common.{arith, ◌≡◌, ◌<◌, ◌/◌, ◌%◌, ℕ, Bool, true, false, List, length, refl, sym, ap, ◌∙◌}
 use Rattle.std.specs.Prelude.{Option, None, nat_lt, ◌==◌, ◌&&◌, if◌then◌else◌}
 use Rattle.wt_wire.specs.declared.side.Side.{Side}
@@ -15,9 +15,9 @@ use Rattle.wt_seam.specs.Step.{count_now, credit_now, stop_now, sent_now, is_fin
 use Rattle.wt_seam.proofs.Events.{uni-below, bi-below}
 use Rattle.wt_seam.proofs.Fitting.{at-is, count-is, has-is}
 
-module _ (side : Side) (t : TransportState) (log : Log) (position : ℕ → ReadPosition) (untaken : List Action) (r : Refines side t log position untaken) where
+module _ (side : Side) (t : TransportState) (log : Log) (position : ℕ → ReadPosition) (uncollected : List Action) (r : Refines side t log position uncollected) where
   abbrev kept : TransportState
-  kept = state_of side log position r.pieces untaken
+  kept = state_of side log position r.pieces uncollected
 
   -- while the connection is open the events that count are all of them
   pub open_events : is_open log ≡ true → events_of log ≡ all_events_of log
@@ -45,7 +45,7 @@ module _ (side : Side) (t : TransportState) (log : Log) (position : ℕ → Read
   side-is = ap (λ (u : TransportState). u.side) r.state
 
   count-at : (kind : ℕ) → kind < 4 → count_now t kind ≡ stream_count side log kind
-  count-at kind l = ap (λ u. count_now u kind) r.state ∙ count-is side log position r.pieces untaken kind l
+  count-at kind l = ap (λ u. count_now u kind) r.state ∙ count-is side log position r.pieces uncollected kind l
 
   pub refined_peer_unis : count_now t (peer_uni t.side) ≡ stream_count side log (peer_uni side)
   refined_peer_unis = ap (λ w. count_now t (peer_uni w)) side-is ∙ count-at (peer_uni side) (uni-below side)
@@ -56,9 +56,9 @@ module _ (side : Side) (t : TransportState) (log : Log) (position : ℕ → Read
   -- what is kept of a stream, or of one that wasn't opened
   stream-if : {X : Type 0} (f : Stream → X) (id : ℕ) (b : Bool) → exists side log id ≡ b →
       (if has_stream kept.streams id then f (stream_at kept.streams id) else f (fresh (initial_credit (all_events_of log)))) ≡ f (stream_of log position r.pieces id)
-  stream-if f id true x = ap (λ b. if b then f (stream_at kept.streams id) else f (fresh (initial_credit (all_events_of log)))) (has-is side log position r.pieces untaken id ∙ x)
-      ∙ ap f (at-is side log position r.pieces untaken id x)
-  stream-if f id false x = ap (λ b. if b then f (stream_at kept.streams id) else f (fresh (initial_credit (all_events_of log)))) (has-is side log position r.pieces untaken id ∙ x)
+  stream-if f id true x = ap (λ b. if b then f (stream_at kept.streams id) else f (fresh (initial_credit (all_events_of log)))) (has-is side log position r.pieces uncollected id ∙ x)
+      ∙ ap f (at-is side log position r.pieces uncollected id x)
+  stream-if f id false x = ap (λ b. if b then f (stream_at kept.streams id) else f (fresh (initial_credit (all_events_of log)))) (has-is side log position r.pieces uncollected id ∙ x)
       ∙ sym (ap f ((r.facts.streams id).unopened x))
 
   both-if : (b c : Bool) → (b && c) ≡ (if b then c else false)

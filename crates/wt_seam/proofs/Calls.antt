@@ -42,9 +42,9 @@ more-counted false peers local = omega arith
 low-bits : (count kind : ℕ) → kind < 4 → (4 * count + kind) % 4 ≡ kind
 low-bits count kind l = omega arith
 
-module _ (side : Side) (log : Log) (position : ℕ → ReadPosition) (pieces : ℕ → List (List ℕ)) (untaken : List Action) (facts : Facts side log position pieces) where
+module _ (side : Side) (log : Log) (position : ℕ → ReadPosition) (pieces : ℕ → List (List ℕ)) (uncollected : List Action) (facts : Facts side log position pieces) where
   abbrev state : TransportState
-  state = state_of side log position pieces untaken
+  state = state_of side log position pieces uncollected
 
   abbrev stream : ℕ → Stream
   stream = stream_of log position pieces
@@ -62,17 +62,17 @@ module _ (side : Side) (log : Log) (position : ℕ → ReadPosition) (pieces : �
   -- ---- opening
 
   pub may-open-is : (kind : ℕ) → kind < 4 → may_open_now state kind ≡ may_open side log kind
-  may-open-is kind l = ap (λ n. is_open log && nat_lt n (streams_allowed side log kind)) (count-is side log position pieces untaken kind l)
+  may-open-is kind l = ap (λ n. is_open log && nat_lt n (streams_allowed side log kind)) (count-is side log position pieces uncollected kind l)
 
   id-is : (kind : ℕ) → kind < 4 → next_id_now state kind ≡ next_id side log kind
-  id-is kind l = ap (λ n. 4 * n + kind) (count-is side log position pieces untaken kind l)
+  id-is kind l = ap (λ n. 4 * n + kind) (count-is side log position pieces uncollected kind l)
 
   pub opened-id-is : (kind : ℕ) → kind < 4 → opened_id_now state kind ≡ opened_id side log kind
   opened-id-is kind l = λ i. if may-open-is kind l i then Some (id-is kind l i) else None
 
   opened-if : (b : Bool) (kind : ℕ) → kind < 4 → (if b then with_action (with_new_stream state kind) (actions.Opened (next_id_now state kind)) else state)
-      ≡ state_of side (with_actions (if b then actions.Opened (next_id side log kind) ∷ [] else []) log) position pieces (newest_first (if b then actions.Opened (next_id side log kind) ∷ [] else []) untaken)
-  opened-if true kind l = λ i. record state { streams = streams-are i; actions = join_one (joined_actions untaken) (actions.Opened (id-is kind l i)) }
+      ≡ state_of side (with_actions (if b then actions.Opened (next_id side log kind) ∷ [] else []) log) position pieces (newest_first (if b then actions.Opened (next_id side log kind) ∷ [] else []) uncollected)
+  opened-if true kind l = λ i. record state { streams = streams-are i; actions = join_one (joined_actions uncollected) (actions.Opened (id-is kind l i)) }
     where
       low : next_id side log kind % 4 ≡ kind
       low = low-bits (count kind) kind l
@@ -84,7 +84,7 @@ module _ (side : Side) (log : Log) (position : ℕ → ReadPosition) (pieces : �
           (next-fresh side stream count initial kind l facts.streams))
   opened-if false kind l = refl
 
-  pub opening-is : (kind : ℕ) → kind < 4 → after_opening state kind ≡ state_of side (with_actions (actions_to_open side log kind) log) position pieces (newest_first (actions_to_open side log kind) untaken)
+  pub opening-is : (kind : ℕ) → kind < 4 → after_opening state kind ≡ state_of side (with_actions (actions_to_open side log kind) log) position pieces (newest_first (actions_to_open side log kind) uncollected)
   opening-is kind l = ap (λ b. if b then with_action (with_new_stream state kind) (actions.Opened (next_id_now state kind)) else state) (may-open-is kind l)
       ∙ opened-if (may_open side log kind) kind l
 
@@ -107,19 +107,19 @@ module _ (side : Side) (log : Log) (position : ℕ → ReadPosition) (pieces : �
   -- ---- sending
 
   covered-is : (id : ℕ) (bytes : List ℕ) → exists side log id ≡ true → covered_now state id bytes ≡ bytes_within_credit log id bytes
-  covered-is id bytes x = ap (λ (s : Stream). take (credit_of s) bytes) (at-is side log position pieces untaken id x)
+  covered-is id bytes x = ap (λ (s : Stream). take (credit_of s) bytes) (at-is side log position pieces uncollected id x)
 
   -- one stream changes as an action goes out
   change-then : (a : Action) (id : ℕ) (u : Stream → Stream) → exists side log id ≡ true → Changes stream id u (stream_of (Sent a ∷ log) position pieces)
-      → record state { streams = with_changed (rows stream count) id u; actions = join_one (joined_actions untaken) a }
-      ≡ record state { streams = rows (stream_of (Sent a ∷ log) position pieces) count; actions = join_one (joined_actions untaken) a }
-  change-then a id u x c = ap (λ s. record state { streams = s; actions = join_one (joined_actions untaken) a }) (sym (rows-changed stream (stream_of (Sent a ∷ log) position pieces) count id u x c))
+      → record state { streams = with_changed (rows stream count) id u; actions = join_one (joined_actions uncollected) a }
+      ≡ record state { streams = rows (stream_of (Sent a ∷ log) position pieces) count; actions = join_one (joined_actions uncollected) a }
+  change-then a id u x c = ap (λ s. record state { streams = s; actions = join_one (joined_actions uncollected) a }) (sym (rows-changed stream (stream_of (Sent a ∷ log) position pieces) count id u x c))
 
-  with-send-is : (id : ℕ) (part : List ℕ) → exists side log id ≡ true → with_send state id part ≡ state_of side (with_actions (send_of id part) log) position pieces (newest_first (send_of id part) untaken)
+  with-send-is : (id : ℕ) (part : List ℕ) → exists side log id ≡ true → with_send state id part ≡ state_of side (with_actions (send_of id part) log) position pieces (newest_first (send_of id part) uncollected)
   with-send-is id [] x = refl
   with-send-is id (b ∷ part) x = change-then (actions.Send id (b ∷ part)) id (with_sent (length (b ∷ part))) x (send-changes log position pieces id (b ∷ part))
 
-  pub send-then : (id : ℕ) (bytes : List ℕ) → exists side log id ≡ true → after_send state id bytes ≡ state_of side (with_actions (actions_to_send log id bytes) log) position pieces (newest_first (actions_to_send log id bytes) untaken)
+  pub send-then : (id : ℕ) (bytes : List ℕ) → exists side log id ≡ true → after_send state id bytes ≡ state_of side (with_actions (actions_to_send log id bytes) log) position pieces (newest_first (actions_to_send log id bytes) uncollected)
   send-then id bytes x = ap (with_send state id) (covered-is id bytes x) ∙ with-send-is id (bytes_within_credit log id bytes) x
 
   pub count-covered : (id : ℕ) (bytes : List ℕ) → exists side log id ≡ true → length (covered_now state id bytes) ≡ length (bytes_within_credit log id bytes)
@@ -135,7 +135,7 @@ module _ (side : Side) (log : Log) (position : ℕ → ReadPosition) (pieces : �
 
   -- ---- the end of a half
 
-  pub finish-then : (id : ℕ) → exists side log id ≡ true → after_finish state id ≡ state_of side (Sent (actions.Finish id) ∷ log) position pieces (actions.Finish id ∷ untaken)
+  pub finish-then : (id : ℕ) → exists side log id ≡ true → after_finish state id ≡ state_of side (Sent (actions.Finish id) ∷ log) position pieces (actions.Finish id ∷ uncollected)
   finish-then id x = change-then (actions.Finish id) id with_finish x (finish-changes log position pieces id)
 
   pub finish-facts : (id : ℕ) → exists side log id ≡ true → Facts side (Sent (actions.Finish id) ∷ log) position pieces
@@ -144,12 +144,12 @@ module _ (side : Side) (log : Log) (position : ℕ → ReadPosition) (pieces : �
 
   reset-if : (b : Bool) (id code : ℕ) → exists side log id ≡ true
       → if_so b (with_action (with_change state id with_reset) (actions.ResetOut id code)) (with_change state id with_reset)
-      ≡ state_of side ((if b then Sent (actions.ResetOut id code) else Called (ResetUnsent id code)) ∷ log) position pieces (newest_first (if b then actions.ResetOut id code ∷ [] else []) untaken)
+      ≡ state_of side ((if b then Sent (actions.ResetOut id code) else Called (ResetUnsent id code)) ∷ log) position pieces (newest_first (if b then actions.ResetOut id code ∷ [] else []) uncollected)
   reset-if true id code x = change-then (actions.ResetOut id code) id with_reset x (reset-sent log position pieces id code)
   reset-if false id code x = with-streams state stream (stream_of (Called (ResetUnsent id code) ∷ log) position pieces) count id with_reset x (reset-unsent log position pieces id code)
 
   pub reset-here : (id code : ℕ) → exists side log id ≡ true
-      → after_reset state id code ≡ state_of side (reset_entry log id code ∷ log) position pieces (newest_first (if_open log (actions.ResetOut id code)) untaken)
+      → after_reset state id code ≡ state_of side (reset_entry log id code ∷ log) position pieces (newest_first (if_open log (actions.ResetOut id code)) uncollected)
   reset-here id code x = reset-if (is_open log) id code x
 
   reset-facts-if : (b : Bool) (id code : ℕ) → exists side log id ≡ true → Facts side ((if b then Sent (actions.ResetOut id code) else Called (ResetUnsent id code)) ∷ log) position pieces
@@ -161,7 +161,7 @@ module _ (side : Side) (log : Log) (position : ℕ → ReadPosition) (pieces : �
   pub reset-here-facts : (id code : ℕ) → exists side log id ≡ true → Facts side (reset_entry log id code ∷ log) position pieces
   reset-here-facts id code x = reset-facts-if (is_open log) id code x
 
-  pub priority-then : (id : ℕ) (priority : ℤ) → exists side log id ≡ true → after_priority state id priority ≡ state_of side (Called (PrioritySet id priority) ∷ log) position pieces untaken
+  pub priority-then : (id : ℕ) (priority : ℤ) → exists side log id ≡ true → after_priority state id priority ≡ state_of side (Called (PrioritySet id priority) ∷ log) position pieces uncollected
   priority-then id priority x = with-streams state stream (stream_of (Called (PrioritySet id priority) ∷ log) position pieces) count id (with_priority priority) x (priority-changes log position pieces id priority)
 
   pub priority-facts : (id : ℕ) (priority : ℤ) → exists side log id ≡ true → Facts side (Called (PrioritySet id priority) ∷ log) position pieces
@@ -171,11 +171,11 @@ module _ (side : Side) (log : Log) (position : ℕ → ReadPosition) (pieces : �
   -- ---- actions that change no stream
 
   stop-if : (b : Bool) (id code : ℕ) → if_so b (with_action state (actions.StopOut id code)) state
-      ≡ state_of side (with_actions (if b then actions.StopOut id code ∷ [] else []) log) position pieces (newest_first (if b then actions.StopOut id code ∷ [] else []) untaken)
+      ≡ state_of side (with_actions (if b then actions.StopOut id code ∷ [] else []) log) position pieces (newest_first (if b then actions.StopOut id code ∷ [] else []) uncollected)
   stop-if true id code = refl
   stop-if false id code = refl
 
-  pub stop-out : (id code : ℕ) → after_stop state id code ≡ state_of side (with_actions (if_open log (actions.StopOut id code)) log) position pieces (newest_first (if_open log (actions.StopOut id code)) untaken)
+  pub stop-out : (id code : ℕ) → after_stop state id code ≡ state_of side (with_actions (if_open log (actions.StopOut id code)) log) position pieces (newest_first (if_open log (actions.StopOut id code)) uncollected)
   stop-out id code = stop-if (is_open log) id code
 
   stop-facts-if : (b : Bool) (id code : ℕ) → Facts side (with_actions (if b then actions.StopOut id code ∷ [] else []) log) position pieces
@@ -192,11 +192,11 @@ module _ (side : Side) (log : Log) (position : ℕ → ReadPosition) (pieces : �
   datagram-out-facts piece = record { streams = facts.streams; unconnected = facts.unconnected; unallowed = facts.unallowed; open_same = sent-same (actions.DatagramOut piece) }
 
   close-if : (b : Bool) (code : ℕ) (reason : List ℕ) → is_open log ≡ b → if_so b (with_action (record state { is_open = false }) (actions.Close code reason)) state
-      ≡ state_of side (with_actions (if b then actions.Close code reason ∷ [] else []) log) position pieces (newest_first (if b then actions.Close code reason ∷ [] else []) untaken)
+      ≡ state_of side (with_actions (if b then actions.Close code reason ∷ [] else []) log) position pieces (newest_first (if b then actions.Close code reason ∷ [] else []) uncollected)
   close-if true code reason o = refl
   close-if false code reason o = refl
 
-  pub close-then : (code : ℕ) (reason : List ℕ) → after_close state code reason ≡ state_of side (with_actions (if_open log (actions.Close code reason)) log) position pieces (newest_first (if_open log (actions.Close code reason)) untaken)
+  pub close-then : (code : ℕ) (reason : List ℕ) → after_close state code reason ≡ state_of side (with_actions (if_open log (actions.Close code reason)) log) position pieces (newest_first (if_open log (actions.Close code reason)) uncollected)
   close-then code reason = close-if (is_open log) code reason refl
 
   close-facts-if : (b : Bool) (code : ℕ) (reason : List ℕ) → Facts side (with_actions (if b then actions.Close code reason ∷ [] else []) log) position pieces
@@ -209,15 +209,15 @@ module _ (side : Side) (log : Log) (position : ℕ → ReadPosition) (pieces : �
   -- ---- reading
 
   pieces-if : (b : Bool) (id : ℕ) → exists side log id ≡ b → pieces_now state id ≡ pieces id
-  pieces-if true id x = ap (λ b. if b then (stream_at state.streams id).unread else []) (has-is side log position pieces untaken id ∙ x) ∙ ap (λ (s : Stream). s.unread) (at-is side log position pieces untaken id x)
-  pieces-if false id x = ap (λ b. if b then (stream_at state.streams id).unread else []) (has-is side log position pieces untaken id ∙ x) ∙ sym (ap (λ (s : Stream). s.unread) ((facts.streams id).unopened x))
+  pieces-if true id x = ap (λ b. if b then (stream_at state.streams id).unread else []) (has-is side log position pieces uncollected id ∙ x) ∙ ap (λ (s : Stream). s.unread) (at-is side log position pieces uncollected id x)
+  pieces-if false id x = ap (λ b. if b then (stream_at state.streams id).unread else []) (has-is side log position pieces uncollected id ∙ x) ∙ sym (ap (λ (s : Stream). s.unread) ((facts.streams id).unopened x))
 
   pub pieces-is : (id : ℕ) → pieces_now state id ≡ pieces id
   pieces-is id = pieces-if (exists side log id) id refl
 
   end-if : (b : Bool) (id : ℕ) → exists side log id ≡ b → end_now state id ≡ end_of (events_of log) id
-  end-if true id x = ap (λ b. if b then (stream_at state.streams id).signals.end else ends.Running) (has-is side log position pieces untaken id ∙ x) ∙ ap (λ (s : Stream). s.signals.end) (at-is side log position pieces untaken id x)
-  end-if false id x = ap (λ b. if b then (stream_at state.streams id).signals.end else ends.Running) (has-is side log position pieces untaken id ∙ x) ∙ sym (ap (λ (s : Stream). s.signals.end) ((facts.streams id).unopened x))
+  end-if true id x = ap (λ b. if b then (stream_at state.streams id).signals.end else ends.Running) (has-is side log position pieces uncollected id ∙ x) ∙ ap (λ (s : Stream). s.signals.end) (at-is side log position pieces uncollected id x)
+  end-if false id x = ap (λ b. if b then (stream_at state.streams id).signals.end else ends.Running) (has-is side log position pieces uncollected id ∙ x) ∙ sym (ap (λ (s : Stream). s.signals.end) ((facts.streams id).unopened x))
 
   pub end-is : (id : ℕ) → end_now state id ≡ end_of (events_of log) id
   end-is id = end-if (exists side log id) id refl
@@ -235,12 +235,12 @@ module _ (side : Side) (log : Log) (position : ℕ → ReadPosition) (pieces : �
   same-stream id n x k = consume-changes log position pieces id n k ∙ untouched (id == k) id n k refl x
 
   consume-if : (b : Bool) (id n : ℕ) → exists side log id ≡ b
-      → (if b then with_change state id (consume n) else state) ≡ state_of side log (position_after position id n) (skipped pieces id n) untaken
+      → (if b then with_change state id (consume n) else state) ≡ state_of side log (position_after position id n) (skipped pieces id n) uncollected
   consume-if true id n x = with-streams state stream (stream_of log (position_after position id n) (skipped pieces id n)) count id (consume n) x (consume-changes log position pieces id n)
   consume-if false id n x = λ i. record state { streams = rows (λ k. sym (same-stream id n x k) i) count }
 
-  pub consume-then : (id n : ℕ) → after_consume state id n ≡ state_of side log (position_after position id n) (skipped pieces id n) untaken
-  consume-then id n = ap (λ b. if b then with_change state id (consume n) else state) (has-is side log position pieces untaken id)
+  pub consume-then : (id n : ℕ) → after_consume state id n ≡ state_of side log (position_after position id n) (skipped pieces id n) uncollected
+  consume-then id n = ap (λ b. if b then with_change state id (consume n) else state) (has-is side log position pieces uncollected id)
       ∙ consume-if (exists side log id) id n refl
 
   consume-facts-if : (b : Bool) (id n : ℕ) → exists side log id ≡ b → Facts side log (position_after position id n) (skipped pieces id n)
@@ -256,7 +256,7 @@ module _ (side : Side) (log : Log) (position : ℕ → ReadPosition) (pieces : �
   pub consume-facts : (id n : ℕ) → Facts side log (position_after position id n) (skipped pieces id n)
   consume-facts id n = consume-facts-if (exists side log id) id n refl
 
-  pub give-up-then : (id : ℕ) → exists side log id ≡ true → after_give_up state id ≡ state_of side log (given_up position id) (emptied pieces id) untaken
+  pub give-up-then : (id : ℕ) → exists side log id ≡ true → after_give_up state id ≡ state_of side log (given_up position id) (emptied pieces id) uncollected
   give-up-then id x = with-streams state stream (stream_of log (given_up position id) (emptied pieces id)) count id give_up x (give-up-changes log position pieces id)
 
   pub give-up-facts : (id : ℕ) → exists side log id ≡ true → Facts side log (given_up position id) (emptied pieces id)
@@ -267,11 +267,11 @@ module _ (side : Side) (log : Log) (position : ℕ → ReadPosition) (pieces : �
 
   pub may-send-is : (id : ℕ) → may_send_now state id ≡ may_send side log id
   may-send-is id = ap (λ b. is_open log && b && not (stream_at state.streams id).finished && not (stream_at state.streams id).reset
-      && not (is_some (stream_at state.streams id).signals.stop)) (send-is side log position pieces untaken id)
+      && not (is_some (stream_at state.streams id).signals.stop)) (send-is side log position pieces uncollected id)
       ∙ where-so-three (is_open log && can_send side log id) _ _ _ _ _ _
-      (λ e. ap (λ (s : Stream). not s.finished) (at-is side log position pieces untaken id (there e)))
-      (λ e. ap (λ (s : Stream). not s.reset) (at-is side log position pieces untaken id (there e)))
-      (λ e. ap (λ (s : Stream). not (is_some s.signals.stop)) (at-is side log position pieces untaken id (there e)))
+      (λ e. ap (λ (s : Stream). not s.finished) (at-is side log position pieces uncollected id (there e)))
+      (λ e. ap (λ (s : Stream). not s.reset) (at-is side log position pieces uncollected id (there e)))
+      (λ e. ap (λ (s : Stream). not (is_some s.signals.stop)) (at-is side log position pieces uncollected id (there e)))
     where
       there : (is_open log && can_send side log id) ≡ true → exists side log id ≡ true
       there e = first (exists side log id) (not (peer_uni side == id % 4)) (second (is_open log) (can_send side log id) e)
@@ -279,11 +279,11 @@ module _ (side : Side) (log : Log) (position : ℕ → ReadPosition) (pieces : �
 -- ---- what the pieces hold once a reader went on
 
 module _ (log : Log) (position : ℕ → ReadPosition) (pieces : ℕ → List (List ℕ)) (holds : (k : ℕ) → Holds log position pieces k) where
-  advanced : (at : ReadPosition) (n : ℕ) (bytes : List ℕ) → drop n (from_position at bytes) ≡ from_position (advance n at) bytes
+  advanced : (read_position : ReadPosition) (n : ℕ) (bytes : List ℕ) → drop n (from_position read_position bytes) ≡ from_position (advance n read_position) bytes
   advanced (AtOffset offset) n bytes = drop-drop n offset bytes
   advanced GivenUp n bytes = drop_none n
 
-  still-within : (at : ReadPosition) (n : ℕ) (bytes : List ℕ) → IsWithin at bytes → n ≤ length (from_position at bytes) → IsWithin (advance n at) bytes
+  still-within : (read_position : ReadPosition) (n : ℕ) (bytes : List ℕ) → IsWithin read_position bytes → n ≤ length (from_position read_position bytes) → IsWithin (advance n read_position) bytes
   still-within (AtOffset offset) n bytes w l = omega (arith, length-drop offset bytes)
   still-within GivenUp n bytes w l = tt
 

@@ -50,9 +50,9 @@ one-more kind peers local = let yes_ : (kind == kind) ≡ true = grind (arith, n
 same-count : (kind other peers local : ℕ) → other ≢ kind → one_more_if (kind == other) peers + local ≡ peers + local
 same-count kind other peers local d = let no_ : (kind == other) ≡ false = grind (arith, nat_tests) in rw no_ refl
 
-module _ (side : Side) (log : Log) (position : ℕ → ReadPosition) (pieces : ℕ → List (List ℕ)) (untaken : List Action) where
+module _ (side : Side) (log : Log) (position : ℕ → ReadPosition) (pieces : ℕ → List (List ℕ)) (uncollected : List Action) where
   abbrev before : TransportState
-  before = state_of side log position pieces untaken
+  before = state_of side log position pieces uncollected
 
   abbrev stream : ℕ → Stream
   stream = stream_of log position pieces
@@ -70,27 +70,27 @@ module _ (side : Side) (log : Log) (position : ℕ → ReadPosition) (pieces : �
       ∙ with-streams before stream (stream_of (event_entry b e ∷ log) position pieces) count id (signal b f) x c
 
   pub end-then : (b : Bool) (id : ℕ) → is_open log ≡ b → exists side log id ≡ true
-      → after_event before (End id) ≡ state_of side (event_entry b (End id) ∷ log) position pieces untaken
+      → after_event before (End id) ≡ state_of side (event_entry b (End id) ∷ log) position pieces uncollected
   end-then true id o x = signal-is true (End id) id (with_end ends.Fin) o x (end-changes log position pieces true id)
   end-then false id o x = signal-is false (End id) id (with_end ends.Fin) o x (end-changes log position pieces false id)
 
   pub reset-then : (b : Bool) (id code : ℕ) → is_open log ≡ b → exists side log id ≡ true
-      → after_event before (Reset id code) ≡ state_of side (event_entry b (Reset id code) ∷ log) position pieces untaken
+      → after_event before (Reset id code) ≡ state_of side (event_entry b (Reset id code) ∷ log) position pieces uncollected
   reset-then true id code o x = signal-is true (Reset id code) id (with_end (ends.Reset code)) o x (reset-changes log position pieces true id code)
   reset-then false id code o x = signal-is false (Reset id code) id (with_end (ends.Reset code)) o x (reset-changes log position pieces false id code)
 
   pub stop-then : (b : Bool) (id code : ℕ) → is_open log ≡ b → exists side log id ≡ true
-      → after_event before (Stop id code) ≡ state_of side (event_entry b (Stop id code) ∷ log) position pieces untaken
+      → after_event before (Stop id code) ≡ state_of side (event_entry b (Stop id code) ∷ log) position pieces uncollected
   stop-then true id code o x = signal-is true (Stop id code) id (with_stop code) o x (stop-changes log position pieces true id code)
   stop-then false id code o x = signal-is false (Stop id code) id (with_stop code) o x (stop-changes log position pieces false id code)
 
   pub ack-then : (b : Bool) (id : ℕ) → is_open log ≡ b → exists side log id ≡ true
-      → after_event before (Acked id) ≡ state_of side (event_entry b (Acked id) ∷ log) position pieces untaken
+      → after_event before (Acked id) ≡ state_of side (event_entry b (Acked id) ∷ log) position pieces uncollected
   ack-then true id o x = signal-is true (Acked id) id with_ack o x (ack-changes log position pieces true id)
   ack-then false id o x = signal-is false (Acked id) id with_ack o x (ack-changes log position pieces false id)
 
   pub credit-then : (b : Bool) (id total : ℕ) → exists side log id ≡ true
-      → after_event before (MaxData id total) ≡ state_of side (event_entry b (MaxData id total) ∷ log) position pieces untaken
+      → after_event before (MaxData id total) ≡ state_of side (event_entry b (MaxData id total) ∷ log) position pieces uncollected
   credit-then true id total x = with-streams before stream _ count id (with_credit total) x (credit-changes log position pieces true id total)
   credit-then false id total x = with-streams before stream _ count id (with_credit total) x (credit-changes log position pieces false id total)
 
@@ -102,7 +102,7 @@ module _ (side : Side) (log : Log) (position : ℕ → ReadPosition) (pieces : �
       (λ j d. same-count (peer_uni side) j (peer_count side (all_events_of log) j) (local_count (actions_of log) j) d)
       (next-fresh side stream count (initial_credit (all_events_of log)) (peer_uni side) (uni-below side) facts.streams))
 
-  pub uni-then : (b : Bool) → Facts side log position pieces → after_event before PeerUni ≡ state_of side (event_entry b PeerUni ∷ log) position pieces untaken
+  pub uni-then : (b : Bool) → Facts side log position pieces → after_event before PeerUni ≡ state_of side (event_entry b PeerUni ∷ log) position pieces uncollected
   uni-then true facts = ap (λ s. record before { streams = s }) (uni-pushed facts)
   uni-then false facts = ap (λ s. record before { streams = s }) (uni-pushed facts)
 
@@ -112,14 +112,14 @@ module _ (side : Side) (log : Log) (position : ℕ → ReadPosition) (pieces : �
       (λ j d. same-count (peer_bi side) j (peer_count side (all_events_of log) j) (local_count (actions_of log) j) d)
       (next-fresh side stream count (initial_credit (all_events_of log)) (peer_bi side) (bi-below side) facts.streams))
 
-  pub bi-then : (b : Bool) → Facts side log position pieces → after_event before PeerBi ≡ state_of side (event_entry b PeerBi ∷ log) position pieces untaken
+  pub bi-then : (b : Bool) → Facts side log position pieces → after_event before PeerBi ≡ state_of side (event_entry b PeerBi ∷ log) position pieces uncollected
   bi-then true facts = ap (λ s. record before { streams = s }) (bi-pushed facts)
   bi-then false facts = ap (λ s. record before { streams = s }) (bi-pushed facts)
 
   -- ---- events of the connection
 
   pub connected-then : (b : Bool) (uni bi credit : ℕ) (datagrams : DatagramFact) → is_open log ≡ b → is_connected (all_events_of log) ≡ false → Facts side log position pieces
-      → after_event before (Connected uni bi credit datagrams) ≡ state_of side (event_entry b (Connected uni bi credit datagrams) ∷ log) position pieces untaken
+      → after_event before (Connected uni bi credit datagrams) ≡ state_of side (event_entry b (Connected uni bi credit datagrams) ∷ log) position pieces uncollected
   connected-then true uni bi credit datagrams o n facts = λ i. record before {
     is_connected = true;
     unis_allowed = uni;
@@ -137,23 +137,23 @@ module _ (side : Side) (log : Log) (position : ℕ → ReadPosition) (pieces : �
     streams = sym (rows-none stream (stream_of (event_entry false (Connected uni bi credit datagrams) ∷ log) position pieces) count (facts.unconnected n)) i;
   }
 
-  pub datagram-then : (b : Bool) (piece : List ℕ) → after_event before (Datagram piece) ≡ state_of side (event_entry b (Datagram piece) ∷ log) position pieces untaken
+  pub datagram-then : (b : Bool) (piece : List ℕ) → after_event before (Datagram piece) ≡ state_of side (event_entry b (Datagram piece) ∷ log) position pieces uncollected
   datagram-then true piece = refl
   datagram-then false piece = refl
 
-  pub unis-then : (b : Bool) (total : ℕ) → after_event before (MaxUni total) ≡ state_of side (event_entry b (MaxUni total) ∷ log) position pieces untaken
+  pub unis-then : (b : Bool) (total : ℕ) → after_event before (MaxUni total) ≡ state_of side (event_entry b (MaxUni total) ∷ log) position pieces uncollected
   unis-then true total = refl
   unis-then false total = refl
 
-  pub bis-then : (b : Bool) (total : ℕ) → after_event before (MaxBi total) ≡ state_of side (event_entry b (MaxBi total) ∷ log) position pieces untaken
+  pub bis-then : (b : Bool) (total : ℕ) → after_event before (MaxBi total) ≡ state_of side (event_entry b (MaxBi total) ∷ log) position pieces uncollected
   bis-then true total = refl
   bis-then false total = refl
 
   pub limit-then : (b : Bool) (fact : DatagramFact) → is_open log ≡ b
-      → after_event before (DatagramLimit fact) ≡ state_of side (event_entry b (DatagramLimit fact) ∷ log) position pieces untaken
+      → after_event before (DatagramLimit fact) ≡ state_of side (event_entry b (DatagramLimit fact) ∷ log) position pieces uncollected
   limit-then true fact o = ap (λ w. record before { datagram_fact = if_so w (Some fact) before.datagram_fact }) o
   limit-then false fact o = ap (λ w. record before { datagram_fact = if_so w (Some fact) before.datagram_fact }) o
 
-  pub loss-then : (b : Bool) (reason : LossReason) → is_open log ≡ b → after_event before (Loss reason) ≡ state_of side (event_entry b (Loss reason) ∷ log) position pieces untaken
+  pub loss-then : (b : Bool) (reason : LossReason) → is_open log ≡ b → after_event before (Loss reason) ≡ state_of side (event_entry b (Loss reason) ∷ log) position pieces uncollected
   loss-then true reason o = ap (λ w. record before { is_open = false; is_lost = true; loss = if_so w (Some reason) before.loss }) o
   loss-then false reason o = λ i. record before { is_open = sym o i; is_lost = true; loss = if_so (o i) (Some reason) before.loss }

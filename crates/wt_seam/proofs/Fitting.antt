@@ -22,9 +22,9 @@ use Rattle.wt_streams.proofs.Rows.{count-rows, has-rows, stream_at-rows}
 use Rattle.wt_seam.proofs.Events.{uni-below, bi-below}
 use Rattle.wt_seam.proofs.Bools.{first, second, where-so, where-so-two, where-so-three}
 
-module _ (side : Side) (log : Log) (position : ℕ → ReadPosition) (pieces : ℕ → List (List ℕ)) (untaken : List Action) where
+module _ (side : Side) (log : Log) (position : ℕ → ReadPosition) (pieces : ℕ → List (List ℕ)) (uncollected : List Action) where
   abbrev state : TransportState
-  state = state_of side log position pieces untaken
+  state = state_of side log position pieces uncollected
 
   abbrev stream : ℕ → Stream
   stream = stream_of log position pieces
@@ -91,11 +91,11 @@ module _ (side : Side) (log : Log) (position : ℕ → ReadPosition) (pieces : �
       there : (connected && is_finished (actions_of log) id) ≡ true → stream_at state.streams id ≡ stream id
       there e = at-is id (finished-exists facts id (exists side log id) refl (second connected (is_finished (actions_of log) id) e))
 
-  begin-is : (s : Side) (uni bi c : ℕ) (datagrams : DatagramFact) → may_come_now (state_of s log position pieces untaken) (turns.Connected uni bi c datagrams) ≡ may_come s log (turns.Connected uni bi c datagrams)
+  begin-is : (s : Side) (uni bi c : ℕ) (datagrams : DatagramFact) → may_come_now (state_of s log position pieces uncollected) (turns.Connected uni bi c datagrams) ≡ may_come s log (turns.Connected uni bi c datagrams)
   begin-is Client uni bi c datagrams = refl
   begin-is Server uni bi c datagrams = refl
 
-  lost-is : (s : Side) (reason : LossReason) → may_come_now (state_of s log position pieces untaken) (turns.Loss reason) ≡ may_come s log (turns.Loss reason)
+  lost-is : (s : Side) (reason : LossReason) → may_come_now (state_of s log position pieces uncollected) (turns.Loss reason) ≡ may_come s log (turns.Loss reason)
   lost-is Client reason = refl
   lost-is Server reason = refl
 

@@ -65,36 +65,36 @@ actions-contents [] log = refl
 actions-contents (a ∷ later) log = actions-contents later (Sent a ∷ log)
 
 -- what is kept of a log refines it
-refines-of : (side : Side) (log : Log) (position : ℕ → ReadPosition) (pieces : ℕ → List (List ℕ)) (untaken : List Action) → Facts side log position pieces
-    → ((k : ℕ) → Holds log position pieces k) → Refines side (state_of side log position pieces untaken) log position untaken
-refines-of side log position pieces untaken facts holds = record { pieces = pieces; facts = facts; holds = holds; state = refl }
+refines-of : (side : Side) (log : Log) (position : ℕ → ReadPosition) (pieces : ℕ → List (List ℕ)) (uncollected : List Action) → Facts side log position pieces
+    → ((k : ℕ) → Holds log position pieces k) → Refines side (state_of side log position pieces uncollected) log position uncollected
+refines-of side log position pieces uncollected facts holds = record { pieces = pieces; facts = facts; holds = holds; state = refl }
 
-module _ (side : Side) (t : TransportState) (log : Log) (position : ℕ → ReadPosition) (untaken : List Action) (r : Refines side t log position untaken) where
+module _ (side : Side) (t : TransportState) (log : Log) (position : ℕ → ReadPosition) (uncollected : List Action) (r : Refines side t log position uncollected) where
   -- a step that leads from what is kept of this log to what is kept of that one
-  refines-after : (step : TransportState → TransportState) (g : Log) (position_then : ℕ → ReadPosition) (pieces_after : ℕ → List (List ℕ)) (untaken_then : List Action)
-      → step (state_of side log position r.pieces untaken) ≡ state_of side g position_then pieces_after untaken_then → Facts side g position_then pieces_after
-      → ((k : ℕ) → Holds g position_then pieces_after k) → Refines side (step t) g position_then untaken_then
-  refines-after step g position_then pieces_after untaken_then e f h =
-      subst (λ (u : TransportState). Refines side u g position_then untaken_then) (sym (ap step r.state ∙ e)) (refines-of side g position_then pieces_after untaken_then f h)
+  refines-after : (step : TransportState → TransportState) (g : Log) (position_then : ℕ → ReadPosition) (pieces_after : ℕ → List (List ℕ)) (uncollected_then : List Action)
+      → step (state_of side log position r.pieces uncollected) ≡ state_of side g position_then pieces_after uncollected_then → Facts side g position_then pieces_after
+      → ((k : ℕ) → Holds g position_then pieces_after k) → Refines side (step t) g position_then uncollected_then
+  refines-after step g position_then pieces_after uncollected_then e f h =
+      subst (λ (u : TransportState). Refines side u g position_then uncollected_then) (sym (ap step r.state ∙ e)) (refines-of side g position_then pieces_after uncollected_then f h)
 
   -- an entry that is no byte leaves what the pieces hold
   held-by : (g : Log) → contents g ≡ contents log → (k : ℕ) → Holds g position r.pieces k
   held-by g e = same-holds log g position r.pieces e r.holds
 
   -- an answer that what is kept of this log gives
-  kept-gives : {X : Type 0} (answer : TransportState → X) (x : X) → answer (state_of side log position r.pieces untaken) ≡ x → answer t ≡ x
+  kept-gives : {X : Type 0} (answer : TransportState → X) (x : X) → answer (state_of side log position r.pieces uncollected) ≡ x → answer t ≡ x
   kept-gives answer x e = ap answer r.state ∙ e
 
   -- ---- what a transport tells
 
   pub refined_fits : (turn : Turn) → fits_now t turn ≡ fits side log turn
-  refined_fits turn = kept-gives (λ u. fits_now u turn) (fits side log turn) (fits-is side log position r.pieces untaken r.facts turn)
+  refined_fits turn = kept-gives (λ u. fits_now u turn) (fits side log turn) (fits-is side log position r.pieces uncollected r.facts turn)
 
   pub refined_bytes_fit : (id : ℕ) (bytes : List ℕ) → (may_receive_now t id && not t.is_lost) ≡ fits side log (turns.Bytes id bytes)
   refined_bytes_fit id bytes = refined_fits (turns.Bytes id bytes)
 
   pieces-kept : (id : ℕ) → pieces_now t id ≡ r.pieces id
-  pieces-kept id = kept-gives (λ u. pieces_now u id) (r.pieces id) (pieces-is side log position r.pieces untaken r.facts id)
+  pieces-kept id = kept-gives (λ u. pieces_now u id) (r.pieces id) (pieces-is side log position r.pieces uncollected r.facts id)
 
   pub refined_unread : (id : ℕ) → unread_now t id ≡ unread log position id
   refined_unread id = ap concat (pieces-kept id) ∙ (r.holds id).bytes
@@ -104,7 +104,7 @@ module _ (side : Side) (t : TransportState) (log : Log) (position : ℕ → Read
       (subst (IsFront (first_piece (r.pieces id))) (r.holds id).bytes (front-is (r.pieces id) (r.holds id).filled))
 
   pub refined_end : (id : ℕ) → end_now t id ≡ end_of (events_of log) id
-  refined_end id = kept-gives (λ u. end_now u id) (end_of (events_of log) id) (end-is side log position r.pieces untaken r.facts id)
+  refined_end id = kept-gives (λ u. end_now u id) (end_of (events_of log) id) (end-is side log position r.pieces uncollected r.facts id)
 
   -- a stream without a receiving half
   no-half : (id : ℕ) (b : Bool) → exists side log id ≡ b → can_receive side log id ≡ false → (r.pieces id ≡ []) × (end_of (events_of log) id ≡ ends.Running)
@@ -131,20 +131,20 @@ module _ (side : Side) (t : TransportState) (log : Log) (position : ℕ → Read
   pub refined_loss : t.loss ≡ loss_of (events_of log)
   refined_loss = kept-gives (λ u. u.loss) (loss_of (events_of log)) refl
 
-  pub refined_actions : t.actions ≡ joined_actions untaken
-  refined_actions = kept-gives (λ u. u.actions) (joined_actions untaken) refl
+  pub refined_actions : t.actions ≡ joined_actions uncollected
+  refined_actions = kept-gives (λ u. u.actions) (joined_actions uncollected) refl
 
   pub refined_may_send : (id : ℕ) → may_send_now t id ≡ may_send side log id
-  refined_may_send id = kept-gives (λ u. may_send_now u id) (may_send side log id) (may-send-is side log position r.pieces untaken r.facts id)
+  refined_may_send id = kept-gives (λ u. may_send_now u id) (may_send side log id) (may-send-is side log position r.pieces uncollected r.facts id)
 
   pub refined_can_send : (id : ℕ) → can_send_now t id ≡ can_send side log id
-  refined_can_send id = kept-gives (λ u. can_send_now u id) (can_send side log id) (send-is side log position r.pieces untaken id)
+  refined_can_send id = kept-gives (λ u. can_send_now u id) (can_send side log id) (send-is side log position r.pieces uncollected id)
 
   pub refined_can_receive : (id : ℕ) → can_receive_now t id ≡ can_receive side log id
-  refined_can_receive id = kept-gives (λ u. can_receive_now u id) (can_receive side log id) (receive-is side log position r.pieces untaken id)
+  refined_can_receive id = kept-gives (λ u. can_receive_now u id) (can_receive side log id) (receive-is side log position r.pieces uncollected id)
 
   opened-id-kept : (kind : ℕ) → kind < 4 → opened_id_now t kind ≡ opened_id side log kind
-  opened-id-kept kind l = kept-gives (λ u. opened_id_now u kind) (opened_id side log kind) (opened-id-is side log position r.pieces untaken r.facts kind l)
+  opened-id-kept kind l = kept-gives (λ u. opened_id_now u kind) (opened_id side log kind) (opened-id-is side log position r.pieces uncollected r.facts kind l)
 
   pub refined_uni : opened_id_now t (local_uni t.side) ≡ opened_id side log (local_uni side)
   refined_uni = ap (λ w. opened_id_now t (local_uni w)) refined_side ∙ opened-id-kept (local_uni side) (uni-below side)
@@ -166,80 +166,80 @@ module _ (side : Side) (t : TransportState) (log : Log) (position : ℕ → Read
       (first (t.is_open && can_send_now t id && not (stream_at t.streams id).finished && not (stream_at t.streams id).reset) (not (is_some (stream_at t.streams id).signals.stop)) e))))
 
   pub refined_sent : (id : ℕ) (bytes : List ℕ) → IsTrue (may_send_now t id) → length (covered_now t id bytes) ≡ min (length bytes) (credit_left log id)
-  refined_sent id bytes e = kept-gives (λ u. length (covered_now u id bytes)) (length (bytes_within_credit log id bytes)) (count-covered side log position r.pieces untaken r.facts id bytes (sending-exists id e))
+  refined_sent id bytes e = kept-gives (λ u. length (covered_now u id bytes)) (length (bytes_within_credit log id bytes)) (count-covered side log position r.pieces uncollected r.facts id bytes (sending-exists id e))
       ∙ take-min (credit_left log id) bytes
 
   -- ---- what it refines after a turn or a call
 
-  pub turn_refines : (turn : Turn) → IsTrue (fits_now t turn) → Refines side (after_turn t turn) (log_turn log turn) position untaken
+  pub turn_refines : (turn : Turn) → IsTrue (fits_now t turn) → Refines side (after_turn t turn) (log_turn log turn) position uncollected
   turn_refines turn f =
       let fits_then : fits side log turn ≡ true = sym (refined_fits turn) ∙ f in
-      refines-after (λ u. after_turn u turn) (log_turn log turn) position (pieces_then log position r.pieces turn) untaken
-      (turn-is side log position r.pieces untaken r.facts turn fits_then) (turn-facts side log position r.pieces untaken r.facts turn fits_then) (turn-holds log position r.pieces r.holds turn)
+      refines-after (λ u. after_turn u turn) (log_turn log turn) position (pieces_then log position r.pieces turn) uncollected
+      (turn-is side log position r.pieces uncollected r.facts turn fits_then) (turn-facts side log position r.pieces uncollected r.facts turn fits_then) (turn-holds log position r.pieces r.holds turn)
 
-  pub bytes_refine : (id : ℕ) (bytes : List ℕ) → IsTrue (may_receive_now t id && not t.is_lost) → Refines side (after_bytes t id bytes) (log_turn log (turns.Bytes id bytes)) position untaken
+  pub bytes_refine : (id : ℕ) (bytes : List ℕ) → IsTrue (may_receive_now t id && not t.is_lost) → Refines side (after_bytes t id bytes) (log_turn log (turns.Bytes id bytes)) position uncollected
   bytes_refine id bytes f = turn_refines (turns.Bytes id bytes) f
 
   with-contents : (later : List Action) → contents (with_actions later log) ≡ contents log
   with-contents later = actions-contents later log
 
-  opening_refines : (kind : ℕ) → kind < 4 → Refines side (after_opening t kind) (with_actions (actions_to_open side log kind) log) position (newest_first (actions_to_open side log kind) untaken)
-  opening_refines kind l = refines-after (λ u. after_opening u kind) (with_actions (actions_to_open side log kind) log) position r.pieces (newest_first (actions_to_open side log kind) untaken)
-      (opening-is side log position r.pieces untaken r.facts kind l) (opening-facts side log position r.pieces untaken r.facts kind) (held-by _ (with-contents (actions_to_open side log kind)))
+  opening_refines : (kind : ℕ) → kind < 4 → Refines side (after_opening t kind) (with_actions (actions_to_open side log kind) log) position (newest_first (actions_to_open side log kind) uncollected)
+  opening_refines kind l = refines-after (λ u. after_opening u kind) (with_actions (actions_to_open side log kind) log) position r.pieces (newest_first (actions_to_open side log kind) uncollected)
+      (opening-is side log position r.pieces uncollected r.facts kind l) (opening-facts side log position r.pieces uncollected r.facts kind) (held-by _ (with-contents (actions_to_open side log kind)))
 
-  pub uni_refines : Refines side (after_opening t (local_uni t.side)) (with_actions (actions_to_open side log (local_uni side)) log) position (newest_first (actions_to_open side log (local_uni side)) untaken)
-  uni_refines = subst (λ (w : Side). Refines side (after_opening t (local_uni w)) (with_actions (actions_to_open side log (local_uni side)) log) position (newest_first (actions_to_open side log (local_uni side)) untaken))
+  pub uni_refines : Refines side (after_opening t (local_uni t.side)) (with_actions (actions_to_open side log (local_uni side)) log) position (newest_first (actions_to_open side log (local_uni side)) uncollected)
+  uni_refines = subst (λ (w : Side). Refines side (after_opening t (local_uni w)) (with_actions (actions_to_open side log (local_uni side)) log) position (newest_first (actions_to_open side log (local_uni side)) uncollected))
       (sym refined_side) (opening_refines (local_uni side) (uni-below side))
 
-  pub bi_refines : Refines side (after_opening t (local_bi t.side)) (with_actions (actions_to_open side log (local_bi side)) log) position (newest_first (actions_to_open side log (local_bi side)) untaken)
-  bi_refines = subst (λ (w : Side). Refines side (after_opening t (local_bi w)) (with_actions (actions_to_open side log (local_bi side)) log) position (newest_first (actions_to_open side log (local_bi side)) untaken))
+  pub bi_refines : Refines side (after_opening t (local_bi t.side)) (with_actions (actions_to_open side log (local_bi side)) log) position (newest_first (actions_to_open side log (local_bi side)) uncollected)
+  bi_refines = subst (λ (w : Side). Refines side (after_opening t (local_bi w)) (with_actions (actions_to_open side log (local_bi side)) log) position (newest_first (actions_to_open side log (local_bi side)) uncollected))
       (sym refined_side) (opening_refines (local_bi side) (bi-below side))
 
-  pub send_refines : (id : ℕ) (bytes : List ℕ) → IsTrue (may_send_now t id) → Refines side (after_send t id bytes) (with_actions (actions_to_send log id bytes) log) position (newest_first (actions_to_send log id bytes) untaken)
-  send_refines id bytes e = refines-after (λ u. after_send u id bytes) (with_actions (actions_to_send log id bytes) log) position r.pieces (newest_first (actions_to_send log id bytes) untaken)
-      (send-then side log position r.pieces untaken r.facts id bytes (sending-exists id e)) (send-facts side log position r.pieces untaken r.facts id bytes (sending-exists id e)) (held-by _ (with-contents (actions_to_send log id bytes)))
+  pub send_refines : (id : ℕ) (bytes : List ℕ) → IsTrue (may_send_now t id) → Refines side (after_send t id bytes) (with_actions (actions_to_send log id bytes) log) position (newest_first (actions_to_send log id bytes) uncollected)
+  send_refines id bytes e = refines-after (λ u. after_send u id bytes) (with_actions (actions_to_send log id bytes) log) position r.pieces (newest_first (actions_to_send log id bytes) uncollected)
+      (send-then side log position r.pieces uncollected r.facts id bytes (sending-exists id e)) (send-facts side log position r.pieces uncollected r.facts id bytes (sending-exists id e)) (held-by _ (with-contents (actions_to_send log id bytes)))
 
-  pub finish_refines : (id : ℕ) → IsTrue (may_send_now t id) → Refines side (after_finish t id) (Sent (actions.Finish id) ∷ log) position (actions.Finish id ∷ untaken)
-  finish_refines id e = refines-after (λ u. after_finish u id) (Sent (actions.Finish id) ∷ log) position r.pieces (actions.Finish id ∷ untaken)
-      (finish-then side log position r.pieces untaken r.facts id (sending-exists id e)) (finish-facts side log position r.pieces untaken r.facts id (sending-exists id e)) (held-by _ refl)
+  pub finish_refines : (id : ℕ) → IsTrue (may_send_now t id) → Refines side (after_finish t id) (Sent (actions.Finish id) ∷ log) position (actions.Finish id ∷ uncollected)
+  finish_refines id e = refines-after (λ u. after_finish u id) (Sent (actions.Finish id) ∷ log) position r.pieces (actions.Finish id ∷ uncollected)
+      (finish-then side log position r.pieces uncollected r.facts id (sending-exists id e)) (finish-facts side log position r.pieces uncollected r.facts id (sending-exists id e)) (held-by _ refl)
 
   reset-contents : (b : Bool) (id code : ℕ) → contents ((if b then Sent (actions.ResetOut id code) else Called (ResetUnsent id code)) ∷ log) ≡ contents log
   reset-contents true id code = refl
   reset-contents false id code = refl
 
-  pub reset_refines : (id code : ℕ) → IsTrue (can_send_now t id) → Refines side (after_reset t id code) (reset_entry log id code ∷ log) position (newest_first (if_open log (actions.ResetOut id code)) untaken)
-  reset_refines id code e = refines-after (λ u. after_reset u id code) (reset_entry log id code ∷ log) position r.pieces (newest_first (if_open log (actions.ResetOut id code)) untaken)
-      (reset-here side log position r.pieces untaken r.facts id code (half_exists id e)) (reset-here-facts side log position r.pieces untaken r.facts id code (half_exists id e)) (held-by _ (reset-contents (is_open log) id code))
+  pub reset_refines : (id code : ℕ) → IsTrue (can_send_now t id) → Refines side (after_reset t id code) (reset_entry log id code ∷ log) position (newest_first (if_open log (actions.ResetOut id code)) uncollected)
+  reset_refines id code e = refines-after (λ u. after_reset u id code) (reset_entry log id code ∷ log) position r.pieces (newest_first (if_open log (actions.ResetOut id code)) uncollected)
+      (reset-here side log position r.pieces uncollected r.facts id code (half_exists id e)) (reset-here-facts side log position r.pieces uncollected r.facts id code (half_exists id e)) (held-by _ (reset-contents (is_open log) id code))
 
-  pub stop_refines : (id code : ℕ) → Refines side (after_stop t id code) (with_actions (if_open log (actions.StopOut id code)) log) position (newest_first (if_open log (actions.StopOut id code)) untaken)
-  stop_refines id code = refines-after (λ u. after_stop u id code) (with_actions (if_open log (actions.StopOut id code)) log) position r.pieces (newest_first (if_open log (actions.StopOut id code)) untaken)
-      (stop-out side log position r.pieces untaken r.facts id code) (stop-out-facts side log position r.pieces untaken r.facts id code) (held-by _ (with-contents (if_open log (actions.StopOut id code))))
+  pub stop_refines : (id code : ℕ) → Refines side (after_stop t id code) (with_actions (if_open log (actions.StopOut id code)) log) position (newest_first (if_open log (actions.StopOut id code)) uncollected)
+  stop_refines id code = refines-after (λ u. after_stop u id code) (with_actions (if_open log (actions.StopOut id code)) log) position r.pieces (newest_first (if_open log (actions.StopOut id code)) uncollected)
+      (stop-out side log position r.pieces uncollected r.facts id code) (stop-out-facts side log position r.pieces uncollected r.facts id code) (held-by _ (with-contents (if_open log (actions.StopOut id code))))
 
-  pub priority_refines : (id : ℕ) (priority : ℤ) → IsTrue (can_send_now t id) → Refines side (after_priority t id priority) (Called (PrioritySet id priority) ∷ log) position untaken
-  priority_refines id priority e = refines-after (λ u. after_priority u id priority) (Called (PrioritySet id priority) ∷ log) position r.pieces untaken
-      (priority-then side log position r.pieces untaken r.facts id priority (half_exists id e)) (priority-facts side log position r.pieces untaken r.facts id priority (half_exists id e)) (held-by _ refl)
+  pub priority_refines : (id : ℕ) (priority : ℤ) → IsTrue (can_send_now t id) → Refines side (after_priority t id priority) (Called (PrioritySet id priority) ∷ log) position uncollected
+  priority_refines id priority e = refines-after (λ u. after_priority u id priority) (Called (PrioritySet id priority) ∷ log) position r.pieces uncollected
+      (priority-then side log position r.pieces uncollected r.facts id priority (half_exists id e)) (priority-facts side log position r.pieces uncollected r.facts id priority (half_exists id e)) (held-by _ refl)
 
-  pub dial_refines : (address : Addr) (name : List ℕ) → Refines side (after_dial t address name) (Sent (actions.Dial address name) ∷ log) position (actions.Dial address name ∷ untaken)
-  dial_refines address name = refines-after (λ u. after_dial u address name) (Sent (actions.Dial address name) ∷ log) position r.pieces (actions.Dial address name ∷ untaken)
-      refl (dial-facts side log position r.pieces untaken r.facts address name) (held-by _ refl)
+  pub dial_refines : (address : Addr) (name : List ℕ) → Refines side (after_dial t address name) (Sent (actions.Dial address name) ∷ log) position (actions.Dial address name ∷ uncollected)
+  dial_refines address name = refines-after (λ u. after_dial u address name) (Sent (actions.Dial address name) ∷ log) position r.pieces (actions.Dial address name ∷ uncollected)
+      refl (dial-facts side log position r.pieces uncollected r.facts address name) (held-by _ refl)
 
-  pub datagram_refines : (piece : List ℕ) → Refines side (with_action t (actions.DatagramOut piece)) (Sent (actions.DatagramOut piece) ∷ log) position (actions.DatagramOut piece ∷ untaken)
-  datagram_refines piece = refines-after (λ u. with_action u (actions.DatagramOut piece)) (Sent (actions.DatagramOut piece) ∷ log) position r.pieces (actions.DatagramOut piece ∷ untaken)
-      refl (datagram-out-facts side log position r.pieces untaken r.facts piece) (held-by _ refl)
+  pub datagram_refines : (piece : List ℕ) → Refines side (with_action t (actions.DatagramOut piece)) (Sent (actions.DatagramOut piece) ∷ log) position (actions.DatagramOut piece ∷ uncollected)
+  datagram_refines piece = refines-after (λ u. with_action u (actions.DatagramOut piece)) (Sent (actions.DatagramOut piece) ∷ log) position r.pieces (actions.DatagramOut piece ∷ uncollected)
+      refl (datagram-out-facts side log position r.pieces uncollected r.facts piece) (held-by _ refl)
 
-  pub close_refines : (code : ℕ) (reason : List ℕ) → Refines side (after_close t code reason) (with_actions (if_open log (actions.Close code reason)) log) position (newest_first (if_open log (actions.Close code reason)) untaken)
-  close_refines code reason = refines-after (λ u. after_close u code reason) (with_actions (if_open log (actions.Close code reason)) log) position r.pieces (newest_first (if_open log (actions.Close code reason)) untaken)
-      (close-then side log position r.pieces untaken r.facts code reason) (close-facts side log position r.pieces untaken r.facts code reason) (held-by _ (with-contents (if_open log (actions.Close code reason))))
+  pub close_refines : (code : ℕ) (reason : List ℕ) → Refines side (after_close t code reason) (with_actions (if_open log (actions.Close code reason)) log) position (newest_first (if_open log (actions.Close code reason)) uncollected)
+  close_refines code reason = refines-after (λ u. after_close u code reason) (with_actions (if_open log (actions.Close code reason)) log) position r.pieces (newest_first (if_open log (actions.Close code reason)) uncollected)
+      (close-then side log position r.pieces uncollected r.facts code reason) (close-facts side log position r.pieces uncollected r.facts code reason) (held-by _ (with-contents (if_open log (actions.Close code reason))))
 
   pub taken_refines : Refines side (record t { actions = [] }) log position []
   taken_refines = refines-after (λ u. record u { actions = [] }) log position r.pieces [] refl r.facts r.holds
 
-  pub consume_refines : (id count : ℕ) → count ≤ length (unread_now t id) → Refines side (after_consume t id count) log (position_after position id count) untaken
+  pub consume_refines : (id count : ℕ) → count ≤ length (unread_now t id) → Refines side (after_consume t id count) log (position_after position id count) uncollected
   consume_refines id count l =
       let few : count ≤ length (unread log position id) = subst (λ (xs : List ℕ). count ≤ length xs) (refined_unread id) l in
-      refines-after (λ u. after_consume u id count) log (position_after position id count) (skipped r.pieces id count) untaken
-      (consume-then side log position r.pieces untaken r.facts id count) (consume-facts side log position r.pieces untaken r.facts id count) (consume-holds log position r.pieces r.holds id count few)
+      refines-after (λ u. after_consume u id count) log (position_after position id count) (skipped r.pieces id count) uncollected
+      (consume-then side log position r.pieces uncollected r.facts id count) (consume-facts side log position r.pieces uncollected r.facts id count) (consume-holds log position r.pieces r.holds id count few)
 
-  pub give_up_refines : (id : ℕ) → IsTrue (can_receive_now t id) → Refines side (after_give_up t id) log (given_up position id) untaken
-  give_up_refines id e = refines-after (λ u. after_give_up u id) log (given_up position id) (emptied r.pieces id) untaken
-      (give-up-then side log position r.pieces untaken r.facts id (receiving_exists id e)) (give-up-facts side log position r.pieces untaken r.facts id (receiving_exists id e)) (give-up-holds log position r.pieces r.holds id)
+  pub give_up_refines : (id : ℕ) → IsTrue (can_receive_now t id) → Refines side (after_give_up t id) log (given_up position id) uncollected
+  give_up_refines id e = refines-after (λ u. after_give_up u id) log (given_up position id) (emptied r.pieces id) uncollected
+      (give-up-then side log position r.pieces uncollected r.facts id (receiving_exists id e)) (give-up-facts side log position r.pieces uncollected r.facts id (receiving_exists id e)) (give-up-holds log position r.pieces r.holds id)

@@ -139,20 +139,20 @@ pub receive-changes : (log : Log) (position : ℕ → ReadPosition) (pieces : �
     → Changes (stream_of log position pieces) id (with_bytes piece) (stream_of log position (received position pieces id piece))
 receive-changes log position pieces id piece k = receive-if (id == k) (is_given_up (position k)) (stream_of log position pieces k) piece
 
-consume-if : (b : Bool) (s : Stream) (at : ReadPosition) (count : ℕ) → record s { unread = if b then skip count s.unread else s.unread; given_up = is_given_up (if b then advance count at else at) }
-    ≡ (if b then consume count (record s { given_up = is_given_up at }) else record s { given_up = is_given_up at })
+consume-if : (b : Bool) (s : Stream) (read_position : ReadPosition) (count : ℕ) → record s { unread = if b then skip count s.unread else s.unread; given_up = is_given_up (if b then advance count read_position else read_position) }
+    ≡ (if b then consume count (record s { given_up = is_given_up read_position }) else record s { given_up = is_given_up read_position })
 consume-if true s (AtOffset offset) count = refl
 consume-if true s GivenUp count = refl
-consume-if false s at count = refl
+consume-if false s read_position count = refl
 
 pub consume-changes : (log : Log) (position : ℕ → ReadPosition) (pieces : ℕ → List (List ℕ)) (id count : ℕ)
     → Changes (stream_of log position pieces) id (consume count) (stream_of log (position_after position id count) (skipped pieces id count))
 consume-changes log position pieces id count k = consume-if (id == k) (stream_of log position pieces k) (position k) count
 
-give-up-if : (b : Bool) (s : Stream) (at : ReadPosition) → record s { unread = if b then [] else s.unread; given_up = is_given_up (if b then GivenUp else at) }
-    ≡ (if b then give_up (record s { given_up = is_given_up at }) else record s { given_up = is_given_up at })
-give-up-if true s at = refl
-give-up-if false s at = refl
+give-up-if : (b : Bool) (s : Stream) (offset : ReadPosition) → record s { unread = if b then [] else s.unread; given_up = is_given_up (if b then GivenUp else offset) }
+    ≡ (if b then give_up (record s { given_up = is_given_up offset }) else record s { given_up = is_given_up offset })
+give-up-if true s offset = refl
+give-up-if false s offset = refl
 
 pub give-up-changes : (log : Log) (position : ℕ → ReadPosition) (pieces : ℕ → List (List ℕ)) (id : ℕ)
     → Changes (stream_of log position pieces) id give_up (stream_of log (given_up position id) (emptied pieces id))

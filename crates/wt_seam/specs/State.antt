@@ -31,7 +31,7 @@ pub record TransportState : Type 0 where
   pub datagram_fact : Option DatagramFact
   pub loss : Option LossReason  -- the one that ended the connection
   pub streams : List (List Stream)  -- those of each kind
-  pub actions : List Action  -- those that weren't taken yet, joined
+  pub actions : List Action  -- those that weren't collected yet, joined
 
 -- ---- the abstraction function
 
@@ -53,9 +53,9 @@ stream_of log position pieces k = record {
   priority = priority_of (calls_of log) k;
 }
 
--- what is kept of a log, where readers are at these positions, with these actions not taken yet, the newest first
+-- what is kept of a log, where readers are at these positions, with these actions not collected yet, the newest first
 abbrev pub state_of : Side → Log → (ℕ → ReadPosition) → (ℕ → List (List ℕ)) → List Action → TransportState
-state_of side log position pieces untaken = record {
+state_of side log position pieces uncollected = record {
   side = side;
   is_open = is_open log;
   has_dialled = has_dialled (actions_of log);
@@ -67,7 +67,7 @@ state_of side log position pieces untaken = record {
   datagram_fact = datagram_fact (events_of log);
   loss = loss_of (events_of log);
   streams = rows (stream_of log position pieces) (stream_count side log);
-  actions = joined_actions untaken;
+  actions = joined_actions uncollected;
 }
 
 -- ---- what holds of every log whose turns fit
@@ -96,10 +96,10 @@ pub record Holds (log : Log) (position : ℕ → ReadPosition) (pieces : ℕ →
   pub filled : AreFilled (pieces k)
   pub within : IsWithin (position k) (contents log k)
 
--- What is kept refines a log, of whose streams the readers are at these positions, with these actions not taken yet,
+-- What is kept refines a log, of whose streams the readers are at these positions, with these actions not collected yet,
 -- the newest first.
-pub record Refines (side : Side) (t : TransportState) (log : Log) (position : ℕ → ReadPosition) (untaken : List Action) : Type 0 where
+pub record Refines (side : Side) (t : TransportState) (log : Log) (position : ℕ → ReadPosition) (uncollected : List Action) : Type 0 where
   pub pieces : ℕ → List (List ℕ)
   pub facts : Facts side log position pieces
   pub holds : (k : ℕ) → Holds log position pieces k
-  pub state : t ≡ state_of side log position pieces untaken
+  pub state : t ≡ state_of side log position pieces uncollected

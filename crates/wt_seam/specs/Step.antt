@@ -127,14 +127,14 @@ abbrev pub after_bytes : TransportState → ℕ → List ℕ → TransportState
 after_bytes t id piece = if_so t.is_open (with_change t id (stream.with_bytes piece)) t
 
 -- after what a turn tells, if it tells an event
-abbrev pub after_told : TransportState → Option Event → TransportState
-after_told t (Some e) = after_event t e
-after_told t None = t
+abbrev pub after_reported : TransportState → Option Event → TransportState
+after_reported t (Some e) = after_event t e
+after_reported t None = t
 
 -- after a turn of the transport
 abbrev pub after_turn : TransportState → Turn → TransportState
 after_turn t (turns.Bytes id piece) = after_bytes t id piece
-after_turn t turn = after_told t (event_of turn)
+after_turn t turn = after_reported t (event_of turn)
 
 -- ---- what goes out
 
@@ -227,7 +227,7 @@ after_give_up t id = with_change t id stream.give_up
 abbrev pub end_now : TransportState → ℕ → StreamEnd
 end_now t id = if stream.has_stream t.streams id then (stream.stream_at t.streams id).signals.end else ends.Running
 
--- ---- what was told of a stream, and what went out on it
+-- ---- what was reported of a stream, and what went out on it
 
 -- how many bytes may go out on it in all; before it is opened, what a new one may
 abbrev pub credit_now : TransportState → ℕ → ℕ

@@ -120,7 +120,7 @@ impl QuicSendStream {
         ensures state { OnOk result (t.new ≡ after_reset_unless_closed t.old self.old.id code) }
         ensures err { OnErr result (t.new ≡ t.old) }
         ensures log_answer { Tells t.old (λ side log. IfOk result (λ a. a ≡ reset_answer (sending_half log self.old.id))) }
-        ensures log { OfEachLog t.old (λ side log position untaken. OnOk result (Refines side t.new (log_reset log self.old.id code) position (newest_first (actions_of_reset log self.old.id code) untaken))) }
+        ensures log { OfEachLog t.old (λ side log position uncollected. OnOk result (Refines side t.new (log_reset log self.old.id code) position (newest_first (actions_of_reset log self.old.id code) uncollected))) }
         ensures same { self.new ≡ self.old }
     {
         t.reset_half(self.id, code)
@@ -151,7 +151,7 @@ impl QuicSendStream {
     pub fn set_priority(&mut self, t: &mut Transport, priority: i32)
         requires { IsTrue (can_send_now t.old self.old.id) }
         ensures state { t.new ≡ after_priority_unless_closed t.old self.old.id priority }
-        ensures log { OfEachLog t.old (λ side log position untaken. Refines side t.new (log_priority log self.old.id priority) position untaken) }
+        ensures log { OfEachLog t.old (λ side log position uncollected. Refines side t.new (log_priority log self.old.id priority) position uncollected) }
         ensures same { self.new ≡ self.old }
     {
         t.set_priority_of_half(self.id, priority);
@@ -198,7 +198,7 @@ impl QuicRecvStream {
             ≡ read_answer (is_open log) (receiving_half log position self.old.id) (length buffer.old)) }
         ensures log_bytes { TellsUnread t.old (λ side log position. buffer.new
             ≡ take (read_count (receiving_half log position self.old.id) (length buffer.old)) (unread log position self.old.id) ++ drop (read_count (receiving_half log position self.old.id) (length buffer.old)) buffer.old) }
-        ensures log { OfEachLog t.old (λ side log position untaken. Refines side t.new log (position_after position self.old.id (read_count (receiving_half log position self.old.id) (length buffer.old))) untaken) }
+        ensures log { OfEachLog t.old (λ side log position uncollected. Refines side t.new log (position_after position self.old.id (read_count (receiving_half log position self.old.id) (length buffer.old))) uncollected) }
         ensures same { self.new ≡ self.old }
     {
         t.read(self.id, buffer)
@@ -221,7 +221,7 @@ impl QuicRecvStream {
             ≡ read_exact_answer (is_open log) (receiving_half log position self.old.id) (length buffer.old)) }
         ensures log_bytes { TellsUnread t.old (λ side log position. buffer.new
             ≡ take (read_exact_count (receiving_half log position self.old.id) (length buffer.old)) (unread log position self.old.id) ++ drop (read_exact_count (receiving_half log position self.old.id) (length buffer.old)) buffer.old) }
-        ensures log { OfEachLog t.old (λ side log position untaken. Refines side t.new log (position_after position self.old.id (read_exact_count (receiving_half log position self.old.id) (length buffer.old))) untaken) }
+        ensures log { OfEachLog t.old (λ side log position uncollected. Refines side t.new log (position_after position self.old.id (read_exact_count (receiving_half log position self.old.id) (length buffer.old))) uncollected) }
         ensures same { self.new ≡ self.old }
     {
         t.read_exact(self.id, buffer)
@@ -232,7 +232,7 @@ impl QuicRecvStream {
         requires { IsTrue (can_receive_now t.old self.id) }
         ensures state { OnOk result (t.new ≡ after_give_up (after_stop t.old self.id code) self.id) }
         ensures err { OnErr result (t.new ≡ t.old) }
-        ensures log { OfEachLog t.old (λ side log position untaken. OnOk result (Refines side t.new (with_actions (if_open log (actions.StopOut self.id code)) log) (given_up position self.id) (newest_first (if_open log (actions.StopOut self.id code)) untaken))) }
+        ensures log { OfEachLog t.old (λ side log position uncollected. OnOk result (Refines side t.new (with_actions (if_open log (actions.StopOut self.id code)) log) (given_up position self.id) (newest_first (if_open log (actions.StopOut self.id code)) uncollected))) }
     {
         t.stop_half(self.id, code)
     }

@@ -1,4 +1,4 @@
-//! What is kept of the transport: the streams, what may go out on them, and how the connection stands.
+//! What is kept of the transport: the streams, what may go out on them, and whether the connection is open or how it ended.
 ghost use Rattle.std.specs.Prelude.{◌≡◌, ◌<◌, ◌≤◌, ◌^◌, ◌+◌, ◌-◌, ◌/◌, ◌%◌, ◌++◌, ◌∷◌, [], None, IsTrue, OnErr, OnOk, ◌==◌, ◌&&◌, not, List, false, if◌then◌else◌, option_copied};
 ghost use Rattle.wt_turn.specs.Log.{events_of, is_open};
 ghost use Rattle.wt_seam_spec.specs.Streams.{local_bi, local_uni, peer_bi, peer_uni};
@@ -35,7 +35,7 @@ use wt_wire::side::Side;
 use wt_wire::text::Text;
 use wt_wire::varint::VarInt;
 
-/// The transport of one connection, as far as this end was told of it. Contracts see what it keeps as
+/// The transport of one connection, as far as it was reported to this end. Contracts see what it keeps as
 /// a record, and tie that record to each log that it refines. Each call that takes memory answers
 /// `OutOfMemory` where none is there, and then leaves all as it was.
 #[derive(Debug)]
@@ -89,7 +89,7 @@ impl Model for Transport {
 }
 
 impl Transport {
-    /// The transport of a connection of which nothing was told yet.
+    /// The transport of a connection of which nothing was reported yet.
     #[tactic(auto, using(crate::proofs::Refining::new_refines))]
     pub fn new(alloc: Global, side: Side) -> Transport
         ensures now { result ≡ nothing_connected side }
@@ -215,7 +215,7 @@ impl Transport {
         self.is_open
     }
 
-    /// What was told last of datagrams while the connection was open.
+    /// What was reported last of datagrams while the connection was open.
     #[tactic(auto, using(crate::proofs::Refining::refined_datagram_fact))]
     pub fn datagram_fact(&self) -> Option<DatagramFact>
         ensures now { result ≡ self.now.datagram_fact }
@@ -306,7 +306,7 @@ impl Transport {
     pub fn take_actions(&mut self) -> Actions
         ensures actions { result ≡ self.old.actions }
         ensures state { self.new ≡ record self.old { actions = [] } }
-        ensures log_actions { OfEachLog self.old (λ side log position untaken. result ≡ joined_actions untaken) }
+        ensures log_actions { OfEachLog self.old (λ side log position uncollected. result ≡ joined_actions uncollected) }
         ensures log { TellsUnread self.old (λ side log position. Refines side self.new log position []) }
     {
         self.take_actions_now()

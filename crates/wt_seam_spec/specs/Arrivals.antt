@@ -80,11 +80,11 @@ log_bytes_if true log id piece = log_bytes log id piece
 log_bytes_if false log id piece = log
 
 -- the log after what a turn tells, if it tells an event
-abbrev pub log_told : Log → Option Event → Log
-log_told log (Some e) = log_event log e
-log_told log None = log
+abbrev pub log_reported : Log → Option Event → Log
+log_reported log (Some e) = log_event log e
+log_reported log None = log
 
 -- the log after a turn of the transport: its event, or its bytes, which are left out once the connection has ended
 abbrev pub log_turn : Log → Turn → Log
 log_turn log (turns.Bytes id piece) = log_bytes_if (is_open log) log id piece
-log_turn log turn = log_told log (event_of turn)
+log_turn log turn = log_reported log (event_of turn)

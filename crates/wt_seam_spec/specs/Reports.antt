@@ -112,7 +112,7 @@ loss_reported _ = None
 abbrev pub loss_of : List Event → Option LossReason
 loss_of events = newest loss_reported events
 
--- these datagrams, and the one that the event brings
+-- these datagrams, and the one that the event carries
 abbrev pub with_datagram : Event → List (List ℕ) → List (List ℕ)
 with_datagram (Datagram piece) before = before ++ piece ∷ []
 with_datagram _ before = before
@@ -122,7 +122,7 @@ abbrev pub datagrams_of : List Event → List (List ℕ)
 datagrams_of [] = []
 datagrams_of (e ∷ before) = with_datagram e (datagrams_of before)
 
--- the peer's half may bring more
+-- more may be received on the peer's half
 abbrev pub is_running : StreamEnd → Bool
 is_running ends.Running = true
 is_running ends.Fin = false

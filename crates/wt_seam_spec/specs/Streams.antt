@@ -74,7 +74,7 @@ can_send side log k = exists side log k && not (peer_uni side == k % 4)
 
 -- ---- what came for them
 
--- these bytes, and the one that the entry brings for this stream
+-- these bytes, and the one that the entry adds to this stream
 abbrev pub with_byte : ℕ → Entry → List ℕ → List ℕ
 with_byte k (Received id byte) before = if id == k then before ++ byte ∷ [] else before
 with_byte k _ before = before

@@ -40,12 +40,12 @@ pub fn arrivals()
     ensures before_a_dial { fits Client [] (turns.Connected 1 0 3 (Limit 1200)) ≡ false }
 {}
 
-/// What comes after a close is judged as if it counted, and told by nothing else.
+/// What comes after a close is judged as if it counted, and reported by nothing else.
 pub fn late()
     ensures fits_late { fits Server closed_log (turns.Stop 3 9) ≡ true }
     ensures forbids_a_second { fits Server (log_turn closed_log (turns.Stop 3 9)) (turns.Stop 3 9) ≡ false }
     ensures stops_nothing { stop_of (events_of (log_turn closed_log (turns.Stop 3 9))) 3 ≡ None }
-    ensures brings_nothing { contents (log_turn closed_log (turns.Bytes 2 (99 ∷ []))) 2 ≡ 97 ∷ 98 ∷ [] }
+    ensures carries_nothing { contents (log_turn closed_log (turns.Bytes 2 (99 ∷ []))) 2 ≡ 97 ∷ 98 ∷ [] }
     ensures ends_nothing { end_of (events_of (log_turn closed_log (turns.End 2))) 2 ≡ ends.Running }
     ensures forbids_more { fits Server (log_turn closed_log (turns.End 2)) (turns.Bytes 2 (99 ∷ [])) ≡ false }
     ensures sends_nothing { may_send Server closed_log 3 ≡ false }

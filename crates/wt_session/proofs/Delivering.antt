@@ -2,11 +2,11 @@
 use Rattle.std.specs.Prelude.{[], ◌&&◌, ◌∷◌, ◌≡◌, Bool, Err, IfOk, List, None, Ok, Result, Some, false, if◌then◌else◌, not, true, ℕ}
 use Rattle.std.proofs.Common.{◌∙◌, ap, refl, subst, sym}
 use Rattle.std.proofs.lemmas.Bool.{and_parts}
-use Rattle.wt_session.specs.Incoming.{IsUnanswered, Request, StandsWith, incoming_reply, told_of}
+use Rattle.wt_session.specs.Incoming.{IsUnanswered, Request, StandsWith, incoming_reply, reported_of}
 use Rattle.wt_driver_state.specs.DriverValue.{DriverValue}
 use Rattle.wt_driver_spec.specs.DriverState.{requests_now}
 use Rattle.wt_dispatch.specs.Requests.{first_request, request_in}
-use Rattle.wt_driver_state.specs.Tie.{Follows, untaken_since}
+use Rattle.wt_driver_state.specs.Tie.{Follows, uncollected_since}
 use Rattle.wt_driver_spec.specs.Asking.{MayBeCalled}
 use Rattle.wt_laws.specs.Reachable.{IsReachable}
 use Rattle.wt_plan.specs.DriverAnswers.{error_now}
@@ -23,7 +23,7 @@ use Rattle.wt_spec.specs.Answers.{call_effect, is_client, is_first, may_call}
 use Rattle.wt_spec.specs.Effect.{Effect, driver_error, log_call, reply_with}
 use Rattle.wt_spec.specs.Handshake.{awaits_request, deliver, handshake_state, queued_requests, request_fields_of, requested_stream}
 use Rattle.wt_spec.specs.StreamTable.{Classified}
-use Rattle.wt_agreement.proofs.DriverTheorems.{driver_error_theorem, requests_theorem, told_end_theorem, transport_open_theorem}
+use Rattle.wt_agreement.proofs.DriverTheorems.{driver_error_theorem, requests_theorem, reported_end_theorem, transport_open_theorem}
 use Rattle.wt_agreement.proofs.Theorems.{logged_theorem}
 use Rattle.wt_agreement.proofs.Turns.{entry-first}
 use Rattle.wt_turn.specs.Log.{CallRecord, Called, HandshakeOver, Log, Polled, RequestDelivered, calls_of}
@@ -45,7 +45,7 @@ record Carries (c : Classified) (r : Request) : Type 0 where
   id : c.id ≡ r.id
   fields : request_fields_of c.verdict ≡ r.fields
 
-carries : (c : Classified) (later : List Classified) (r : Request) → FirstIsRequest (c ∷ later) → told_of (Some r) ≡ first_request (c ∷ later) → Carries c r
+carries : (c : Classified) (later : List Classified) (r : Request) → FirstIsRequest (c ∷ later) → reported_of (Some r) ≡ first_request (c ∷ later) → Carries c r
 carries c later r q e =
     let found : Some (c.id, q.fields, q.offset) ≡ Some (r.id, r.fields, r.end) = sym (ap (request_in c.id) q.verdict) ∙ sym e in
     let reported : (c.id, q.fields, q.offset) ≡ (r.id, r.fields, r.end) = cc in
@@ -54,9 +54,9 @@ carries c later r q e =
       fields = ap request_fields_of q.verdict ∙ ap (λ (x : ℕ × Fields × ℕ). x.1) reported;
     }
 
-module _ (side : Side) (d : DriverValue) (log : Log) (taken : ℕ) (f : Follows side d log taken) (reach : IsReachable side log) (may : may_call side log calls.Incoming ≡ true) where
+module _ (side : Side) (d : DriverValue) (log : Log) (collected : ℕ) (f : Follows side d log collected) (reach : IsReachable side log) (may : may_call side log calls.Incoming ≡ true) where
   queue-is : requests_now d.state ≡ queued_requests side log
-  queue-is = requests_theorem side d log (untaken_since taken log) f.refines
+  queue-is = requests_theorem side d log (uncollected_since collected log) f.refines
 
   -- the first queued stream carries a request
   pub first_is_request : FirstIsRequest (requests_now d.state)
@@ -73,10 +73,10 @@ module _ (side : Side) (d : DriverValue) (log : Log) (taken : ℕ) (f : Follows 
   may-be : MayPerform side log (delivery (facts_of side log) (requests_now d.state))
   may-be = subst (MayPerform side log) plan-is (performs_theorem side log calls.Incoming reach may)
 
-  -- ---- a request is told
+  -- ---- a request is reported
 
-  module _ (r : Request) (reported : told_of (Some r) ≡ first_request (requests_now d.state)) where
-    effect-by : (cs : List Classified) → FirstIsRequest cs → told_of (Some r) ≡ first_request cs
+  module _ (r : Request) (reported : reported_of (Some r) ≡ first_request (requests_now d.state)) where
+    effect-by : (cs : List Classified) → FirstIsRequest cs → reported_of (Some r) ≡ first_request cs
         → deliver side log cs ≡ reply_with (log_call side log [] (RequestDelivered r.id)) (replies.Request r.id r.fields)
     effect-by [] q e = absurd (cc)
     effect-by (c ∷ later) q e =
@@ -88,7 +88,7 @@ module _ (side : Side) (d : DriverValue) (log : Log) (taken : ℕ) (f : Follows 
     pub delivered_effect : call_effect side log calls.Incoming ≡ reply_with (log_call side log [] (RequestDelivered r.id)) (replies.Request r.id r.fields)
     delivered_effect = effect-is ∙ effect-by (requests_now d.state) first_is_request reported
 
-    record-by : (cs : List Classified) → FirstIsRequest cs → told_of (Some r) ≡ first_request cs → MayPerform side log (delivery (facts_of side log) cs) → MayBeCalled side log (RequestDelivered r.id)
+    record-by : (cs : List Classified) → FirstIsRequest cs → reported_of (Some r) ≡ first_request cs → MayPerform side log (delivery (facts_of side log) cs) → MayBeCalled side log (RequestDelivered r.id)
     record-by [] q e m = absurd (cc)
     record-by (c ∷ later) q e m = subst (λ (k : ℕ). MayBeCalled side log (RequestDelivered k)) (carries c later r q e).id m.1
 
@@ -96,7 +96,7 @@ module _ (side : Side) (d : DriverValue) (log : Log) (taken : ℕ) (f : Follows 
     pub may_deliver : MayBeCalled side log (RequestDelivered r.id)
     may_deliver = record-by (requests_now d.state) first_is_request reported may-be
 
-    plan-by : (cs : List Classified) → FirstIsRequest cs → told_of (Some r) ≡ first_request cs → delivery (facts_of side log) cs ≡ Step [] (RequestDelivered r.id) (replies.Request r.id r.fields)
+    plan-by : (cs : List Classified) → FirstIsRequest cs → reported_of (Some r) ≡ first_request cs → delivery (facts_of side log) cs ≡ Step [] (RequestDelivered r.id) (replies.Request r.id r.fields)
     plan-by [] q e = absurd (cc)
     plan-by (c ∷ later) q e =
         let x = carries c later r q e in
@@ -110,7 +110,7 @@ module _ (side : Side) (d : DriverValue) (log : Log) (taken : ℕ) (f : Follows 
         record {
           state = ap handshake_state made;
           requested = ap requested_stream made;
-          end = told_end_theorem side d log (untaken_since taken log) calls.Incoming [] r.id (replies.Request r.id r.fields) r.id r.fields r.end f.refines may (plan-is ∙ plan-by (requests_now d.state) first_is_request reported) (sym reported);
+          end = reported_end_theorem side d log (uncollected_since collected log) calls.Incoming [] r.id (replies.Request r.id r.fields) r.id r.fields r.end f.refines may (plan-is ∙ plan-by (requests_now d.state) first_is_request reported) (sym reported);
         }
 
     module _ (p : Result (Poll (Result Request ConnectionError)) OutOfMemory) (given : IfOk p (λ x. x ≡ Ready (Ok r))) where
@@ -124,14 +124,14 @@ module _ (side : Side) (d : DriverValue) (log : Log) (taken : ℕ) (f : Follows 
           if-ok (λ x. x ≡ Ready (Ok r)) (λ x. StandsWith side (call_effect side log calls.Incoming).log x) p
           (λ x e. subst (StandsWith side (call_effect side log calls.Incoming).log) (sym e) delivered_stands) given
 
-  -- ---- none is told
+  -- ---- none is reported
 
-  none-by : (cs : List Classified) → FirstIsRequest cs → told_of None ≡ first_request cs → cs ≡ []
+  none-by : (cs : List Classified) → FirstIsRequest cs → reported_of None ≡ first_request cs → cs ≡ []
   none-by [] q e = refl
   none-by (c ∷ later) q e = absurd (let found : Some (c.id, q.fields, q.offset) ≡ None = sym (ap (request_in c.id) q.verdict) ∙ sym e in cc)
 
   -- then the call waits, or fails
-  pub undelivered_effect : told_of None ≡ first_request (requests_now d.state) → call_effect side log calls.Incoming ≡ deliver side log []
+  pub undelivered_effect : reported_of None ≡ first_request (requests_now d.state) → call_effect side log calls.Incoming ≡ deliver side log []
   undelivered_effect e = effect-is ∙ ap (deliver side log) (none-by (requests_now d.state) first_is_request e)
 
 -- ---- without a request
@@ -150,14 +150,14 @@ may-again side log may =
     all-three (not (is_client side)) (not (is_first (log_call side log [] Polled))) (awaits_request (handshake_state (calls_of (log_call side log [] Polled)))) (and_parts (not (is_client side)) (not (is_first log)) parts.0).0
     (ap not (entry-first side (Called Polled) log)) (ap (λ (rs : List CallRecord). awaits_request (handshake_state rs)) made ∙ parts.1)
 
-module _ (side : Side) (d : DriverValue) (log : Log) (taken : ℕ) (f : Follows side d log taken) where
+module _ (side : Side) (d : DriverValue) (log : Log) (collected : ℕ) (f : Follows side d log collected) where
   abbrev undelivered : Bool → ConnectionError → Effect
   undelivered open_ e = if open_ then reply_with (log_call side log [] Polled) replies.Pending else reply_with (log_call side log [] HandshakeOver) (replies.Failed e)
 
   undelivered-now : deliver side log [] ≡ undelivered d.inbox.transport.is_open (error_now d.inbox.transport d.state.progress.ending)
   undelivered-now =
-      ap (λ (b : Bool). undelivered b (driver_error side log)) (sym (transport_open_theorem side d log (untaken_since taken log) f.refines))
-      ∙ ap (undelivered d.inbox.transport.is_open) (sym (driver_error_theorem side d log (untaken_since taken log) f.refines))
+      ap (λ (b : Bool). undelivered b (driver_error side log)) (sym (transport_open_theorem side d log (uncollected_since collected log) f.refines))
+      ∙ ap (undelivered d.inbox.transport.is_open) (sym (driver_error_theorem side d log (uncollected_since collected log) f.refines))
 
   -- while the connection is open the call waits
   pub undelivered_open : (b : Bool) → b ≡ d.inbox.transport.is_open → b ≡ true → deliver side log [] ≡ reply_with (log_call side log [] Polled) replies.Pending

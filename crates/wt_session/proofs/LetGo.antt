@@ -5,7 +5,7 @@ use Rattle.std.specs.List.{list_any}
 use Rattle.wt_flush.proofs.Flushed.{receive-later}
 use Rattle.wt_driver_state.specs.DriverValue.{DriverValue}
 use Rattle.wt_driver_state.specs.Stages.{is_let_go, is_there}
-use Rattle.wt_driver_state.specs.Tie.{Follows, untaken_since}
+use Rattle.wt_driver_state.specs.Tie.{Follows, uncollected_since}
 use Rattle.wt_driver_spec.specs.Moment.{has_local_kind}
 use Rattle.wt_driver_spec.specs.Uses.{use_of}
 use Rattle.wt_laws.proofs.HeaderLaws.{Both, Heads, first-heads, keeps-both}
@@ -89,5 +89,5 @@ pub all-let-go : (side : Side) (log : Log) → IsReachable side log → AllLetGo
 all-let-go side log r = (reached (LetGoSoFar side) (record { both = first-heads side; all = λ k e. absurd cc }) (λ turn. keeps-let-go side turn) log r).all
 
 -- So no byte of it is held.
-pub nothing-held : (side : Side) (d : DriverValue) (log : Log) (taken k : ℕ) → IsReachable side log → Follows side d log taken → (use_of k (calls_of log)).is_dropped ≡ true → unread_now d.inbox.transport k ≡ []
-nothing-held side d log taken k reach f e = let_go_theorem side d log (untaken_since taken log) k f.refines (all-let-go side log reach k e)
+pub nothing-held : (side : Side) (d : DriverValue) (log : Log) (collected k : ℕ) → IsReachable side log → Follows side d log collected → (use_of k (calls_of log)).is_dropped ≡ true → unread_now d.inbox.transport k ≡ []
+nothing-held side d log collected k reach f e = let_go_theorem side d log (uncollected_since collected log) k f.refines (all-let-go side log reach k e)

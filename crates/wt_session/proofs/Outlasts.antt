@@ -48,9 +48,9 @@ module _ (side : Side) (call : Call) (p : is_past_handshake call ≡ true) where
   no-response before accepts head (ByRejection id a t s) = no-frame call p head t
   no-response before accepts head (FromBefore t s) = not-this calls.Handshake t refl
 
-  not-established : (before : Log) (own : List Action) (id at : ℕ) → EstablishCause side (turns.Call call) before own id at → ⊥
-  not-established before own id at (ByAnswer head from i c o a) = no-response (calls_of before) true head from
-  not-established before own id at (ByResponse head fields t h s w u i c l) = not-this calls.Handshake t refl
+  not-established : (before : Log) (own : List Action) (id offset : ℕ) → EstablishCause side (turns.Call call) before own id offset → ⊥
+  not-established before own id offset (ByAnswer head from i c o a) = no-response (calls_of before) true head from
+  not-established before own id offset (ByResponse head fields t h s w u i c l) = not-this calls.Handshake t refl
 
   not-to : ConnectTo (turns.Call call) → ⊥
   not-to to = not-this (calls.Connect (to.text, to.headers) to.lookup to.outcome) to.connects_to refl
@@ -65,10 +65,10 @@ module _ (side : Side) (call : Call) (p : is_past_handshake call ≡ true) where
   not-failed log e (BeforeStream reserved head t h c o x) = not-this calls.Handshake t refl
   not-failed log e (BeforeRequest reserved head t h c o x) = not-this calls.Handshake t refl
   not-failed log e (BeforeResponse w o x) = not-this calls.Handshake w.still_going refl
-  not-failed log e (AfterSuccess fields at w s o x) = not-this calls.Handshake w.still_going refl
+  not-failed log e (AfterSuccess fields offset w s o x) = not-this calls.Handshake w.still_going refl
   not-failed log e (ByReserved name head t h s x) = not-this calls.Handshake t refl
   not-failed log e (ByRefusal reserved head t h o r x) = not-this calls.Handshake t refl
-  not-failed log e (ByStatus fields at w s x) = not-this calls.Handshake w.still_going refl
+  not-failed log e (ByStatus fields offset w s x) = not-this calls.Handshake w.still_going refl
   not-failed log e (ByResponseFault code w x) = not-this calls.Handshake w.still_going refl
   not-failed log e (ByStreamEnd w x) = not-this calls.Handshake w.still_going refl
 
@@ -89,7 +89,7 @@ module _ (side : Side) (call : Call) (p : is_past_handshake call ≡ true) where
   record-as-before log (RequestDelivered k) c cs = absurd (not-this calls.Incoming c.asking refl)
   record-as-before log (ResponseStarted accepts head) c cs = absurd (no-response (calls_of log) accepts head c.0)
   record-as-before log (ConnectStarted reserved head) c cs = absurd (not-to c.dials.to)
-  record-as-before log (SessionEstablished id at) c cs = absurd (not-established c.before c.own id at c.how)
+  record-as-before log (SessionEstablished id offset) c cs = absurd (not-established c.before c.own id offset c.how)
   record-as-before log HandshakeOver c cs = absurd (not-over c.before c.why)
   record-as-before log _ c cs = (refl, refl)
 

@@ -5,7 +5,7 @@ use Rattle.wt_session.specs.Incoming.{IsUnanswered, Request, unbegun}
 use Rattle.wt_session.specs.Responding.{IsCallOf, IsPollOf, IsResponse, IsResponseReply, Response, StandsWith, response_state, waiting_record}
 use Rattle.wt_connecting.proofs.Over.{establishes}
 use Rattle.wt_driver_state.specs.DriverValue.{DriverValue}
-use Rattle.wt_driver_state.specs.Tie.{Follows, untaken_since}
+use Rattle.wt_driver_state.specs.Tie.{Follows, uncollected_since}
 use Rattle.wt_laws.proofs.SessionLaws.{has_request}
 use Rattle.wt_laws.specs.Reachable.{IsReachable}
 use Rattle.wt_plan.proofs.FactsSame.{facts-same}
@@ -42,7 +42,7 @@ use Rattle.wt_wire.specs.declared.side.Side.{Side}
 
 -- ---- the plan by what a driver keeps is the one by the log
 
-module _ (side : Side) (d : DriverValue) (log : Log) (taken : ℕ) (f : Follows side d log taken) (reach : IsReachable side log) where
+module _ (side : Side) (d : DriverValue) (log : Log) (collected : ℕ) (f : Follows side d log collected) (reach : IsReachable side log) where
   -- what the driver answers, where the request ends here
   abbrev answered : ℕ → DriverAnswers
   answered end = answers_now d.inbox.transport d.state (is_first log) end (driver_facts side log).response
@@ -51,8 +51,8 @@ module _ (side : Side) (d : DriverValue) (log : Log) (taken : ℕ) (f : Follows 
       → response_plan (facts_now d.inbox.transport (answers_now d.inbox.transport d.state (is_first log) end (driver_facts side log).response)) (session_state log) accepts head waiting
       ≡ response_plan (facts_of side log) (session_state log) accepts head waiting
   response_by_log end k a accepts head waiting =
-      let says : TellsFacts side log d.inbox.transport (answered end) = drivers_tell_theorem side d log (untaken_since taken log) (is_first log) end (driver_facts side log).response f.refines refl k (λ r h e. refl) reach in
-      ap (λ (x : CallFacts). response_plan x (session_state log) accepts head waiting) (facts-same side d.inbox.transport log says.position says.untaken says.refines (answered end) says.answers says.lawful)
+      let says : TellsFacts side log d.inbox.transport (answered end) = drivers_tell_theorem side d log (uncollected_since collected log) (is_first log) end (driver_facts side log).response f.refines refl k (λ r h e. refl) reach in
+      ap (λ (x : CallFacts). response_plan x (session_state log) accepts head waiting) (facts-same side d.inbox.transport log says.position says.uncollected says.refines (answered end) says.answers says.lawful)
       ∙ response-same (facts_of side log) end (driver_facts side log).response (unread_now d.inbox.transport) (k a) accepts (requested_stream (calls_of log)) (left_of (facts_of side log) (requested_stream (calls_of log)) head) waiting
 
 -- ---- the call of a poll
@@ -106,7 +106,7 @@ module _ (side : Side) (log : Log) where
 abbrev IsAcceptancePlan : CallRecord → Plan → Type 0
 IsAcceptancePlan waiting (Step own r replies.Pending) = r ≡ waiting
 IsAcceptancePlan waiting (Step own r (replies.Failed e)) = r ≡ HandshakeOver
-IsAcceptancePlan waiting (Establish own id at) = Unit {0}
+IsAcceptancePlan waiting (Establish own id offset) = Unit {0}
 IsAcceptancePlan waiting _ = ⊥
 
 abbrev IsRejectionPlan : CallRecord → Plan → Type 0
@@ -156,7 +156,7 @@ module _ (waiting : CallRecord) (w : is_some (requested_by waiting) ≡ false) w
   delivers-none : (accepts : Bool) (p : Plan) → IsResponsePlan accepts waiting p → delivers_request p ≡ false
   delivers-none true (Step own r replies.Pending) k = step-none own r replies.Pending k
   delivers-none true (Step own r (replies.Failed e)) k = over-none own r (replies.Failed e) k
-  delivers-none true (Establish own id at) k = refl
+  delivers-none true (Establish own id offset) k = refl
   delivers-none true _ k = absurd k
   delivers-none false (Step own r replies.Pending) k = step-none own r replies.Pending k
   delivers-none false (Step own r replies.Rejected) k = over-none own r replies.Rejected k
@@ -166,7 +166,7 @@ module _ (waiting : CallRecord) (w : is_some (requested_by waiting) ≡ false) w
 reply-of-plan : (side : Side) (log : Log) (accepts : Bool) (waiting : CallRecord) (p : Plan) → IsResponsePlan accepts waiting p → IsResponseReply accepts (perform side log p).reply
 reply-of-plan side log true waiting (Step own r replies.Pending) k = tt
 reply-of-plan side log true waiting (Step own r (replies.Failed e)) k = tt
-reply-of-plan side log true waiting (Establish own id at) k = tt
+reply-of-plan side log true waiting (Establish own id offset) k = tt
 reply-of-plan side log true waiting _ k = absurd k
 reply-of-plan side log false waiting (Step own r replies.Pending) k = tt
 reply-of-plan side log false waiting (Step own r replies.Rejected) k = tt
@@ -194,20 +194,20 @@ module _ (side : Side) (log : Log) (accepts : Bool) (r : Response) (s : IsRespon
 
   stands-by : (p : Plan) → IsResponsePlan accepts (waiting_record r.has_begun accepts r.head) p → KeepsRequestEnd side (perform side log p).log r.end
       → StandsWith side (perform side log p).log accepts (record r { has_begun = true }) (perform side log p).reply
-  stands-by p k e = at accepts p (waits (perform side log p).log) k e
+  stands-by p k e = by accepts p (waits (perform side log p).log) k e
     where
-      at : (a : Bool) (p : Plan)
+      by : (a : Bool) (p : Plan)
           → ((own : List Action) (made : CallRecord) → made ≡ waiting_record r.has_begun accepts r.head → (perform side log p).log ≡ log_call side log own made → KeepsRequestEnd side (perform side log p).log r.end
           → IsResponse side (perform side log p).log accepts (record r { has_begun = true }))
           → IsResponsePlan a (waiting_record r.has_begun accepts r.head) p → KeepsRequestEnd side (perform side log p).log r.end
           → StandsWith side (perform side log p).log accepts (record r { has_begun = true }) (perform side log p).reply
-      at true (Step own made replies.Pending) w k e = w own made k refl e
-      at true (Step own made (replies.Failed x)) w k e = tt
-      at true (Establish own id begin) w k e = establishes side log own id begin
-      at true _ w k e = absurd k
-      at false (Step own made replies.Pending) w k e = w own made k refl e
-      at false (Step own made replies.Rejected) w k e = tt
-      at false _ w k e = absurd k
+      by true (Step own made replies.Pending) w k e = w own made k refl e
+      by true (Step own made (replies.Failed x)) w k e = tt
+      by true (Establish own id begin) w k e = establishes side log own id begin
+      by true _ w k e = absurd k
+      by false (Step own made replies.Pending) w k e = w own made k refl e
+      by false (Step own made replies.Rejected) w k e = tt
+      by false _ w k e = absurd k
 
   module _ (call : Call) (c : IsPollOf accepts r call) where
     abbrev planned-poll : Plan
@@ -240,16 +240,16 @@ module _ (side : Side) (log : Log) (accepts : Bool) (r : Response) (s : IsRespon
 
 module _ (p : Result code.Plan OutOfMemory) (side : Side) (log : Log) (accepts : Bool) (r : Response) (s : IsResponse side log accepts r) where
   -- what is planned by what a driver keeps is planned by the log
-  pub planned_by_log : (d : DriverValue) (taken : ℕ) → Follows side d log taken → IsReachable side log → (t : TransportState) → t ≡ d.inbox.transport → (head : List ℕ) → head ≡ r.head → (waiting : CallRecord)
+  pub planned_by_log : (d : DriverValue) (collected : ℕ) → Follows side d log collected → IsReachable side log → (t : TransportState) → t ≡ d.inbox.transport → (head : List ℕ) → head ≡ r.head → (waiting : CallRecord)
       → ((f : DriverAnswers) (x : SessionState) → x.requested ≡ r.id → f.request_end ≡ r.end → IfOk p (λ q. defined_plan q ≡ response_plan (facts_now t f) x accepts head waiting))
       → IfOk p (λ q. defined_plan q ≡ response_plan (facts_of side log) (session_state log) accepts r.head waiting)
-  planned_by_log d taken f reach t there head same waiting g =
+  planned_by_log d collected f reach t there head same waiting g =
       let now = g (answers_now d.inbox.transport d.state (is_first log) r.end (driver_facts side log).response) (session_state log) s.requested refl in
       let by_transport =
       subst (λ (u : TransportState). IfOk p (λ q. defined_plan q ≡ response_plan (facts_now u (answers_now d.inbox.transport d.state (is_first log) r.end (driver_facts side log).response)) (session_state log) accepts head waiting)) there now in
       let by_head =
       subst (λ (h : List ℕ). IfOk p (λ q. defined_plan q ≡ response_plan (facts_now d.inbox.transport (answers_now d.inbox.transport d.state (is_first log) r.end (driver_facts side log).response)) (session_state log) accepts h waiting)) same by_transport in
-      subst (λ (x : Plan). IfOk p (λ q. defined_plan q ≡ x)) (response_by_log side d log taken f reach r.end s.end (answering side log accepts r s) accepts r.head waiting) by_head
+      subst (λ (x : Plan). IfOk p (λ q. defined_plan q ≡ x)) (response_by_log side d log collected f reach r.end s.end (answering side log accepts r s) accepts r.head waiting) by_head
 
   module _ (waiting : CallRecord) (g : IfOk p (λ q. defined_plan q ≡ response_plan (facts_of side log) (session_state log) accepts r.head waiting)) where
     -- it is the plan of the poll's call

@@ -58,13 +58,13 @@ not-first calls.Handshake m = absurd (cc)
 not-first _ m = absurd (cc)
 
 -- a server's first turn is the transport's
-first-told : (turn : Turn) → is_lawful Server [] turn ≡ true → is_call turn ≡ false
-first-told (turns.Call call) l = absurd (not-first call l)
-first-told _ l = refl
+first-reported : (turn : Turn) → is_lawful Server [] turn ≡ true → is_call turn ≡ false
+first-reported (turns.Call call) l = absurd (not-first call l)
+first-reported _ l = refl
 
 pub wait-starts : (turn : Turn) → is_lawful Server [] turn ≡ true → may_call Server (log_after Server [] turn) calls.Incoming ≡ true
 wait-starts turn l =
     let later = log_after Server [] turn in
-    let n = first-told turn l in
+    let n = first-reported turn l in
     and_from (not (is_client Server) && not (is_first later)) (awaits_request (handshake_state (calls_of later)))
     (and_from (not (is_client Server)) (not (is_first later)) refl (ap not (not_first_theorem Server [] turn l n))) (ap (λ cs. awaits_request (handshake_state cs)) (same_calls_theorem Server [] turn n))

@@ -30,10 +30,10 @@ pub record IsUnanswered (side : Side) (log : Log) (r : Request) : Type 0 where
 abbrev pub unbegun : Request → List ℕ → Response
 unbegun r head = record { id = r.id; end = r.end; head = head; has_begun = false }
 
--- what is told of a request: its stream, its fields, and the offset after it
-abbrev pub told_of : Option Request → Option (ℕ × Fields × ℕ)
-told_of None = None
-told_of (Some r) = Some (r.id, r.fields, r.end)
+-- what is reported of a request: its stream, its fields, and the offset after it
+abbrev pub reported_of : Option Request → Option (ℕ × Fields × ℕ)
+reported_of None = None
+reported_of (Some r) = Some (r.id, r.fields, r.end)
 
 -- what a poll for a request replies
 abbrev pub incoming_reply : Poll (Result Request ConnectionError) → Reply

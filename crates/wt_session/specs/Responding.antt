@@ -100,7 +100,7 @@ rejecting_reply (Ready done) = replies.Rejected
 
 -- ---- what stands afterwards
 
--- what stands with a reply: the response while it waits, and the session once it is told
+-- what stands with a reply: the response while it waits, and the session once it is reported
 abbrev pub StandsWith : Side → Log → Bool → Response → Reply → Type 0
 StandsWith side log accepts r replies.Pending = IsResponse side log accepts r
 StandsWith side log accepts r (replies.Session id) = IsEstablished log id

@@ -1,7 +1,7 @@
 //! The acceptance of a request for a session (RFC 9220, section 3).
 ghost use Rattle.std.specs.Prelude.{◌≡◌, IfOk, OnOk, true};
 ghost use Rattle.wt_session.specs.Responding.{HasResponse, IsAcceptance, IsPollOf, IsResponse, StandsWith, accepting_reply};
-ghost use Rattle.wt_halves.specs.Answering.{LeadsOn, RepliesTo, StandsBehind};
+ghost use Rattle.wt_halves.specs.Answering.{LeadsOn, RepliesTo, StandsAfter};
 ghost use Rattle.wt_laws.specs.Reachable.{IsReachable};
 ghost use Rattle.wt_spec.specs.Answers.{may_call};
 ghost use Rattle.wt_turn.specs.Log.{Log};
@@ -67,7 +67,7 @@ impl Accepting {
         ensures reply { (call : Call) → IsPollOf true self.old call → IfOk result (RepliesTo d.old (HasResponse true self.old) call accepting_reply) }
         ensures log { (call : Call) → IsPollOf true self.old call → OnOk result (LeadsOn d.old (HasResponse true self.old) call d.new) }
         ensures in_log { (call : Call) → IsPollOf true self.old call
-            → IfOk result (λ p. StandsBehind d.old (HasResponse true self.old) call (λ side log. StandsWith side log true self.new (accepting_reply p))) }
+            → IfOk result (λ p. StandsAfter d.old (HasResponse true self.old) call (λ side log. StandsWith side log true self.new (accepting_reply p))) }
         ensures lawful { (side : Side) (log : Log) (call : Call) → IsReachable side log → IsResponse side log true self.old
             → IsPollOf true self.old call → may_call side log call ≡ true }
     {

@@ -1,13 +1,13 @@
 //! The request for a session that a server is given (RFC 9220, section 3).
 ghost use Rattle.std.specs.Option.{option_copied};
 ghost use Rattle.std.specs.Prelude.{◌≡◌, [], IfOk, OnOk, Err, Ok, Some, codes, false, true, ℕ};
-ghost use Rattle.wt_session.specs.Incoming.{IsUnanswered, StandsWith, incoming_reply, told_of, unbegun};
+ghost use Rattle.wt_session.specs.Incoming.{IsUnanswered, StandsWith, incoming_reply, reported_of, unbegun};
 ghost use Rattle.wt_session.specs.Responding.{IsPollOf, IsResponse};
 ghost use Rattle.wt_driver_spec.specs.DriverState.{requests_now};
 ghost use Rattle.wt_dispatch.specs.Requests.{first_request};
 ghost use Rattle.wt_driver_state.specs.Tie.{Follows};
 ghost use Rattle.wt_driver_spec.specs.Asking.{MayBeCalled};
-ghost use Rattle.wt_halves.specs.Answering.{LeadsOn, MayCall, RepliesTo, StandsBehind};
+ghost use Rattle.wt_halves.specs.Answering.{LeadsOn, MayCall, RepliesTo, StandsAfter};
 ghost use Rattle.wt_message.specs.FixedBytes.{response_bytes};
 ghost use Rattle.wt_message.specs.Requests.{request_of};
 ghost use Rattle.wt_call_plans.specs.MayPlan.{FirstIsRequest};
@@ -62,7 +62,7 @@ pub type RequestPoll = Poll<Result<SessionRequest, ConnectionError>>;
 
 /// The request that is queued, once the peer's SETTINGS came.
 fn queued_request(d: &Driver) -> Result<Option<SessionRequest>, OutOfMemory>
-    ensures { FirstIsRequest (requests_now d.now.state) → IfOk result (λ r. told_of r ≡ first_request (requests_now d.now.state)) }
+    ensures { FirstIsRequest (requests_now d.now.state) → IfOk result (λ r. reported_of r ≡ first_request (requests_now d.now.state)) }
 {
     match d.next_request() {
         None => Ok(None),
@@ -79,8 +79,8 @@ fn queued_request(d: &Driver) -> Result<Option<SessionRequest>, OutOfMemory>
 /// The request is given.
 fn give(d: &mut Driver, request: SessionRequest) -> Result<RequestPoll, OutOfMemory>
     ensures given { IfOk result (λ p. p ≡ Poll.Ready (Ok request)) }
-    ensures log { (side : Side) (log : Log) (taken : ℕ) → Follows side d.old log taken → MayBeCalled side log (RequestDelivered request.id)
-        → OnOk result (Follows side d.new (log_call side log [] (RequestDelivered request.id)) taken) }
+    ensures log { (side : Side) (log : Log) (collected : ℕ) → Follows side d.old log collected → MayBeCalled side log (RequestDelivered request.id)
+        → OnOk result (Follows side d.new (log_call side log [] (RequestDelivered request.id)) collected) }
 {
     d.record_call(&Record::RequestDelivered(request.id.session_stream()))?;
     Ok(Poll::Ready(Ok(request)))
@@ -89,8 +89,8 @@ fn give(d: &mut Driver, request: SessionRequest) -> Result<RequestPoll, OutOfMem
 /// The call waits on.
 fn wait_on(d: &mut Driver) -> Result<RequestPoll, OutOfMemory>
     ensures given { IfOk result (λ p. p ≡ Poll.Pending) }
-    ensures log { (side : Side) (log : Log) (taken : ℕ) → Follows side d.old log taken
-        → OnOk result (Follows side d.new (log_call side log [] Polled) taken) }
+    ensures log { (side : Side) (log : Log) (collected : ℕ) → Follows side d.old log collected
+        → OnOk result (Follows side d.new (log_call side log [] Polled) collected) }
 {
     d.record_call(&Record::Polled)?;
     Ok(Poll::Pending)
@@ -99,8 +99,8 @@ fn wait_on(d: &mut Driver) -> Result<RequestPoll, OutOfMemory>
 /// The handshake is over, for this reason.
 fn fail(d: &mut Driver, error: ConnectionError) -> Result<RequestPoll, OutOfMemory>
     ensures given { IfOk result (λ p. p ≡ Poll.Ready (Err error)) }
-    ensures log { (side : Side) (log : Log) (taken : ℕ) → Follows side d.old log taken
-        → OnOk result (Follows side d.new (log_call side log [] HandshakeOver) taken) }
+    ensures log { (side : Side) (log : Log) (collected : ℕ) → Follows side d.old log collected
+        → OnOk result (Follows side d.new (log_call side log [] HandshakeOver) collected) }
 {
     d.record_call(&Record::HandshakeOver)?;
     Ok(Poll::Ready(Err(error)))
@@ -108,11 +108,11 @@ fn fail(d: &mut Driver, error: ConnectionError) -> Result<RequestPoll, OutOfMemo
 
 /// Without a request the call waits, or fails once the connection has ended.
 fn wait(alloc: Global, d: &mut Driver) -> Result<RequestPoll, OutOfMemory>
-    ensures reply { (side : Side) (log : Log) (taken : ℕ) → Follows side d.old log taken
+    ensures reply { (side : Side) (log : Log) (collected : ℕ) → Follows side d.old log collected
         → IfOk result (λ p. incoming_reply p ≡ (handshake.deliver side log []).reply) }
-    ensures log { (side : Side) (log : Log) (taken : ℕ) → Follows side d.old log taken
-        → OnOk result (Follows side d.new (handshake.deliver side log []).log taken) }
-    ensures in_log { (side : Side) (log : Log) (taken : ℕ) → Follows side d.old log taken → may_call side log calls.Incoming ≡ true
+    ensures log { (side : Side) (log : Log) (collected : ℕ) → Follows side d.old log collected
+        → OnOk result (Follows side d.new (handshake.deliver side log []).log collected) }
+    ensures in_log { (side : Side) (log : Log) (collected : ℕ) → Follows side d.old log collected → may_call side log calls.Incoming ≡ true
         → IfOk result (λ p. StandsWith side (handshake.deliver side log []).log p) }
 {
     let t = d.inbox().transport();
@@ -157,7 +157,7 @@ impl IncomingSessionFuture {
     pub fn poll(&mut self, alloc: Global, d: &mut Driver) -> Result<RequestPoll, OutOfMemory>
         ensures reply { IfOk result (RepliesTo d.old (MayCall calls.Incoming) calls.Incoming incoming_reply) }
         ensures log { OnOk result (LeadsOn d.old (MayCall calls.Incoming) calls.Incoming d.new) }
-        ensures in_log { IfOk result (λ p. StandsBehind d.old (MayCall calls.Incoming) calls.Incoming (λ side log. StandsWith side log p)) }
+        ensures in_log { IfOk result (λ p. StandsAfter d.old (MayCall calls.Incoming) calls.Incoming (λ side log. StandsWith side log p)) }
     {
         let request = queued_request(d)?;
         match request {

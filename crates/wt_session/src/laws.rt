@@ -81,6 +81,6 @@ pub fn handshakes_outlast_calls()
 
 /// After lawful turns a driver holds no byte of a stream that a call passed or gave up.
 pub fn dropped_streams_are_let_go()
-    ensures { (side : Side) (d : DriverValue) (log : Log) (taken k : ℕ) → IsReachable side log → Follows side d log taken
+    ensures { (side : Side) (d : DriverValue) (log : Log) (collected k : ℕ) → IsReachable side log → Follows side d log collected
         → (use_of k (calls_of log)).is_dropped ≡ true → unread_now d.inbox.transport k ≡ [] }
 {}

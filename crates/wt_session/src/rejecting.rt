@@ -1,7 +1,7 @@
 //! The rejection of a request for a session (RFC 9220, section 3).
 ghost use Rattle.std.specs.Prelude.{◌≡◌, IfOk, OnOk, false, true};
 ghost use Rattle.wt_session.specs.Responding.{HasResponse, IsPollOf, IsRejection, IsResponse, StandsWith, rejecting_reply};
-ghost use Rattle.wt_halves.specs.Answering.{LeadsOn, RepliesTo, StandsBehind};
+ghost use Rattle.wt_halves.specs.Answering.{LeadsOn, RepliesTo, StandsAfter};
 ghost use Rattle.wt_laws.specs.Reachable.{IsReachable};
 ghost use Rattle.wt_spec.specs.Answers.{may_call};
 ghost use Rattle.wt_turn.specs.Log.{Log};
@@ -61,7 +61,7 @@ impl Rejecting {
             → IfOk result (RepliesTo d.old (HasResponse false self.old) call rejecting_reply) }
         ensures log { (call : Call) → IsPollOf false self.old call → OnOk result (LeadsOn d.old (HasResponse false self.old) call d.new) }
         ensures in_log { (call : Call) → IsPollOf false self.old call
-            → IfOk result (λ p. StandsBehind d.old (HasResponse false self.old) call (λ side log. StandsWith side log false self.new (rejecting_reply p))) }
+            → IfOk result (λ p. StandsAfter d.old (HasResponse false self.old) call (λ side log. StandsWith side log false self.new (rejecting_reply p))) }
         ensures lawful { (side : Side) (log : Log) (call : Call) → IsReachable side log → IsResponse side log false self.old
             → IsPollOf false self.old call → may_call side log call ≡ true }
     {

@@ -2,7 +2,7 @@
 ghost use Rattle.std.specs.Prelude.{◌≡◌, Bool, IfOk, OnOk, true, ℕ};
 ghost use Rattle.wt_session.specs.Responding.{HasResponse, IsPollOf, IsResponse, IsResponseReply, StandsWith, waiting_record};
 ghost use Rattle.wt_driver_state.specs.Tie.{Follows};
-ghost use Rattle.wt_halves.specs.Answering.{LeadsOn, RepliesTo, StandsBehind, WhereStands};
+ghost use Rattle.wt_halves.specs.Answering.{LeadsOn, RepliesTo, StandsAfter, WhereStands};
 ghost use Rattle.wt_laws.specs.Reachable.{IsReachable};
 ghost use Rattle.wt_plan.specs.Planned.{defined_plan};
 ghost use Rattle.wt_session_spec.specs.CallFacts.{facts_of};
@@ -74,7 +74,7 @@ impl Response {
         accepts: bool,
         waiting: Record,
     ) -> Result<Plan, OutOfMemory>
-        ensures { (side : Side) (log : Log) (taken : ℕ) → Follows side d.now log taken → IsReachable side log → IsResponse side log accepts self.now
+        ensures { (side : Side) (log : Log) (collected : ℕ) → Follows side d.now log collected → IsReachable side log → IsResponse side log accepts self.now
             → IfOk result (λ p. defined_plan p ≡ response_plan (facts_of side log) (session_state log) accepts self.now.head (record_of waiting)) }
     {
         let t = d.inbox().transport();
@@ -84,7 +84,7 @@ impl Response {
 
     /// What the next poll does.
     fn plan(&self, alloc: Global, d: &Driver, accepts: bool) -> Result<Plan, OutOfMemory>
-        ensures { (side : Side) (log : Log) (taken : ℕ) (call : Call) → Follows side d.now log taken → IsReachable side log
+        ensures { (side : Side) (log : Log) (collected : ℕ) (call : Call) → Follows side d.now log collected → IsReachable side log
             → IsResponse side log accepts self.now → IsPollOf accepts self.now call
             → IfOk result (λ p. defined_plan p ≡ plan_of (facts_of side log) (session_state log) call) }
     {
@@ -102,9 +102,9 @@ impl Response {
         ensures reply { (call : Call) → IsPollOf accepts self.old call → IfOk result (RepliesTo d.old (HasResponse accepts self.old) call (λ r. r)) }
         ensures log { (call : Call) → IsPollOf accepts self.old call → OnOk result (LeadsOn d.old (HasResponse accepts self.old) call d.new) }
         ensures kind { (call : Call) → IsPollOf accepts self.old call
-            → IfOk result (λ r. WhereStands d.old (HasResponse accepts self.old) (λ side log taken. IsResponseReply accepts r)) }
+            → IfOk result (λ r. WhereStands d.old (HasResponse accepts self.old) (λ side log collected. IsResponseReply accepts r)) }
         ensures in_log { (call : Call) → IsPollOf accepts self.old call
-            → IfOk result (λ r. StandsBehind d.old (HasResponse accepts self.old) call (λ side log. StandsWith side log accepts self.new r)) }
+            → IfOk result (λ r. StandsAfter d.old (HasResponse accepts self.old) call (λ side log. StandsWith side log accepts self.new r)) }
     {
         let plan = self.plan(alloc, d, accepts)?;
         let reply = perform(alloc, d, plan)?;

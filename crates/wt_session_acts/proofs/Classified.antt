@@ -57,7 +57,7 @@ queued-found delivered cs c o i =
   where
     by : (surplus : Bool) (v : Verdict) → is_request v ≡ true → not surplus ≡ true → is_some (request_at surplus v) ≡ true
     by true v e f = absurd cc
-    by false (verdicts.Request request at) e f = refl
+    by false (verdicts.Request request offset) e f = refl
     by false _ e f = absurd cc
 
 -- ---- this end's control stream is none of them
@@ -89,8 +89,8 @@ control-unclassified side (e ∷ log) = by (is_moment e && is_open (e ∷ log)) 
         ∙ none
 
 -- so the stream of a queued request is another one
-pub queued-apart : (side : Side) (log : Log) (k at : ℕ) → queued_at (classified_of k (stream_table side log).classified) ≡ Some at → (k == local_uni side) ≡ false
-queued-apart side log k at q =
+pub queued-apart : (side : Side) (log : Log) (k offset : ℕ) → queued_at (classified_of k (stream_table side log).classified) ≡ Some offset → (k == local_uni side) ≡ false
+queued-apart side log k offset q =
     false_from_ne_true (k == local_uni side)
     (λ f.
     let none : classified_of k (stream_table side log).classified ≡ None =

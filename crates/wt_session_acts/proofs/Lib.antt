@@ -1,6 +1,6 @@
 pub mod SendsMay
 pub mod OwnActions
-pub mod Behind
+pub mod OwnActionsKeep
 pub mod Classified
 pub mod RecordsMay
 pub mod OwnRecords

@@ -163,17 +163,17 @@ module _ (side : Side) (log : Log) where
   -- ---- a client's connect
 
   module _ (id : ℕ) (own : List Action) (m : MayActAll side log own) (same : is_open (with_actions own log) ≡ is_open log) where
-    closing-behind : (code : ℕ) → MayActAll side log (own ++ closing_with (facts_of side log) code)
-    closing-behind code = may-both side own (closing_with (facts_of side log) code) log m (may-if side (with_actions own log) (actions.Close code []) (is_open log) (λ o. same ∙ o))
+    closing-after : (code : ℕ) → MayActAll side log (own ++ closing_with (facts_of side log) code)
+    closing-after code = may-both side own (closing_with (facts_of side log) code) log m (may-if side (with_actions own log) (actions.Close code []) (is_open log) (λ o. same ∙ o))
 
     read-may : (w : ResponseWalk) → MayPlan side log (response_read (facts_of side log) id own w)
-    read-may (responses.Fault code) = closing-behind _
-    read-may responses.Ended = closing-behind 0
+    read-may (responses.Fault code) = closing-after _
+    read-may responses.Ended = closing-after 0
     read-may responses.Incomplete = plan-if (is_open log) (send_and_reply own replies.Pending) (failed_connect own (lost_connect (facts_of side log))) (λ o. m) (λ o. m)
-    read-may (responses.Response fields at) =
+    read-may (responses.Response fields by_case) =
         plan-if (not (has_success fields)) (abandon_plan (facts_of side log) own connects.SessionRejected)
-        (if is_open log then Establish own id at else failed_connect own (connects.ConnectionError (facts_of side log).driver_error)) (λ e. closing-behind 0)
-        (λ e. plan-if (is_open log) (Establish own id at) (failed_connect own (connects.ConnectionError (facts_of side log).driver_error)) (λ o. m) (λ o. m))
+        (if is_open log then Establish own id by_case else failed_connect own (connects.ConnectionError (facts_of side log).driver_error)) (λ e. closing-after 0)
+        (λ e. plan-if (is_open log) (Establish own id by_case) (failed_connect own (connects.ConnectionError (facts_of side log).driver_error)) (λ o. m) (λ o. m))
 
   module _ (id : ℕ) (own : List Action) (m : MayActAll side log own) (same : is_open (with_actions own log) ≡ is_open log) (left : List ℕ)
       (out : MayActAll side (with_actions own log) (actions_of_head (facts_of side log) id left)) where
@@ -183,7 +183,7 @@ module _ (side : Side) (log : Log) where
 
     sent-may : (p : HeadProgress) → MayActAll side (with_actions own log) (head_actions p id (sending_half log id) left) → MayPlan side log (request_sent p (facts_of side log) id own (head_actions p id (sending_half log id) left))
     sent-may Ended o = m
-    sent-may Refused o = closing-behind id own m same 0
+    sent-may Refused o = closing-after id own m same 0
     sent-may Short o = may-both side own (head_actions Short id (sending_half log id) left) log m o
     sent-may AllOut o =
         read-may id (own ++ head_actions AllOut id (sending_half log id) left) (may-both side own (head_actions AllOut id (sending_half log id) left) log m o)
@@ -305,15 +305,15 @@ module _ (side : Side) (log : Log) where
   connect-may o (Err e) headers lookup outcome = tt
   connect-may o (Ok url) headers lookup outcome =
       plan-if (bytes_eq url.scheme (codes "https")) (dialled_at url headers outcome (address_of (host_or_empty url) (port_of url) lookup)) (failed_connect [] (connects.InvalidUrl refusals.Scheme))
-      (λ e. at (address_of (host_or_empty url) (port_of url) lookup)) (λ e. tt)
+      (λ e. by_case (address_of (host_or_empty url) (port_of url) lookup)) (λ e. tt)
     where
       unless : (x : Option ConnectingError) (address : Addr) → MayPlan side log (dialled_unless url headers x address)
       unless (Some e) address = tt
       unless None address = (o, tt)
 
-      at : (a : Result Addr ConnectingError) → MayPlan side log (dialled_at url headers outcome a)
-      at (Err e) = tt
-      at (Ok address) = unless (outcome_error outcome) address
+      by_case : (a : Result Addr ConnectingError) → MayPlan side log (dialled_at url headers outcome a)
+      by_case (Err e) = tt
+      by_case (Ok address) = unless (outcome_error outcome) address
 
   exact-may : (k size : ℕ) (bytes : List ℕ) (a : Poll (Result (Unit {0}) StreamReadExactError)) → MayPlan side log (exact_plan k size bytes a)
   exact-may k size bytes Pending = tt

@@ -17,7 +17,7 @@ use Rattle.wt_seam_spec.specs.Outgoing.{may_open, next_id}
 use Rattle.wt_seam_spec.specs.Reports.{end_of, stop_of}
 use Rattle.wt_seam_spec.specs.Sent.{is_finished}
 use Rattle.wt_seam_spec.specs.Streams.{can_send, local_bi, local_count, local_uni, stream_count}
-use Rattle.wt_session_acts.proofs.Behind.{counted-both, more-counted}
+use Rattle.wt_session_acts.proofs.OwnActionsKeep.{counted-both, more-counted}
 use Rattle.wt_session_acts.proofs.Classified.{queued-found}
 use Rattle.wt_session_acts.proofs.RecordsMay.{accepted-made, connect-made, connected-made, delivered-made, given-made, given-up-made, opening-made, over-made, polled-made, priority-made, read-made, reading-made, reset-made, started-made, unopened-made}
 use Rattle.wt_session_acts.specs.OwnActions.{HalfFacts}
@@ -133,11 +133,11 @@ module _ (side : Side) (log : Log) where
     read-response own o (responses.Fault code) e = fails (own ++ closing_with (facts_of side log) (code_of code))
     read-response own o responses.Ended e = fails (own ++ closing_with (facts_of side log) 0)
     read-response own o responses.Incomplete e = plan-if (is_open log) (send_and_reply own replies.Pending) (failed_connect own (lost_connect (facts_of side log))) (λ s. polls own) (λ s. fails own)
-    read-response own o (responses.Response fields at) e =
+    read-response own o (responses.Response fields offset) e =
         plan-if (not (has_success fields)) (abandon_plan (facts_of side log) own connects.SessionRejected)
-        (if is_open log then Establish own (local_bi side) at else failed_connect own (connects.ConnectionError (facts_of side log).driver_error)) (λ s. fails (own ++ closing_with (facts_of side log) 0))
-        (λ s. plan-if (is_open log) (Establish own (local_bi side) at) (failed_connect own (connects.ConnectionError (facts_of side log).driver_error))
-        (λ p. connected-made side log own at c o (ap response_offset e)) (λ p. fails own))
+        (if is_open log then Establish own (local_bi side) offset else failed_connect own (connects.ConnectionError (facts_of side log).driver_error)) (λ s. fails (own ++ closing_with (facts_of side log) 0))
+        (λ s. plan-if (is_open log) (Establish own (local_bi side) offset) (failed_connect own (connects.ConnectionError (facts_of side log).driver_error))
+        (λ p. connected-made side log own offset c o (ap response_offset e)) (λ p. fails own))
 
     sent-made : (p : HeadProgress) (own out : List Action) → IsOpened own → RecordMayBeMade side log (request_sent p (facts_of side log) (local_bi side) own out)
     sent-made Ended own out o = fails own

@@ -120,8 +120,8 @@ module _ (side : Side) (log : Log) where
   closing-apart : (code : ℕ) → AllApart (local_uni side) (closing_with (facts_of side log) code)
   closing-apart code = apart-if (local_uni side) (actions.Close code []) (is_open log) (refl, refl, refl, refl)
 
-  closing-behind : (own : List Action) (code : ℕ) → AllApart (local_uni side) own → AllApart (local_uni side) (own ++ closing_with (facts_of side log) code)
-  closing-behind own code a = apart-both (local_uni side) own (closing_with (facts_of side log) code) a (closing-apart code)
+  closing-after : (own : List Action) (code : ℕ) → AllApart (local_uni side) own → AllApart (local_uni side) (own ++ closing_with (facts_of side log) code)
+  closing-after own code a = apart-both (local_uni side) own (closing_with (facts_of side log) code) a (closing-apart code)
 
   -- ---- a server's handshake
 
@@ -165,17 +165,17 @@ module _ (side : Side) (log : Log) where
   -- ---- a client's connect
 
   read-apart : (id : ℕ) (own : List Action) → AllApart (local_uni side) own → (w : ResponseWalk) → Apart (response_read (facts_of side log) id own w)
-  read-apart id own a (responses.Fault code) = closing-behind own (code_of code) a
-  read-apart id own a responses.Ended = closing-behind own 0 a
+  read-apart id own a (responses.Fault code) = closing-after own (code_of code) a
+  read-apart id own a responses.Ended = closing-after own 0 a
   read-apart id own a responses.Incomplete = plan-if (is_open log) (send_and_reply own replies.Pending) (failed_connect own (lost_connect (facts_of side log))) (λ s. a) (λ s. a)
-  read-apart id own a (responses.Response fields at) =
+  read-apart id own a (responses.Response fields by_case) =
       plan-if (not (has_success fields)) (abandon_plan (facts_of side log) own connects.SessionRejected)
-      (if is_open log then Establish own id at else failed_connect own (connects.ConnectionError (facts_of side log).driver_error)) (λ s. closing-behind own 0 a)
-      (λ s. plan-if (is_open log) (Establish own id at) (failed_connect own (connects.ConnectionError (facts_of side log).driver_error)) (λ p. a) (λ p. a))
+      (if is_open log then Establish own id by_case else failed_connect own (connects.ConnectionError (facts_of side log).driver_error)) (λ s. closing-after own 0 a)
+      (λ s. plan-if (is_open log) (Establish own id by_case) (failed_connect own (connects.ConnectionError (facts_of side log).driver_error)) (λ p. a) (λ p. a))
 
   sent-apart : (p : HeadProgress) (id : ℕ) (own out : List Action) → AllApart (local_uni side) own → AllApart (local_uni side) out → Apart (request_sent p (facts_of side log) id own out)
   sent-apart Ended id own out a b = a
-  sent-apart Refused id own out a b = closing-behind own 0 a
+  sent-apart Refused id own out a b = closing-after own 0 a
   sent-apart Short id own out a b = apart-both (local_uni side) own out a b
   sent-apart AllOut id own out a b = read-apart id (own ++ out) (apart-both (local_uni side) own out a b) (facts_of side log).response
 
@@ -226,15 +226,15 @@ module _ (side : Side) (log : Log) where
   dialled-apart (Err e) headers lookup outcome = tt
   dialled-apart (Ok url) headers lookup outcome =
       plan-if (bytes_eq url.scheme (codes "https")) (dialled_at url headers outcome (address_of (host_or_empty url) (port_of url) lookup)) (failed_connect [] (connects.InvalidUrl refusals.Scheme))
-      (λ e. at (address_of (host_or_empty url) (port_of url) lookup)) (λ e. tt)
+      (λ e. by_case (address_of (host_or_empty url) (port_of url) lookup)) (λ e. tt)
     where
       unless : (x : Option ConnectingError) (address : Addr) → Apart (dialled_unless url headers x address)
       unless (Some e) address = tt
       unless None address = ((refl, refl, refl, refl), tt)
 
-      at : (a : Result Addr ConnectingError) → Apart (dialled_at url headers outcome a)
-      at (Err e) = tt
-      at (Ok address) = unless (outcome_error outcome) address
+      by_case : (a : Result Addr ConnectingError) → Apart (dialled_at url headers outcome a)
+      by_case (Err e) = tt
+      by_case (Ok address) = unless (outcome_error outcome) address
 
   -- ---- the session
 

@@ -10,7 +10,7 @@ use Rattle.wt_proto.specs.ResponseWalk.{response_offset, response_walk_of}
 use Rattle.wt_seam_spec.specs.Outgoing.{next_id}
 use Rattle.wt_seam_spec.specs.Reports.{end_of}
 use Rattle.wt_seam_spec.specs.Streams.{can_send, contents, local_bi, local_count, local_uni}
-use Rattle.wt_session_acts.proofs.Behind.{calls-behind, contents-behind, events-behind, table-behind}
+use Rattle.wt_session_acts.proofs.OwnActionsKeep.{calls-after, contents-after, events-after, table-after}
 use Rattle.wt_session_acts.proofs.Classified.{IsQueued}
 use Rattle.wt_session_acts.specs.Performing.{MayBeMade}
 use Rattle.wt_session_acts.specs.RecordFacts.{Connects, OpensForSession}
@@ -47,32 +47,32 @@ pub delivered-made : (side : Side) (log : Log) (k : ℕ) → IsQueued (stream_ta
 delivered-made side log k q = record { may = q.classified; can = q.queued; half = tt }
 
 pub started-made : (side : Side) (log : Log) (own : List Action) (accepts : Bool) (head : List ℕ) → side ≡ Server → awaits_answer (handshake_state (calls_of log)) ≡ true → MayBeMade side (with_actions own log) (ResponseStarted accepts head)
-started-made side log own accepts head s e = record { may = tt; can = (s, ap (λ (cs : List CallRecord). awaits_answer (handshake_state cs)) (calls-behind own log) ∙ e); half = tt }
+started-made side log own accepts head s e = record { may = tt; can = (s, ap (λ (cs : List CallRecord). awaits_answer (handshake_state cs)) (calls-after own log) ∙ e); half = tt }
 
 -- a server's session begins after the request that was queued
-pub accepted-made : (side : Side) (log : Log) (own : List Action) (id at : ℕ) → side ≡ Server → queued_at (classified_of id (stream_table side log).classified) ≡ Some at → MayBeMade side (with_actions own log) (SessionEstablished id at)
-accepted-made Client log own id at s q = absurd cc
-accepted-made Server log own id at s q = record {
+pub accepted-made : (side : Side) (log : Log) (own : List Action) (id offset : ℕ) → side ≡ Server → queued_at (classified_of id (stream_table side log).classified) ≡ Some offset → MayBeMade side (with_actions own log) (SessionEstablished id offset)
+accepted-made Client log own id offset s q = absurd cc
+accepted-made Server log own id offset s q = record {
   may = tt;
-  can = (ap (λ (t : StreamTable). queued_at (classified_of id t.classified)) (table-behind Server own log) ∙ q, tt);
+  can = (ap (λ (t : StreamTable). queued_at (classified_of id t.classified)) (table-after Server own log) ∙ q, tt);
   half = tt;
 }
 
 -- a client's session begins after the response that is awaited
-pub connected-made : (side : Side) (log : Log) (own : List Action) (at : ℕ) → Connects side log → (local_count (actions_of (with_actions own log)) (local_bi side) == 0) ≡ false
-    → response_offset (response_walk_of (contents log (local_bi side)) (end_of (events_of log) (local_bi side))) ≡ Some at
-    → MayBeMade side (with_actions own log) (SessionEstablished (local_bi side) at)
-connected-made Server log own at c o w = absurd (let s = c.client in cc)
-connected-made Client log own at c o w = record {
+pub connected-made : (side : Side) (log : Log) (own : List Action) (offset : ℕ) → Connects side log → (local_count (actions_of (with_actions own log)) (local_bi side) == 0) ≡ false
+    → response_offset (response_walk_of (contents log (local_bi side)) (end_of (events_of log) (local_bi side))) ≡ Some offset
+    → MayBeMade side (with_actions own log) (SessionEstablished (local_bi side) offset)
+connected-made Server log own offset c o w = absurd (let s = c.client in cc)
+connected-made Client log own offset c o w = record {
   may = tt;
   can = (refl, o);
   half = (
     record {
       role = refl;
-      unestablished = ap established_session (calls-behind own log) ∙ c.unestablished;
-      still_going = ap (λ (cs : List CallRecord). (use_of 0 cs).is_over) (calls-behind own log) ∙ c.still_going;
+      unestablished = ap established_session (calls-after own log) ∙ c.unestablished;
+      still_going = ap (λ (cs : List CallRecord). (use_of 0 cs).is_over) (calls-after own log) ∙ c.still_going;
     },
-    (λ i. response_offset (response_walk_of (contents-behind own log 0 i) (end_of (events-behind own log i) 0))) ∙ w,
+    (λ i. response_offset (response_walk_of (contents-after own log 0 i) (end_of (events-after own log i) 0))) ∙ w,
   );
 }
 
@@ -107,8 +107,8 @@ pub given-made : (side : Side) (log : Log) (own : List Action) (k : ℕ) → Ope
 given-made side log own k o = record {
   may = or_left (has_local_kind side k) (names_session (verdict_of k (stream_table side (with_actions own log)).classified)) (given-local side k o.given);
   can = (
-    ap (λ (t : StreamTable). may_give (role_of side k) (classified_of k t.classified)) (table-behind side own log) ∙ ap (may_give (role_of side k)) o.unclassified ∙ o.given,
-    ap (list_any (passes k)) (calls-behind own log) ∙ o.kept,
+    ap (λ (t : StreamTable). may_give (role_of side k) (classified_of k t.classified)) (table-after side own log) ∙ ap (may_give (role_of side k)) o.unclassified ∙ o.given,
+    ap (list_any (passes k)) (calls-after own log) ∙ o.kept,
   );
   half = tt;
 }
@@ -126,7 +126,7 @@ reading-made side log k zero a r within = polled-made side log
 reading-made side log k (suc n) a r within = read-made side log k (suc n) a r within
 
 pub given-up-made : (side : Side) (log : Log) (own : List Action) (k : ℕ) → is_for_application (role_of side k) (classified_of k (stream_table side log).classified) ≡ true → MayBeMade side (with_actions own log) (StreamGivenUp k)
-given-up-made side log own k a = record { may = tt; can = ap (λ (t : StreamTable). is_for_application (role_of side k) (classified_of k t.classified)) (table-behind side own log) ∙ a; half = tt }
+given-up-made side log own k a = record { may = tt; can = ap (λ (t : StreamTable). is_for_application (role_of side k) (classified_of k t.classified)) (table-after side own log) ∙ a; half = tt }
 
 pub priority-made : (side : Side) (log : Log) (k : ℕ) (priority : ℤ) → can_send side log k ≡ true → MayBeMade side log (PrioritySet k priority)
 priority-made side log k priority c = record { may = tt; can = tt; half = c }

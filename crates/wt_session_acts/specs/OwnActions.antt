@@ -12,7 +12,7 @@ use Rattle.wt_wire.specs.declared.side.Side.{Side}
 -- the actions of a plan's own; those of accepts go out with their records
 abbrev pub own_of : Plan → List Action
 own_of (Step own call reply) = own
-own_of (Establish own id at) = own
+own_of (Establish own id offset) = own
 own_of _ = []
 
 -- a sending half that this end neither finished nor reset

@@ -18,7 +18,7 @@ pub record MayBeMade (side : Side) (log : Log) (r : CallRecord) : Type 0 where
 -- what a plan records may be made after what it sends; accepts see to their own records
 abbrev pub RecordMayBeMade : Side → Log → Plan → Type 0
 RecordMayBeMade side log (Step own call reply) = MayBeMade side (with_actions own log) call
-RecordMayBeMade side log (Establish own id at) = MayBeMade side (with_actions own log) (SessionEstablished id at)
+RecordMayBeMade side log (Establish own id offset) = MayBeMade side (with_actions own log) (SessionEstablished id offset)
 RecordMayBeMade side log _ = Unit {0}
 
 -- these actions may go out, and leave this end's control stream alone
@@ -29,5 +29,5 @@ pub record MaySendAll (side : Side) (log : Log) (own : List Action) : Type 0 whe
 -- what a plan sends may go out, and what it records may be recorded after that; accepts see to their own
 abbrev pub MayPerform : Side → Log → Plan → Type 0
 MayPerform side log (Step own call reply) = MaySendAll side log own × MayBeCalled side (with_actions own log) call
-MayPerform side log (Establish own id at) = MaySendAll side log own × MayBeCalled side (with_actions own log) (SessionEstablished id at)
+MayPerform side log (Establish own id offset) = MaySendAll side log own × MayBeCalled side (with_actions own log) (SessionEstablished id offset)
 MayPerform side log _ = Unit {0}

@@ -13,7 +13,7 @@ use Rattle.wt_turn.specs.Log.{Log, calls_of}
 use Rattle.wt_wire.specs.declared.side.Side.{Side}
 use Rattle.wt_wire.specs.declared.side.Side.TheVariants.{Client, Server}
 
--- a request is answered: this end is a server, and the request still stands as it was queued
+-- a request is answered: this end is a server, and the request is still as it was queued
 pub record AnswersRequest (side : Side) (log : Log) : Type 0 where
   pub server : side ≡ Server
   pub queued : queued_at (classified_of (requested_stream (calls_of log)) (stream_table side log).classified)

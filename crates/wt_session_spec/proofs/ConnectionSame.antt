@@ -24,23 +24,23 @@ module _ (side : Side) (log : Log) where
   -- ---- opening streams
 
   pub same-open : (kind session : ℕ) → open_stream side log kind session ≡ perform side log (opening_plan (facts_of side log) kind session)
-  same-open kind session = split side log (not (is_open log)) _ _ _ _ refl (at (may_open side log kind) refl)
+  same-open kind session = split side log (not (is_open log)) _ _ _ _ refl (by (may_open side log kind) refl)
     where
-      at : (m : Bool) → may_open side log kind ≡ m
+      by : (m : Bool) → may_open side log kind ≡ m
           → (if may_open side log kind then reply_with (log_call side log (actions_to_open side log kind) (OpeningStarted (next_id side log kind) session)) (replies.Opening (next_id side log kind)) else poll_only side log replies.Pending)
           ≡ perform side log (if may_open side log kind then Step (actions.Opened (next_id side log kind) ∷ []) (OpeningStarted (next_id side log kind) session) (replies.Opening (next_id side log kind)) else only_reply replies.Pending)
-      at true m = rw m refl
-      at false m = rw m refl
+      by true m = rw m refl
+      by false m = rw m refl
 
   same-header : (k : ℕ) (left : List ℕ) → continue_opening side log k left ≡ perform side log (header_left (facts_of side log) k left)
-  same-header k left = at (is_open log) refl (is_refused log k left) refl (nat_lt (credit_left log k) (length left)) refl
+  same-header k left = by (is_open log) refl (is_refused log k left) refl (nat_lt (credit_left log k) (length left)) refl
     where
-      at : (o : Bool) → is_open log ≡ o → (r : Bool) → is_refused log k left ≡ r → (s : Bool) → nat_lt (credit_left log k) (length left) ≡ s
+      by : (o : Bool) → is_open log ≡ o → (r : Bool) → is_refused log k left ≡ r → (s : Bool) → nat_lt (credit_left log k) (length left) ≡ s
           → continue_opening side log k left ≡ perform side log (header_left (facts_of side log) k left)
-      at false o r r' s s' = rw o refl
-      at true o true r s s' = rw (o, r) refl
-      at true o false r true s = rw (o, r, covered-test log k left, s) refl
-      at true o false r false s = rw (o, r, covered-test log k left, s) refl
+      by false o r r' s s' = rw o refl
+      by true o true r s s' = rw (o, r) refl
+      by true o false r true s = rw (o, r, covered-test log k left, s) refl
+      by true o false r false s = rw (o, r, covered-test log k left, s) refl
 
   pub same-poll : (k session : ℕ) → poll_opening side log k session ≡ perform side log (poll_plan (facts_of side log) (session_state log) k session)
   same-poll k session = rw (same-opening log k) (split side log (is_opening log k) _ _ _ _ (same-header k (head_left log k (stream_header k session))) refl)

@@ -40,13 +40,13 @@ same-written zero (b ∷ bytes) = refl
 same-written (suc n) (b ∷ bytes) = rw (ne_eqb (suc n) 0 (omega arith)) refl
 
 same-all-written : (left : ℕ) (bytes : List ℕ) → all_written_reply bytes (length (take left bytes)) ≡ write_all_reply (Ok (all_written left bytes))
-same-all-written left bytes = at (nat_lt left (length bytes)) refl
+same-all-written left bytes = by (nat_lt left (length bytes)) refl
   where
-    at : (b : Bool) → nat_lt left (length bytes) ≡ b → all_written_reply bytes (length (take left bytes)) ≡ write_all_reply (Ok (all_written left bytes))
-    at true e =
+    by : (b : Bool) → nat_lt left (length bytes) ≡ b → all_written_reply bytes (length (take left bytes)) ≡ write_all_reply (Ok (all_written left bytes))
+    by true e =
         let l : length (take left bytes) ≡ left = omega (arith, length-take left bytes, ltb-true left (length bytes) e) in
         rw (e, l, ne_eqb left (length bytes) (omega (arith, ltb-true left (length bytes) e))) refl
-    at false e =
+    by false e =
         let l : length (take left bytes) ≡ length bytes = omega (arith, length-take left bytes, ltb-false left (length bytes) e) in
         rw (e, l, eq-eqb (length bytes) (length bytes) refl) refl
 
@@ -79,24 +79,24 @@ module _ (side : Side) (log : Log) where
 
   same-stopped-by : (k : ℕ) (o : Option ℕ) → stopped_reply log k (λ e. replies.StoppedBy e) (replies.StoppedBy writes.Closed) o ≡ stopped_by (stopped_unless o (is_done log k) (is_open log))
   same-stopped-by k (Some code) = refl
-  same-stopped-by k None = at (is_done log k) (is_open log)
+  same-stopped-by k None = by (is_done log k) (is_open log)
     where
-      at : (d o : Bool) → (if d then replies.StoppedBy writes.Closed else (if o then replies.Pending else replies.StoppedBy writes.NotConnected)) ≡ stopped_by (stopped_unless None d o)
-      at true o = refl
-      at false true = refl
-      at false false = refl
+      by : (d o : Bool) → (if d then replies.StoppedBy writes.Closed else (if o then replies.Pending else replies.StoppedBy writes.NotConnected)) ≡ stopped_by (stopped_unless None d o)
+      by true o = refl
+      by false true = refl
+      by false false = refl
 
   pub same-stopped : (k : ℕ) → stopped side log k ≡ perform side log (stopped_plan (facts_of side log) k)
   same-stopped k = rw (same-stopped-by k (stop_of (events_of log) k)) refl
 
   same-finish-by : (k : ℕ) (o : Option ℕ) → stopped_reply log k (λ e. replies.WriteFailed e) replies.Finished o ≡ finish_reply (finish_unless o (is_done log k) (is_open log))
   same-finish-by k (Some code) = refl
-  same-finish-by k None = at (is_done log k) (is_open log)
+  same-finish-by k None = by (is_done log k) (is_open log)
     where
-      at : (d o : Bool) → (if d then replies.Finished else (if o then replies.Pending else replies.WriteFailed writes.NotConnected)) ≡ finish_reply (finish_unless None d o)
-      at true o = refl
-      at false true = refl
-      at false false = refl
+      by : (d o : Bool) → (if d then replies.Finished else (if o then replies.Pending else replies.WriteFailed writes.NotConnected)) ≡ finish_reply (finish_unless None d o)
+      by true o = refl
+      by false true = refl
+      by false false = refl
 
   pub same-finish : (k : ℕ) → finish side log k ≡ perform side log (finish_plan (facts_of side log) k)
   same-finish k = rw (same-finish-by k (stop_of (events_of log) k)) refl
@@ -105,11 +105,11 @@ module _ (side : Side) (log : Log) where
   same-reset k code = split side log (is_done log k) _ _ _ _ refl (split side log (is_open log) _ _ _ _ refl refl)
 
   pub same-priority : (k : ℕ) → priority side log k ≡ perform side log (priority_plan (facts_of side log) k)
-  same-priority k = at (is_done log k) refl
+  same-priority k = by (is_done log k) refl
     where
-      at : (d : Bool) → is_done log k ≡ d → priority side log k ≡ perform side log (priority_plan (facts_of side log) k)
-      at true d = rw d refl
-      at false d = rw d refl
+      by : (d : Bool) → is_done log k ≡ d → priority side log k ≡ perform side log (priority_plan (facts_of side log) k)
+      by true d = rw d refl
+      by false d = rw d refl
 
   pub same-set-priority : (k : ℕ) (p : ℤ) → set_priority side log k p ≡ perform side log (set_priority_plan (facts_of side log) k p)
   same-set-priority k p = split side log (is_done log k) _ _ _ _ refl refl
@@ -119,11 +119,11 @@ module _ (side : Side) (log : Log) where
   same-read-end : (u : List ℕ) (e : StreamEnd) → reply_at_end log e ≡ plans.reply_of_read u (nothing_unread (is_open log) e)
   same-read-end u ends.Fin = refl
   same-read-end u (ends.Reset code) = refl
-  same-read-end u ends.Running = at (is_open log)
+  same-read-end u ends.Running = by (is_open log)
     where
-      at : (o : Bool) → (if o then replies.Pending else replies.ReadFailed reads.NotConnected) ≡ plans.reply_of_read u (if o then Pending else Ready (Err reads.NotConnected))
-      at true = refl
-      at false = refl
+      by : (o : Bool) → (if o then replies.Pending else replies.ReadFailed reads.NotConnected) ≡ plans.reply_of_read u (if o then Pending else Ready (Err reads.NotConnected))
+      by true = refl
+      by false = refl
 
   same-read-of : (k size : ℕ) (u : List ℕ)
       → (if size == 0 then poll_only side log (replies.Read (Some [])) else read_reply side log k size u)
@@ -142,22 +142,22 @@ module _ (side : Side) (log : Log) where
   same-too-few : (k size : ℕ) (u : List ℕ) (e : StreamEnd) → exact_at_end side log k u e ≡ perform side log (exact_plan k size u (too_few (is_open log) e (length u)))
   same-too-few k size u ends.Fin = refl
   same-too-few k size u (ends.Reset code) = refl
-  same-too-few k size u ends.Running = at (is_open log)
+  same-too-few k size u ends.Running = by (is_open log)
     where
-      at : (o : Bool) → poll_only side log (if o then replies.Pending else replies.ExactFailed (exacts.Read reads.NotConnected) []) ≡ perform side log (exact_plan k size u (if o then Pending else Ready (Err (exacts.Read reads.NotConnected))))
-      at true = refl
-      at false = refl
+      by : (o : Bool) → poll_only side log (if o then replies.Pending else replies.ExactFailed (exacts.Read reads.NotConnected) []) ≡ perform side log (exact_plan k size u (if o then Pending else Ready (Err (exacts.Read reads.NotConnected))))
+      by true = refl
+      by false = refl
 
   same-exact-of : (k size : ℕ) (u : List ℕ)
       → (if nat_lt (length u) size then exact_at_end side log k u (end_of (events_of log) k) else take_bytes side log k (take size u) (replies.Exact (take size u)))
       ≡ perform side log (exact_plan k size u (read_exact_answer (is_open log) (record { unread = length u; end = end_of (events_of log) k }) size))
-  same-exact-of k size u = at (nat_lt (length u) size) refl
+  same-exact-of k size u = by (nat_lt (length u) size) refl
     where
-      at : (b : Bool) → nat_lt (length u) size ≡ b
+      by : (b : Bool) → nat_lt (length u) size ≡ b
           → (if nat_lt (length u) size then exact_at_end side log k u (end_of (events_of log) k) else take_bytes side log k (take size u) (replies.Exact (take size u)))
           ≡ perform side log (exact_plan k size u (read_exact_answer (is_open log) (record { unread = length u; end = end_of (events_of log) k }) size))
-      at true e = rw e (same-too-few k size u (end_of (events_of log) k))
-      at false e =
+      by true e = rw e (same-too-few k size u (end_of (events_of log) k))
+      by false e =
           let l : length (take size u) ≡ size = omega (arith, length-take size u, ltb-false (length u) size e) in
           rw (e, l) refl
 

@@ -38,7 +38,7 @@ use Rattle.wt_proto.specs.declared.response_walk.ResponseWalk.TheVariants as res
 
 -- credit covers the bytes exactly where there are no more of them
 covered-by : (n : ℕ) (xs : List ℕ) → is_empty (drop (length (take n xs)) xs) ≡ not (nat_lt n (length xs))
-covered-by n xs = at (nat_lt n (length xs)) refl
+covered-by n xs = by (nat_lt n (length xs)) refl
   where
     none : (ys : List ℕ) → length ys ≡ 0 → is_empty ys ≡ true
     none [] e = refl
@@ -48,9 +48,9 @@ covered-by n xs = at (nat_lt n (length xs)) refl
     some [] e = absurd (omega arith)
     some (y ∷ ys) e = refl
 
-    at : (b : Bool) → nat_lt n (length xs) ≡ b → is_empty (drop (length (take n xs)) xs) ≡ not (nat_lt n (length xs))
-    at true e = rw e (some (drop (length (take n xs)) xs) (omega (arith, length-drop (length (take n xs)) xs, length-take n xs, ltb-true n (length xs) e)))
-    at false e = rw e (none (drop (length (take n xs)) xs) (omega (arith, length-drop (length (take n xs)) xs, length-take n xs, ltb-false n (length xs) e)))
+    by : (b : Bool) → nat_lt n (length xs) ≡ b → is_empty (drop (length (take n xs)) xs) ≡ not (nat_lt n (length xs))
+    by true e = rw e (some (drop (length (take n xs)) xs) (omega (arith, length-drop (length (take n xs)) xs, length-take n xs, ltb-true n (length xs) e)))
+    by false e = rw e (none (drop (length (take n xs)) xs) (omega (arith, length-drop (length (take n xs)) xs, length-take n xs, ltb-false n (length xs) e)))
 
 pub covered-test : (log : Log) (k : ℕ) (bytes : List ℕ) → is_covered log k bytes ≡ not (nat_lt (credit_left log k) (length bytes))
 covered-test log k bytes = covered-by (credit_left log k) bytes
@@ -71,17 +71,17 @@ module _ (side : Side) (log : Log) where
 
   same-acceptance : (left : List ℕ) (waiting : CallRecord)
       → accept_response side log (requested_stream (calls_of log)) left waiting ≡ perform side log (response_left true (facts_of side log) (requested_stream (calls_of log)) left waiting)
-  same-acceptance left waiting = at (is_open log) refl (is_refused log id left) refl (nat_lt (credit_left log id) (length left)) refl
+  same-acceptance left waiting = by (is_open log) refl (is_refused log id left) refl (nat_lt (credit_left log id) (length left)) refl
     where
       id : ℕ
       id = requested_stream (calls_of log)
 
-      at : (o : Bool) → is_open log ≡ o → (r : Bool) → is_refused log id left ≡ r → (s : Bool) → nat_lt (credit_left log id) (length left) ≡ s
+      by : (o : Bool) → is_open log ≡ o → (r : Bool) → is_refused log id left ≡ r → (s : Bool) → nat_lt (credit_left log id) (length left) ≡ s
           → accept_response side log id left waiting ≡ perform side log (response_left true (facts_of side log) id left waiting)
-      at false o r r' s s' = rw o refl
-      at true o true r s s' = rw (o, r) refl
-      at true o false r true s = rw (o, r, covered-test log id left, s) refl
-      at true o false r false s = rw (o, r, covered-test log id left, s) refl
+      by false o r r' s s' = rw o refl
+      by true o true r s s' = rw (o, r) refl
+      by true o false r true s = rw (o, r, covered-test log id left, s) refl
+      by true o false r false s = rw (o, r, covered-test log id left, s) refl
 
   same-rejection-out : (left : List ℕ) (waiting : CallRecord)
       → finish_rejection side log (requested_stream (calls_of log)) left waiting ≡ perform side log (rejection_out (facts_of side log) (requested_stream (calls_of log)) (send_of (requested_stream (calls_of log)) left) waiting)
@@ -93,17 +93,17 @@ module _ (side : Side) (log : Log) where
 
   same-rejection : (left : List ℕ) (waiting : CallRecord)
       → reject_response side log (requested_stream (calls_of log)) left waiting ≡ perform side log (response_left false (facts_of side log) (requested_stream (calls_of log)) left waiting)
-  same-rejection left waiting = at (is_open log) refl (is_refused log id left) refl (nat_lt (credit_left log id) (length left)) refl
+  same-rejection left waiting = by (is_open log) refl (is_refused log id left) refl (nat_lt (credit_left log id) (length left)) refl
     where
       id : ℕ
       id = requested_stream (calls_of log)
 
-      at : (o : Bool) → is_open log ≡ o → (r : Bool) → is_refused log id left ≡ r → (s : Bool) → nat_lt (credit_left log id) (length left) ≡ s
+      by : (o : Bool) → is_open log ≡ o → (r : Bool) → is_refused log id left ≡ r → (s : Bool) → nat_lt (credit_left log id) (length left) ≡ s
           → reject_response side log id left waiting ≡ perform side log (response_left false (facts_of side log) id left waiting)
-      at false o r r' s s' = rw o refl
-      at true o true r s s' = rw (o, r) refl
-      at true o false r true s = rw (o, r, covered-test log id left, s) refl
-      at true o false r false s =
+      by false o r r' s s' = rw o refl
+      by true o true r s s' = rw (o, r) refl
+      by true o false r true s = rw (o, r, covered-test log id left, s) refl
+      by true o false r false s =
           let a : reject_response side log id left waiting ≡ finish_rejection side log id left waiting = rw (o, r, covered-test log id left, s) refl in
           let b : perform side log (rejection_out (facts_of side log) id (send_of id left) waiting) ≡ perform side log (response_left false (facts_of side log) id left waiting) = rw (o, r, s) refl in
           a ∙ same-rejection-out left waiting ∙ b
@@ -124,22 +124,22 @@ module _ (side : Side) (log : Log) where
   same-read id own (responses.Fault code) = refl
   same-read id own responses.Ended = refl
   same-read id own responses.Incomplete = split (is_open log) _ _ _ _ refl refl
-  same-read id own (responses.Response fields at) = split (not (has_success fields)) _ _ _ _ refl (split (is_open log) _ _ _ _ refl refl)
+  same-read id own (responses.Response fields by) = split (not (has_success fields)) _ _ _ _ refl (split (is_open log) _ _ _ _ refl refl)
 
   same-left : (own : List Action) (left : List ℕ)
       → send_request side log (local_bi side) own left ≡ perform side log (request_left (facts_of side log) (local_bi side) own left)
   same-left own [] = same-read (local_bi side) own (response_walk_of (contents log (local_bi side)) (end_of (events_of log) (local_bi side)))
-  same-left own (b ∷ bytes) = at (is_open log) refl (is_some (stop_of (events_of log) id)) refl (nat_lt (credit_left log id) (length (b ∷ bytes))) refl
+  same-left own (b ∷ bytes) = by (is_open log) refl (is_some (stop_of (events_of log) id)) refl (nat_lt (credit_left log id) (length (b ∷ bytes))) refl
     where
       id : ℕ
       id = local_bi side
 
-      at : (o : Bool) → is_open log ≡ o → (r : Bool) → is_some (stop_of (events_of log) id) ≡ r → (s : Bool) → nat_lt (credit_left log id) (length (b ∷ bytes)) ≡ s
+      by : (o : Bool) → is_open log ≡ o → (r : Bool) → is_some (stop_of (events_of log) id) ≡ r → (s : Bool) → nat_lt (credit_left log id) (length (b ∷ bytes)) ≡ s
           → send_request side log id own (b ∷ bytes) ≡ perform side log (request_left (facts_of side log) id own (b ∷ bytes))
-      at false o r r' s s' = rw o refl
-      at true o true r s s' = rw (o, r) refl
-      at true o false r true s = rw (o, r, covered-test log id (b ∷ bytes), s) refl
-      at true o false r false s =
+      by false o r r' s s' = rw o refl
+      by true o true r s s' = rw (o, r) refl
+      by true o false r true s = rw (o, r, covered-test log id (b ∷ bytes), s) refl
+      by true o false r false s =
           let out : List Action = own ++ send_of id (b ∷ bytes) in
           let walk : ResponseWalk = response_walk_of (contents log id) (end_of (events_of log) id) in
           let a : send_request side log id own (b ∷ bytes) ≡ read_response side log id out walk = rw (o, r, covered-test log id (b ∷ bytes), s) refl in
@@ -149,20 +149,20 @@ module _ (side : Side) (log : Log) where
   same-request : (head : List ℕ) → open_request side log head ≡ perform side log (request_plan (facts_of side log) (local_bi side) head)
   same-request head =
       split (not (local_count (actions_of log) id == 0)) _ _ _ _ (same-left [] (head_left log id head))
-      (split (not (is_open log)) _ _ _ _ refl (at (may_open side log id) refl))
+      (split (not (is_open log)) _ _ _ _ refl (by (may_open side log id) refl))
     where
       id : ℕ
       id = local_bi side
 
-      at : (m : Bool) → may_open side log id ≡ m
+      by : (m : Bool) → may_open side log id ≡ m
           → (if may_open side log id then send_request side log id (actions_to_open side log id) (head_left log id head) else poll_only side log replies.Pending)
           ≡ perform side log (if may_open side log id then request_left (facts_of side log) id (actions.Opened (next_id side log id) ∷ []) (head_left log id head) else only_reply replies.Pending)
-      at true m =
+      by true m =
           let own : List Action = actions.Opened (next_id side log id) ∷ [] in
           let a : (if may_open side log id then send_request side log id (actions_to_open side log id) (head_left log id head) else poll_only side log replies.Pending) ≡ send_request side log id own (head_left log id head) = rw m refl in
           let z : perform side log (request_left (facts_of side log) id own (head_left log id head)) ≡ perform side log (if may_open side log id then request_left (facts_of side log) id own (head_left log id head) else only_reply replies.Pending) = rw m refl in
           a ∙ same-left own (head_left log id head) ∙ z
-      at false m = rw m refl
+      by false m = rw m refl
 
   same-unless : (reserved : Option (List ℕ)) (head : List ℕ) → unless_reserved side log reserved head ≡ perform side log (request_unless (facts_of side log) reserved head)
   same-unless (Some name) head = refl

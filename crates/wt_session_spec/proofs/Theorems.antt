@@ -30,11 +30,11 @@ use Rattle.wt_reply.specs.declared.reply.Reply.TheVariants as replies
 module _ (side : Side) (log : Log) where
   -- a call on the established session
   session-planned : (call : ℕ → Effect) (plan : ℕ → Plan) → ((s : ℕ) → call s ≡ perform side log (plan s)) → in_session side log call (established_session (calls_of log)) ≡ perform side log (with_session (facts_of side log) plan)
-  session-planned call plan f = at (established_session (calls_of log))
+  session-planned call plan f = by (established_session (calls_of log))
     where
-      at : (o : Option (ℕ × ℕ)) → in_session side log call o ≡ perform side log (in_session_now plan o)
-      at None = refl
-      at (Some s) = f s.0
+      by : (o : Option (ℕ × ℕ)) → in_session side log call o ≡ perform side log (in_session_now plan o)
+      by None = refl
+      by (Some s) = f s.0
 
   half-planned : (b : Bool) (k : ℕ) (call : ℕ → Effect) (plan : Plan) → call k ≡ perform side log plan → on_half b side log call k ≡ perform side log (with_half b plan)
   half-planned true k call plan e = e

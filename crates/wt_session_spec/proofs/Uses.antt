@@ -120,11 +120,11 @@ same-with-actions (a ∷ own) log = same-with-actions own (Sent a ∷ log)
 same-flushed : (side : Side) (log : Log) → session_state (flush side log) ≡ session_state log
 unfolding flush
 same-flushed side [] = refl
-same-flushed side (e ∷ log) = at (is_moment e && is_open (e ∷ log))
+same-flushed side (e ∷ log) = by (is_moment e && is_open (e ∷ log))
   where
-    at : (b : Bool) → session_state (apply_if b (with_actions (pending_actions side (e ∷ log))) (e ∷ log)) ≡ session_state (e ∷ log)
-    at true = same-with-actions (pending_actions side (e ∷ log)) (e ∷ log)
-    at false = refl
+    by : (b : Bool) → session_state (apply_if b (with_actions (pending_actions side (e ∷ log))) (e ∷ log)) ≡ session_state (e ∷ log)
+    by true = same-with-actions (pending_actions side (e ∷ log)) (e ∷ log)
+    by false = refl
 
 -- any entry that is no call, with what goes out then
 pub state-logged : (side : Side) (e : Entry) (log : Log) → record_in e ≡ None → session_state (log_and_flush side log e) ≡ session_state log

@@ -51,7 +51,7 @@ datagram_by bytes (facts.Limit limit) =
     if nat_lt limit (length bytes) then only_reply (replies.DatagramFailed datagrams.TooLarge)
     else send_and_reply (actions.DatagramOut bytes ∷ []) replies.Done
 
--- by what the transport told last of datagrams
+-- by what the transport reported last of datagrams
 abbrev pub datagram_if : List ℕ → Option DatagramFact → Plan
 datagram_if bytes None = only_reply (replies.DatagramFailed datagrams.NotConnected)
 datagram_if bytes (Some fact) = datagram_by bytes fact

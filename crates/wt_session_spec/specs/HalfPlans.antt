@@ -1,4 +1,4 @@
--- What the calls on the halves of a stream do, by what is kept: the rules of `HalfRules`, told as replies.
+-- What the calls on the halves of a stream do, by what is kept: the rules of `HalfRules`, as replies.
 use Rattle.std.specs.Prelude.{[], ◌&&◌, ◌∷◌, Bool, Err, List, None, Ok, Option, Result, Some, if◌then◌else◌, is_some, not, suc, take, zero, ℕ, ℤ}
 use Rattle.wt_seam_spec.specs.Joined.{send_of}
 use Rattle.wt_streams.specs.HalfRules.{SendingHalf, finish_answer, is_closed, priority_answer, read_answer, read_count, read_exact_answer, stopped_answer, write_all_answer, write_answer, write_refusal}
@@ -52,7 +52,7 @@ write_all_plan f k bytes = send_and_reply (write_actions f k bytes) (write_all_r
 
 -- ---- the end of a sending half
 
--- how the half ended, told
+-- how the half ended, as it is reported
 abbrev pub stopped_by : Poll StreamWriteError → Reply
 stopped_by Pending = replies.Pending
 stopped_by (Ready e) = replies.StoppedBy e

@@ -14,7 +14,7 @@ use Rattle.wt_reply.specs.declared.reply.Reply.TheVariants as replies
 -- what a call does
 pub data Plan : Type 0 where
   Step : (own : List Action) (call : CallRecord) (reply : Reply) → Plan  -- these go out, then this is recorded
-  Establish : (own : List Action) (id at : ℕ) → Plan  -- these go out, the session is established, and told
+  Establish : (own : List Action) (id offset : ℕ) → Plan  -- these go out, the session is established, and reported
   AcceptUni : (session : ℕ) → Plan  -- the next stream of the session is given
   AcceptBi : (session : ℕ) → Plan
   Receive : (session : ℕ) → Plan  -- the next datagram of the session is given
@@ -22,7 +22,7 @@ pub data Plan : Type 0 where
 -- what a plan leads to after a log
 abbrev pub perform : Side → Log → Plan → Effect
 perform side log (Step own call reply) = reply_with (log_call side log own call) reply
-perform side log (Establish own id at) = poll_only side (log_call side log own (SessionEstablished id at)) (replies.Session id)
+perform side log (Establish own id offset) = poll_only side (log_call side log own (SessionEstablished id offset)) (replies.Session id)
 perform side log (AcceptUni session) = accept_stream side replies.Uni (peer_uni side) log session
 perform side log (AcceptBi session) = accept_stream side replies.Bi (peer_bi side) log session
 perform side log (Receive session) = receive_datagram side log session

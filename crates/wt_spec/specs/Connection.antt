@@ -16,7 +16,7 @@ use Rattle.wt_wire.specs.Codes.{code_of}
 use Rattle.wt_wire.specs.Ids.{is_bidirectional}
 use Rattle.wt_wire.specs.Varint.{varint_bytes}
 use Rattle.wt_wire.specs.declared.side.Side.{Side}
-use Rattle.wt_spec.specs.Driver.{call_view, settled_datagrams, stream_table}
+use Rattle.wt_spec.specs.Driver.{call_view, released_datagrams, stream_table}
 use Rattle.wt_spec.specs.Effect.{Effect, head_left, is_covered, log_call, pending_or_failed, poll_only, poll_sending, reply_with, transport_error}
 use Rattle.wt_spec.specs.Handshake.{is_refused}
 use Rattle.wt_spec.specs.StreamTable.{Classified, dispatched_streams}
@@ -32,7 +32,7 @@ use Rattle.wt_proto.specs.declared.verdict.Verdict.TheVariants as verdicts
 
 -- the stream's header names this session
 abbrev pub is_for_session : ℕ → Verdict → Bool
-is_for_session s (verdicts.WebTransport session at) = session == s
+is_for_session s (verdicts.WebTransport session offset) = session == s
 is_for_session s _ = false
 
 -- while the connection is open every stream of the kind has its turn, then only those of the session
@@ -85,8 +85,8 @@ read_datagram (Some piece) = well_formed piece
 -- the datagram that is dequeued and neither received nor passed: its session's quarter id, and its payload
 abbrev pub next_datagram : Side → Log → Option (ℕ × List ℕ)
 next_datagram side log =
-    if nat_lt (settled_datagrams (calls_of log)) (stream_table side log).progress.datagrams
-    then read_datagram (slice_get (datagrams_of (events_of log)) (settled_datagrams (calls_of log))) else None
+    if nat_lt (released_datagrams (calls_of log)) (stream_table side log).progress.datagrams
+    then read_datagram (slice_get (datagrams_of (events_of log)) (released_datagrams (calls_of log))) else None
 
 -- a datagram of the session is given, another one passed
 abbrev pub receive_or_pass : Bool → Side → (Log → Effect) → Log → List ℕ → Effect
@@ -172,7 +172,7 @@ datagram_within side log bytes (facts.Limit limit) =
     if nat_lt limit (length bytes) then poll_only side log (replies.DatagramFailed datagrams.TooLarge)
     else poll_sending side log (actions.DatagramOut bytes ∷ []) replies.Done
 
--- by what the transport told last of datagrams
+-- by what the transport reported last of datagrams
 abbrev pub datagram_allowed : Side → Log → List ℕ → Option DatagramFact → Effect
 datagram_allowed side log bytes None = poll_only side log (replies.DatagramFailed datagrams.NotConnected)
 datagram_allowed side log bytes (Some fact) = datagram_within side log bytes fact

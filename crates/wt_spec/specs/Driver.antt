@@ -26,7 +26,7 @@ settings_ready side log =
     is_connected (events_of log) && nat_lt 0 (unis_allowed (events_of log))
     && not (nat_lt (credit (events_of log) (local_uni side)) (length local_control_bytes))
 
--- what the transport told up to the end of the log
+-- what the transport reported up to the end of the log
 abbrev pub transport_view : Side → Log → TransportView
 transport_view side log = record {
   side = side;
@@ -53,19 +53,19 @@ delivers k (RequestDelivered id) = id == k
 delivers k _ = false
 
 -- the call received a datagram, or passed one
-abbrev pub settles_datagram : CallRecord → Bool
-settles_datagram DatagramReceived = true
-settles_datagram DatagramPassed = true
-settles_datagram _ = false
+abbrev pub releases_datagram : CallRecord → Bool
+releases_datagram DatagramReceived = true
+releases_datagram DatagramPassed = true
+releases_datagram _ = false
 
 -- how many datagrams were received or passed
-abbrev pub settled_datagrams : List CallRecord → ℕ
-settled_datagrams [] = 0
-settled_datagrams (r ∷ earlier) = one_more_if (settles_datagram r) (settled_datagrams earlier)
+abbrev pub released_datagrams : List CallRecord → ℕ
+released_datagrams [] = 0
+released_datagrams (r ∷ earlier) = one_more_if (releases_datagram r) (released_datagrams earlier)
 
 -- the session that the call established, and where its part of the stream begins
 abbrev pub establishes : CallRecord → Option (ℕ × ℕ)
-establishes (SessionEstablished id at) = Some (id, at)
+establishes (SessionEstablished id offset) = Some (id, offset)
 establishes _ = None
 
 -- the newest that is there
@@ -83,7 +83,7 @@ abbrev pub call_view : Log → CallView
 call_view log = record {
   released = λ k. list_any (releases k) (calls_of log);
   delivered = λ k. list_any (delivers k) (calls_of log);
-  datagrams = settled_datagrams (calls_of log);
+  datagrams = released_datagrams (calls_of log);
   session = established_session (calls_of log);
 }
 

@@ -1,4 +1,4 @@
--- What a turn leads to, and how an ended connection is told.
+-- What a turn leads to, and how an ended connection is reported.
 use Rattle.std.specs.Prelude.{[], ◌∷◌, Bool, List, None, Option, Some, drop, false, if◌then◌else◌, length, true, ℕ}
 use Rattle.wt_seam_spec.specs.Outgoing.{bytes_within_credit, if_open}
 use Rattle.wt_seam_spec.specs.Reports.{loss_of}
@@ -48,7 +48,7 @@ loss_or_local (Some reason) = error_of_loss reason
 abbrev pub transport_error : Log → ConnectionError
 transport_error log = loss_or_local (loss_of (events_of log))
 
--- how the driver's ending is told, and without one the transport's
+-- how the driver's ending is reported, and without one the transport's
 abbrev pub error_of_ending : Log → Option Ending → ConnectionError
 error_of_ending log None = transport_error log
 error_of_ending log (Some (ByFault code)) = errors.LocalH3Error code

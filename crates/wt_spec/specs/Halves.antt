@@ -137,7 +137,7 @@ total_read k (r ∷ earlier) = bytes_read k r + total_read k earlier
 
 -- where the application's part of a stream begins: after the peer's header
 abbrev pub body_start : Option Verdict → ℕ
-body_start (Some (verdicts.WebTransport session at)) = at
+body_start (Some (verdicts.WebTransport session offset)) = offset
 body_start _ = 0
 
 -- what came for the stream and wasn't read

@@ -47,7 +47,7 @@ abbrev pub after_record : CallRecord → Option HandshakeState
 after_record (RequestDelivered id) = Some (Requested id)
 after_record (ResponseStarted accepts head) = Some (Responding accepts head)
 after_record (ConnectStarted reserved head) = Some (Connecting reserved head)
-after_record (SessionEstablished id at) = Some (Established id)
+after_record (SessionEstablished id offset) = Some (Established id)
 after_record HandshakeOver = Some Over
 after_record _ = None
 
@@ -62,18 +62,18 @@ fail_handshake side log own reply = reply_with (log_call side log own HandshakeO
 
 -- the session is established; its part of the stream begins at this offset
 abbrev pub establish : Side → Log → List Action → ℕ → ℕ → Effect
-establish side log own id at = poll_only side (log_call side log own (SessionEstablished id at)) (replies.Session id)
+establish side log own id offset = poll_only side (log_call side log own (SessionEstablished id offset)) (replies.Session id)
 
 -- ---- a server's request
 
 -- the fields of a request
 abbrev pub request_fields_of : Verdict → Fields
-request_fields_of (verdicts.Request headers at) = headers
+request_fields_of (verdicts.Request headers offset) = headers
 request_fields_of _ = []
 
 -- the offset after a request
 abbrev pub request_end : Option Verdict → ℕ
-request_end (Some (verdicts.Request headers at)) = at
+request_end (Some (verdicts.Request headers offset)) = offset
 request_end _ = 0
 
 -- the first queued request is delivered; without one the call waits, or fails once the connection has ended
@@ -170,9 +170,9 @@ read_response side log id own (responses.Fault code) =
 read_response side log id own responses.Ended = abandon side log own (loss_to_connect log)
 read_response side log id own responses.Incomplete =
     if is_open log then poll_sending side log own replies.Pending else fail_connect side log own (loss_to_connect log)
-read_response side log id own (responses.Response fields at) =
+read_response side log id own (responses.Response fields offset) =
     if not (has_success fields) then abandon side log own connects.SessionRejected else
-    (if is_open log then establish side log own id at else fail_connect side log own (connects.ConnectionError (driver_error side log)))
+    (if is_open log then establish side log own id offset else fail_connect side log own (connects.ConnectionError (driver_error side log)))
 
 -- the response is read as far as it came
 abbrev pub await_response : Side → Log → ℕ → List Action → Effect

@@ -48,7 +48,7 @@ has k (x ∷ xs) = x == k || has k xs
 -- a stream of a session holds its slot until an accept releases it, another one until it is classified
 abbrev pub is_released : Bool → Verdict → Bool
 is_released by_accept verdicts.Incomplete = false
-is_released by_accept (verdicts.WebTransport session at) = by_accept
+is_released by_accept (verdicts.WebTransport session offset) = by_accept
 is_released by_accept (verdicts.Fault code) = false
 is_released by_accept _ = true
 

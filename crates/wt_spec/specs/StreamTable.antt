@@ -15,7 +15,7 @@ use Rattle.wt_proto.specs.declared.verdict.Verdict.TheVariants as verdicts
 
 -- ---- what a moment looks at
 
--- what the transport told so far
+-- what the transport reported so far
 pub record TransportView : Type 0 where
   pub side : Side
   pub ready : Bool  -- this end's SETTINGS are out, or may go out now
@@ -79,40 +79,40 @@ verdict_of k (c ∷ cs) = if c.id == k then Some c.verdict else verdict_of k cs
 
 -- where the control stream's part begins, after its type; likewise for the QPACK streams
 abbrev pub control_start : Verdict → Option ℕ
-control_start (verdicts.Control at) = Some at
+control_start (verdicts.Control offset) = Some offset
 control_start _ = None
 
 -- where the part of the peer's QPACK encoder stream begins
 abbrev pub encoder_start : Verdict → Option ℕ
-encoder_start (verdicts.Encoder at) = Some at
+encoder_start (verdicts.Encoder offset) = Some offset
 encoder_start _ = None
 
 -- where the part of the peer's QPACK decoder stream begins
 abbrev pub decoder_start : Verdict → Option ℕ
-decoder_start (verdicts.Decoder at) = Some at
+decoder_start (verdicts.Decoder offset) = Some offset
 decoder_start _ = None
 
 -- the stream carries a request
 abbrev pub is_request : Verdict → Bool
-is_request (verdicts.Request headers at) = true
+is_request (verdicts.Request headers offset) = true
 is_request _ = false
 
 -- a stream with the header of a session (draft-ietf-webtrans-http3, sections 4.2 and 4.3)
 abbrev pub is_webtransport : Verdict → Bool
-is_webtransport (verdicts.WebTransport session at) = true
+is_webtransport (verdicts.WebTransport session offset) = true
 is_webtransport _ = false
 
 -- the offset with the stream's id
 abbrev pub offset_with_id : ℕ → Option ℕ → Option (ℕ × ℕ)
 offset_with_id k None = None
-offset_with_id k (Some at) = Some (k, at)
+offset_with_id k (Some offset) = Some (k, offset)
 
 -- the first that is there
 abbrev pub or_later : Option (ℕ × ℕ) → Option (ℕ × ℕ) → Option (ℕ × ℕ)
 or_later None later = later
 or_later (Some x) later = Some x
 
--- the first classified stream for which the offset is told, and that offset
+-- the first classified stream for which the offset is reported, and that offset
 abbrev pub first_at : (Verdict → Option ℕ) → List Classified → Option (ℕ × ℕ)
 first_at offset [] = None
 first_at offset (c ∷ cs) = or_later (offset_with_id c.id (offset c.verdict)) (first_at offset cs)
@@ -181,19 +181,19 @@ only_once (Some before) = faulty h3.StreamCreation
 -- what follows from the verdict of a unidirectional stream
 abbrev pub uni_consequence : Dispatched → ℕ → Verdict → Consequence
 uni_consequence d k (verdicts.Fault code) = faulty code
-uni_consequence d k (verdicts.Control at) = only_once d.control
-uni_consequence d k (verdicts.Encoder at) = only_once d.encoder
-uni_consequence d k (verdicts.Decoder at) = only_once d.decoder
+uni_consequence d k (verdicts.Control offset) = only_once d.control
+uni_consequence d k (verdicts.Encoder offset) = only_once d.encoder
+uni_consequence d k (verdicts.Decoder offset) = only_once d.decoder
 uni_consequence d k _ = none_of_it
 
 -- one request is queued at a time; a request that comes meanwhile is surplus
-abbrev pub queued_behind : List Classified → ℕ → Consequence
-queued_behind [] k = none_of_it
-queued_behind (c ∷ cs) k = stopped_with true k h3.RequestRejected
+abbrev pub queued_after : List Classified → ℕ → Consequence
+queued_after [] k = none_of_it
+queued_after (c ∷ cs) k = stopped_with true k h3.RequestRejected
 
 -- what follows from the verdict of a bidirectional stream
 abbrev pub bi_consequence : Dispatched → ℕ → Verdict → Consequence
 bi_consequence d k (verdicts.Fault code) = faulty code
 bi_consequence d k (verdicts.Refused code) = stopped_with false k code
-bi_consequence d k (verdicts.Request headers at) = queued_behind d.requests k
+bi_consequence d k (verdicts.Request headers offset) = queued_after d.requests k
 bi_consequence d k _ = none_of_it

@@ -17,22 +17,22 @@ module _ {X : Type 0} where
       cc
 
   -- two functions that agree on a range but at one number
-  map-set-from : (f g : ℕ → X) (from count at : ℕ) → at < count → ((j : ℕ) → from ≤ j → j < from + count → j ≢ from + at → g j ≡ f j)
-      → map g (range_with_len from count) ≡ slice_set (map f (range_with_len from count)) at (g (from + at))
-  map-set-from f g from zero at l e = absurd (omega arith)
+  map-set-from : (f g : ℕ → X) (from count offset : ℕ) → offset < count → ((j : ℕ) → from ≤ j → j < from + count → j ≢ from + offset → g j ≡ f j)
+      → map g (range_with_len from count) ≡ slice_set (map f (range_with_len from count)) offset (g (from + offset))
+  map-set-from f g from zero offset l e = absurd (omega arith)
   map-set-from f g from (suc count) zero l e =
       rw add-zero (ap (λ xs. g from ∷ xs) (map-same f g (from + 1) count (λ j h k. e j (omega arith) (omega arith) (λ s. omega arith))))
-  map-set-from f g from (suc count) (suc at) l e =
+  map-set-from f g from (suc count) (suc offset) l e =
       let here : g from ≡ f from = e from (omega arith) (omega arith) (λ s. omega arith) in
-      let same : (from + 1) + at ≡ from + suc at = omega arith in
-      let rest = map-set-from f g (from + 1) count at (omega arith) (λ j h k d. e j (omega arith) (omega arith) (λ s. d (omega arith))) in
+      let same : (from + 1) + offset ≡ from + suc offset = omega arith in
+      let rest = map-set-from f g (from + 1) count offset (omega arith) (λ j h k d. e j (omega arith) (omega arith) (λ s. d (omega arith))) in
       cc
 
-  pub map-set : (f g : ℕ → X) (count at : ℕ) → at < count → ((j : ℕ) → j < count → j ≢ at → g j ≡ f j)
-      → map g (range_with_len 0 count) ≡ slice_set (map f (range_with_len 0 count)) at (g at)
-  map-set f g count at l e =
-      let same : 0 + at ≡ at = omega arith in
-      map-set-from f g 0 count at l (λ j h k d. e j (omega arith) (λ s. d (omega arith))) ∙ ap (λ n. slice_set (map f (range_with_len 0 count)) at (g n)) same
+  pub map-set : (f g : ℕ → X) (count offset : ℕ) → offset < count → ((j : ℕ) → j < count → j ≢ offset → g j ≡ f j)
+      → map g (range_with_len 0 count) ≡ slice_set (map f (range_with_len 0 count)) offset (g offset)
+  map-set f g count offset l e =
+      let same : 0 + offset ≡ offset = omega arith in
+      map-set-from f g 0 count offset l (λ j h k d. e j (omega arith) (λ s. d (omega arith))) ∙ ap (λ n. slice_set (map f (range_with_len 0 count)) offset (g n)) same
 
 below-four : (id : ℕ) → id % 4 < 4
 below-four id = omega arith

@@ -10,7 +10,7 @@ use Rattle.wt_streams.specs.Pieces.{with_piece, skip}
 
 -- ---- one stream
 
--- nothing was told of a stream
+-- nothing was reported of a stream
 abbrev pub no_signals : Signals
 no_signals = record { end = ends.Running; stop = None; acknowledged = false }
 

@@ -1,4 +1,4 @@
-//! What goes out, until it is taken.
+//! What goes out, until it is collected.
 ghost use Rattle.std.specs.Prelude.{◌≡◌, ◌++◌, ◌∷◌, [], OnErr, OnOk, IsTrue, Bool, List};
 ghost use Rattle.wt_seam_spec.specs.Joined.{join_one};
 ghost use Rattle.wt_streams.specs.LastAction.{ends_with_send, is_send, with_more};

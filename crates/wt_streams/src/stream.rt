@@ -10,7 +10,7 @@ use wt_wire::error::OutOfMemory;
 use wt_wire::side::StreamEnd;
 use wt_wire::varint::VarInt;
 
-/// What the peer told of a stream.
+/// What the peer reported of a stream.
 #[derive(Clone, Copy, Debug)]
 pub struct Signals {
     /// How the peer's half ended.
@@ -40,9 +40,9 @@ pub struct Stream {
     pub unread: Unread,
     /// Nothing more is read: what comes is let go.
     pub given_up: bool,
-    /// What was told while the connection was open.
+    /// What was reported while the connection was open.
     pub signals: Signals,
-    /// What was told at all, which decides what may come next.
+    /// What was reported at all, which decides what may come next.
     pub all_signals: Signals,
     /// How many bytes may go out in all.
     pub credit: u64,
@@ -57,7 +57,7 @@ pub struct Stream {
 }
 
 impl Stream {
-    /// A stream of which nothing was told, with this credit.
+    /// A stream of which nothing was reported, with this credit.
     pub fn new(alloc: Global, credit: u64) -> Stream
         ensures { result ≡ fresh credit }
     {
@@ -124,7 +124,7 @@ impl Stream {
         self.all_signals.acknowledged = true;
     }
 
-    /// The peer's half may bring more.
+    /// More may be received on the peer's half.
     pub fn is_running(&self) -> bool
         ensures { result ≡ is_running self.now.all_signals.end }
     {

@@ -141,22 +141,22 @@ fn copy_pieces(pieces: &VecDeque<Bytes<Global>>, buffer: &mut [u8]) -> usize
     ensures count { result ≡ min (length buffer.old) (length (concat pieces.now.items)) }
     ensures bytes { buffer.new ≡ take result (concat pieces.now.items) ++ drop result buffer.old }
 {
-    let mut at = 0;
+    let mut offset = 0;
     let mut index = 0;
     while index < pieces.len() {
-        at += copy_at(buffer, at, pieces[index].as_slice());
+        offset += copy_at(buffer, offset, pieces[index].as_slice());
         index += 1;
     }
-    at
+    offset
 }
 
 /// Copies as many of these bytes as fit to this place of the buffer, and tells how many.
-fn copy_at(buffer: &mut [u8], at: usize, bytes: &[u8]) -> usize
-    requires { at ≤ length buffer.old }
-    ensures count { result ≡ min (length bytes.now) (length buffer.old - at) }
-    ensures bytes { buffer.new ≡ take at buffer.old ++ take result bytes.now ++ drop (at + result) buffer.old }
+fn copy_at(buffer: &mut [u8], offset: usize, bytes: &[u8]) -> usize
+    requires { offset ≤ length buffer.old }
+    ensures count { result ≡ min (length bytes.now) (length buffer.old - offset) }
+    ensures bytes { buffer.new ≡ take offset buffer.old ++ take result bytes.now ++ drop (offset + result) buffer.old }
 {
-    let count = bytes.len().min(buffer.len() - at);
-    buffer[at..at + count].copy_from_slice(&bytes[..count]);
+    let count = bytes.len().min(buffer.len() - offset);
+    buffer[offset..offset + count].copy_from_slice(&bytes[..count]);
     count
 }

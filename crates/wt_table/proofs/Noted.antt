@@ -30,12 +30,12 @@ set-noted : (t u : TableValue) (r : CallRecord) (id : ℕ) (to : table.StreamUse
 set-noted t u r id to s h q e o = record {
   handshake_is = rw h s.handshake_same;
   requested_is = rw q s.requested_same;
-  uses = λ k. ap use_as (s.uses k) ∙ at k (id == k) refl;
+  uses = λ k. ap use_as (s.uses k) ∙ by k (id == k) refl;
 }
   where
-    at : (k : ℕ) (b : Bool) → (id == k) ≡ b → use_as (if b then to else use_now t k) ≡ stream_use_after k r (use_as (use_now t k))
-    at k true m = e ∙ ap (λ (j : ℕ). stream_use_after j r (use_as (use_now t j))) (eqb-true id k m)
-    at k false m = sym (o k (use_as (use_now t k)) m)
+    by : (k : ℕ) (b : Bool) → (id == k) ≡ b → use_as (if b then to else use_now t k) ≡ stream_use_after k r (use_as (use_now t k))
+    by k true m = e ∙ ap (λ (j : ℕ). stream_use_after j r (use_as (use_now t j))) (eqb-true id k m)
+    by k false m = sym (o k (use_as (use_now t k)) m)
 
 pub accepted_noted : (t u : TableValue) (id : ℕ) (to : table.StreamUse) → HasSet t u id to → use_as to ≡ record (use_as (use_now t id)) { giving = WasGiven } → HasNoted t u (StreamAccepted id)
 accepted_noted t u id to s e = set-noted t u (StreamAccepted id) id to s refl refl (rw (eq-eqb id id refl) e) (λ k v m. rw m refl)

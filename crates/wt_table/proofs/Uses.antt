@@ -15,19 +15,19 @@ push_same (u ∷ row) (suc k) = push_same row k
 
 pub set_same : (rows : List (List StreamUse)) (id : ℕ) (row : List StreamUse) (to : StreamUse) → length rows ≡ 4 → IsSet (row_of rows (id % 4)) row (id / 4) to
     → (k : ℕ) → use_in (row_of (slice_set rows (id % 4) row) (k % 4)) (k / 4) ≡ (if id == k then to else use_in (row_of rows (k % 4)) (k / 4))
-set_same rows id row to l s k = at (cases_eq id k) (cases_eq (id % 4) (k % 4))
+set_same rows id row to l s k = by (cases_eq id k) (cases_eq (id % 4) (k % 4))
   where
-    at : (id ≡ k) ⊎ (id ≡ k → ⊥) → (id % 4 ≡ k % 4) ⊎ (id % 4 ≡ k % 4 → ⊥)
+    by : (id ≡ k) ⊎ (id ≡ k → ⊥) → (id % 4 ≡ k % 4) ⊎ (id % 4 ≡ k % 4 → ⊥)
         → use_in (row_of (slice_set rows (id % 4) row) (k % 4)) (k / 4) ≡ (if id == k then to else use_in (row_of rows (k % 4)) (k / 4))
-    at (inl e) m =
+    by (inl e) m =
         let r : row_of (slice_set rows (id % 4) row) (id % 4) ≡ row = get_or-set_same rows (id % 4) row [] (omega (arith, l)) in
         rw (← e, eq-eqb id id refl, r) s.there
-    at (inr n) (inl m) =
+    by (inr n) (inl m) =
         let r : row_of (slice_set rows (id % 4) row) (k % 4) ≡ row = rw (← m) (get_or-set_same rows (id % 4) row [] (omega (arith, l))) in
         let d : (id / 4 == k / 4) ≡ false = ne_eqb (id / 4) (k / 4) (λ q. n (omega arith)) in
         let o : use_in row (k / 4) ≡ use_in (row_of rows (id % 4)) (k / 4) = s.others (k / 4) d in
         rw (ne_eqb id k n, r, o, m) refl
-    at (inr n) (inr d) =
+    by (inr n) (inr d) =
         let r : row_of (slice_set rows (id % 4) row) (k % 4) ≡ row_of rows (k % 4) = get_or-set_other rows (id % 4) (k % 4) row [] (λ q. d (sym q)) in
         rw (ne_eqb id k n, r) refl
 

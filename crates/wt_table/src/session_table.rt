@@ -144,7 +144,7 @@ impl UseRow {
     }
 
     /// What the application has of a stream.
-    pub fn at(&self, index: usize) -> StreamUse
+    pub fn use_of(&self, index: usize) -> StreamUse
         ensures { result ≡ use_in self.now index }
     {
         if index < self.uses.len() {
@@ -247,7 +247,7 @@ impl SessionTable {
         ensures { result ≡ use_now self.now id }
     {
         let id = id.into_u64();
-        self.rows[(id % 4) as usize].at((id / 4) as usize)
+        self.rows[(id % 4) as usize].use_of((id / 4) as usize)
     }
 
     #[tactic(auto, using(crate::proofs::Uses::set_same))]

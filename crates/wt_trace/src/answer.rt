@@ -114,17 +114,17 @@ fn write_stopped<K: Sink>(
     alloc: Global,
     command: &Command,
     answers: &[Answer],
-    at: u64,
+    index: u64,
     sink: &mut K,
 ) -> Result<(), CutShort>
-    requires { at ≡ length answers.now }
+    requires { index ≡ length answers.now }
     ensures text { OnOk result (Appends (K.took sink.old) (K.took sink.new) (stopped_text command.now answers.now ++ stop_line answers.now (codes " unlawful\n"))) }
     ensures part { AppendsPart (K.took sink.old) (K.took sink.new) (stopped_text command.now answers.now ++ stop_line answers.now (codes " unlawful\n")) }
     ensures same { result ≢ Err cuts.SinkFailed → K.faults sink.new ≡ K.faults sink.old }
     ensures fault { result ≡ Err cuts.SinkFailed → Rose (K.faults sink.old) (K.faults sink.new) }
     ensures causes { result ≢ Err cuts.SourceFailed }
 {
-    let stop = number_line(alloc, "turn ", at, " unlawful\n")?;
+    let stop = number_line(alloc, "turn ", index, " unlawful\n")?;
     match command {
         Command::Trace => write_answers(alloc, answers, stop.as_str(), sink),
         Command::Large(_) => write_all(sink, stop.as_bytes()),

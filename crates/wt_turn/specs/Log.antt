@@ -30,7 +30,7 @@ pub data CallRecord : Type 0 where
   ConnectStarted : (reserved : Option (List ℕ)) (head : List ℕ) → CallRecord  -- it dialled; once SETTINGS came it fails for a reserved name or sends this request
   RequestDelivered : (id : ℕ) → CallRecord  -- the request of this stream was given
   ResponseStarted : (accepts : Bool) (head : List ℕ) → CallRecord  -- this response is to be sent
-  SessionEstablished : (id at : ℕ) → CallRecord  -- the session's part of its stream begins at this offset
+  SessionEstablished : (id offset : ℕ) → CallRecord  -- the session's part of its stream begins at this offset
   HandshakeOver : CallRecord  -- it failed or was rejected: there is no session
   -- streams
   StreamAccepted : (id : ℕ) → CallRecord  -- by an accept, or by an opening that is through
@@ -51,8 +51,8 @@ pub data CallRecord : Type 0 where
 -- each a moment: what a call sends stands before its record, and what its work sends after it.
 pub data Entry : Type 0 where
   Received : (id byte : ℕ) → Entry  -- a byte of a stream came
-  Reported : (event : Event) → Entry  -- the transport told of an event while the connection was open
-  ReportedLate : (event : Event) → Entry  -- it told of an event after the end: only what may come next depends on it
+  Reported : (event : Event) → Entry  -- the transport reported an event while the connection was open
+  ReportedLate : (event : Event) → Entry  -- it reported an event after the end: only what may come next depends on it
   Sent : (action : Action) → Entry  -- an action went out
   Called : (call : CallRecord) → Entry  -- a call did this
 

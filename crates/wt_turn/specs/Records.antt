@@ -8,7 +8,7 @@ abbrev pub record_of : Record → log.CallRecord
 record_of (records.ConnectStarted reserved head) = log.ConnectStarted reserved head
 record_of (records.RequestDelivered id) = log.RequestDelivered id
 record_of (records.ResponseStarted accepts head) = log.ResponseStarted accepts head
-record_of (records.SessionEstablished id at) = log.SessionEstablished id at
+record_of (records.SessionEstablished id offset) = log.SessionEstablished id offset
 record_of records.HandshakeOver = log.HandshakeOver
 record_of (records.StreamAccepted id) = log.StreamAccepted id
 record_of (records.StreamPassed id) = log.StreamPassed id

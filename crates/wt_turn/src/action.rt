@@ -10,7 +10,7 @@ use wt_wire::ids::StreamId;
 use wt_wire::text::Text;
 use wt_wire::varint::VarInt;
 
-/// What the transport is told to do.
+/// What the transport is to do.
 #[derive(PartialEq, Eq, Debug, Drop)]
 pub enum Action {
     /// Connects to an address, with this server name.

@@ -10,7 +10,7 @@ use wt_wire::error::OutOfMemory;
 /// The answer to one turn.
 #[derive(PartialEq, Eq, Debug, Drop)]
 pub struct Answer {
-    /// What the caller is told.
+    /// What the caller is answered.
     pub reply: Reply,
     /// What goes out, in order.
     pub actions: Actions,

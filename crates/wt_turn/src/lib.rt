@@ -2,7 +2,7 @@
 //! what goes out and what is answered.
 //!
 //! A [`turn::Turn`] is one event of the QUIC transport or one [`call::Call`] of the application, an
-//! [`action::Action`] is what the transport is told to do, and an [`answer::Answer`] is the reply to
+//! [`action::Action`] is what the transport is to do, and an [`answer::Answer`] is the reply to
 //! one turn with the actions that go out. Beside them stands the definition of a connection's log.
 //! The errors of wt_error and the replies of wt_reply are offered again.
 #![tactic(auto)]

@@ -105,8 +105,8 @@ fn are_same<T: Element>(items: &[T], others: &[T]) -> bool
     if items.len() != others.len() {
         return false;
     }
-    for at in 0..items.len() {
-        if !items[at].is_same(&others[at]) {
+    for index in 0..items.len() {
+        if !items[index].is_same(&others[index]) {
             return false;
         }
     }

@@ -14,7 +14,7 @@ use wt_wire::varint::VarInt;
 /// One event of the QUIC transport, or one call of the application.
 #[derive(PartialEq, Eq, Debug, Drop)]
 pub enum Turn {
-    /// The connection stands: how many streams of each kind this end may open, how many bytes each
+    /// The connection is established: how many streams of each kind this end may open, how many bytes each
     /// sending half may send, and what holds of datagrams.
     Connected {
         uni: u64,

@@ -6,15 +6,15 @@ use Rattle.wt_proto.proofs.FrameLaws.{IsEffect, IsReader, items-steady}
 use Rattle.wt_proto.proofs.TypedHeaders.{Chooses, IsTyped, alone, by, goes-on, header-reader}
 use Rattle.wt_typed.specs.UniHeader.{header_at, header_decides, header_effect, header_of_type, header_with_type, session_header, with_session_id}
 
-of_type-chooses : (kind at : ℕ) → Chooses at (header_of_type kind at)
-of_type-chooses kind at =
-    by at (kind == 0x00) (alone at _) (by at (kind == 0x02) (alone at _) (by at (kind == 0x03) (alone at _) (by at (kind == 0x54) (goes-on at) (by at (is_exercise kind) (alone at _) (alone at _)))))
+of_type-chooses : (kind offset : ℕ) → Chooses offset (header_of_type kind offset)
+of_type-chooses kind offset =
+    by offset (kind == 0x00) (alone offset _) (by offset (kind == 0x02) (alone offset _) (by offset (kind == 0x03) (alone offset _) (by offset (kind == 0x54) (goes-on offset) (by offset (is_exercise kind) (alone offset _) (alone offset _)))))
 
 header-typed : IsTyped with_session_id header_of_type header_with_type
 header-typed = record {
-  made = λ at s. session_header s.0;
-  no-session = λ at. refl;
-  a-session = λ at s. refl;
+  made = λ offset s. session_header s.0;
+  no-session = λ offset. refl;
+  a-session = λ offset s. refl;
   no-type = λ xs. refl;
   a-type = λ xs t. refl;
   chooses = of_type-chooses;

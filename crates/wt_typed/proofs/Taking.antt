@@ -40,7 +40,7 @@ module _ {S O : Type 0} (decide : S → List ℕ → Step S O) (steady : IsStead
       Advances decide (record { state = s; stop = None; skip = 0; kept = kept }) new (byte ∷ later) 1
   byte-advances items new is e later = record {
     within = omega arith;
-    taken = e ∙ (sym (byte-passes items (decide s items) is refl) ∙ ap (λ (xs : List ℕ). progress_over decide s None 0 xs) is);
+    fed = e ∙ (sym (byte-passes items (decide s items) is refl) ∙ ap (λ (xs : List ℕ). progress_over decide s None 0 xs) is);
     running = λ k lt. not-yet k later lt;
   }
 
@@ -54,7 +54,7 @@ kept-byte decide steady s None skip kept items byte new proper none goes is e la
     let same = byte-advances decide steady s kept byte proper.waits items new is e later in
     record {
       within = same.within;
-      taken = same.taken ∙ ap (λ (n : ℕ). progress_over decide s None n (kept ++ byte ∷ [])) (sym none);
+      fed = same.fed ∙ ap (λ (n : ℕ). progress_over decide s None n (kept ++ byte ∷ [])) (sym none);
       running = λ k lt. ap (λ (n : ℕ). (reached_in (progress_over decide s None n (kept ++ take k (byte ∷ later)))).stop) none ∙ same.running k lt;
     }
 
@@ -96,7 +96,7 @@ module _ {S O : Type 0} (decide : S → List ℕ → Step S O) (steady : IsStead
 
 -- where memory ran out, the bytes in front of the one that wasn't kept are taken
 pub took-first : {S O : Type 0} (decide : S → List ℕ → Step S O) (old mid new : WalkProgress S O) (t u : TransportState) (id n : ℕ) → Advances decide old mid (unread_now t id) n → new ≡ mid → u ≡ after_taking t id n → TookFirst decide old new t u id n
-took-first decide old mid new t u id n front same is = record { within = front.within; reading = same ∙ front.taken; running = front.running; state = is }
+took-first decide old mid new t u id n front same is = record { within = front.within; reading = same ∙ front.fed; running = front.running; state = is }
 
 -- the first byte of the first piece is the first of all
 pub first-byte : (pieces : List (List ℕ)) (piece : List ℕ) → piece ≡ first_piece pieces → 0 < length piece → slice_index piece 0 ∷ [] ≡ take 1 (concat pieces)

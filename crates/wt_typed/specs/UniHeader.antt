@@ -27,17 +27,17 @@ session_header id = if id % 4 == 0 then Ok (WebTransport id) else Err Id
 
 -- a session's id after a type of so many bytes, and how many bytes the header has
 abbrev pub with_session_id : ℕ → Option (ℕ × ℕ) → Option (Result UniHeader ErrorCode × ℕ)
-with_session_id at None = None
-with_session_id at (Some s) = Some (session_header s.0, at + s.1)
+with_session_id offset None = None
+with_session_id offset (Some s) = Some (session_header s.0, offset + s.1)
 
 -- a header by its type, which so many bytes encode; a type that is neither known nor reserved is a fault
 abbrev pub header_of_type : ℕ → ℕ → Option (Result UniHeader ErrorCode × ℕ) → Option (Result UniHeader ErrorCode × ℕ)
-header_of_type kind at session =
-    if kind == control_type then Some (Ok Control, at) else
-    (if kind == encoder_type then Some (Ok QPackEncoder, at) else
-    (if kind == decoder_type then Some (Ok QPackDecoder, at) else
+header_of_type kind offset session =
+    if kind == control_type then Some (Ok Control, offset) else
+    (if kind == encoder_type then Some (Ok QPackEncoder, offset) else
+    (if kind == decoder_type then Some (Ok QPackDecoder, offset) else
     (if kind == webtransport_type then session else
-    (if is_exercise kind then Some (Ok (Exercise kind), at) else Some (Err StreamCreation, at)))))
+    (if is_exercise kind then Some (Ok (Exercise kind), offset) else Some (Err StreamCreation, offset)))))
 
 -- a header after its type, where that is whole
 abbrev pub header_with_type : List ℕ → Option (ℕ × ℕ) → Option (Result UniHeader ErrorCode × ℕ)

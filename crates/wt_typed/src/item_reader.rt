@@ -135,8 +135,8 @@ impl<G: Grammar> ItemReader<G> {
                 return Err(error);
             }
             Ok(Step::Cut) => {}
-            Ok(Step::Goes(next, size)) => {
-                self.state = next;
+            Ok(Step::Goes(moved, size)) => {
+                self.state = moved;
                 self.skip = size - self.kept.as_slice().len() as u64;
                 self.kept.clear();
             }
@@ -158,26 +158,26 @@ impl<G: Grammar> ItemReader<G> {
     {
         let _ = &self.state;
         let unread = t.unread(id);
-        let mut taken = 0;
-        while taken < unread && !self.is_over() {
+        let mut consumed = 0;
+        while consumed < unread && !self.is_over() {
             if self.skip > 0 {
-                let count = self.skip.min(unread - taken);
+                let count = self.skip.min(unread - consumed);
                 t.consume(id, count as usize);
                 self.skip_some(count);
-                taken += count;
+                consumed += count;
             } else {
                 let byte = next_byte(t, id);
                 match self.keep(byte) {
                     Ok(()) => {
                         t.consume(id, 1);
-                        taken += 1;
+                        consumed += 1;
                     }
                     // the byte that isn't kept stays unread
                     Err(error) => return Err(error),
                 }
             }
         }
-        Ok(taken)
+        Ok(consumed)
     }
 
     /// What the reader has to give, and otherwise why it has nothing. What is given is handed out.

@@ -41,18 +41,18 @@ fn signal(alloc: Global, id: VarInt) -> Result<Frame, ErrorCode>
 }
 
 /// What a signal at the front does, whose type has so many bytes.
-fn signal_step(alloc: Global, source: FrameSource, bytes: &[u8], at: usize) -> FrameStep
-    requires within { at ≤ length bytes.now }
-    requires few { at ≤ 8 }
-    ensures { result ≡ step_of_item (frame_effect source) (signal_with_id at (id_at source (drop at bytes.now))) }
+fn signal_step(alloc: Global, source: FrameSource, bytes: &[u8], offset: usize) -> FrameStep
+    requires within { offset ≤ length bytes.now }
+    requires few { offset ≤ 8 }
+    ensures { result ≡ step_of_item (frame_effect source) (signal_with_id offset (id_at source (drop offset bytes.now))) }
 {
     match source {
-        FrameSource::Request => match read_varint(&bytes[at..]) {
-            Some((id, length)) => Step::Stops(signal(alloc, id), (at + length) as u64),
+        FrameSource::Request => match read_varint(&bytes[offset..]) {
+            Some((id, length)) => Step::Stops(signal(alloc, id), (offset + length) as u64),
             None => Step::Cut,
         },
         FrameSource::Control | FrameSource::Other => {
-            Step::Stops(Err(ErrorCode::FrameUnexpected), at as u64)
+            Step::Stops(Err(ErrorCode::FrameUnexpected), offset as u64)
         }
     }
 }
@@ -85,7 +85,7 @@ fn frame_step(alloc: Global, source: FrameSource, bytes: &[u8]) -> Result<FrameS
 {
     match parse_frame(bytes) {
         ParsedFrame::Incomplete => Ok(Step::Cut),
-        ParsedFrame::Signal(at) => Ok(signal_step(alloc, source, bytes, at)),
+        ParsedFrame::Signal(offset) => Ok(signal_step(alloc, source, bytes, offset)),
         ParsedFrame::TooLong(header) => {
             Ok(Step::Stops(Err(ErrorCode::ExcessiveLoad), header as u64))
         }

@@ -54,12 +54,12 @@ fn of_session(id: VarInt) -> Result<UniHeader, ErrorCode>
 }
 
 /// The id of a session, after a type of so many bytes.
-fn with_session(bytes: &[u8], at: usize) -> Option<(Result<UniHeader, ErrorCode>, usize)>
-    requires { at ≤ 8 }
-    ensures { result ≡ with_session_id at (varint_at bytes.now) }
+fn with_session(bytes: &[u8], offset: usize) -> Option<(Result<UniHeader, ErrorCode>, usize)>
+    requires { offset ≤ 8 }
+    ensures { result ≡ with_session_id offset (varint_at bytes.now) }
 {
     let (id, length) = read_varint(bytes)?;
-    Some((of_session(id), at + length))
+    Some((of_session(id), offset + length))
 }
 
 /// The header at the front of the bytes, and how many bytes it has; None where they end inside it.
@@ -67,14 +67,14 @@ fn with_session(bytes: &[u8], at: usize) -> Option<(Result<UniHeader, ErrorCode>
 fn read_header(bytes: &[u8]) -> Option<(Result<UniHeader, ErrorCode>, usize)>
     ensures { result ≡ header_at bytes.now }
 {
-    let (number, at) = read_varint(bytes)?;
+    let (number, offset) = read_varint(bytes)?;
     match number.into_inner() {
-        0x00 => Some((Ok(UniHeader::Control), at)),
-        0x02 => Some((Ok(UniHeader::QPackEncoder), at)),
-        0x03 => Some((Ok(UniHeader::QPackDecoder), at)),
-        0x54 => with_session(&bytes[at..], at),
-        n if is_exercise(n) => Some((Ok(UniHeader::Exercise(number)), at)),
-        _ => Some((Err(ErrorCode::StreamCreation), at)),
+        0x00 => Some((Ok(UniHeader::Control), offset)),
+        0x02 => Some((Ok(UniHeader::QPackEncoder), offset)),
+        0x03 => Some((Ok(UniHeader::QPackDecoder), offset)),
+        0x54 => with_session(&bytes[offset..], offset),
+        n if is_exercise(n) => Some((Ok(UniHeader::Exercise(number)), offset)),
+        _ => Some((Err(ErrorCode::StreamCreation), offset)),
     }
 }
 

@@ -40,7 +40,7 @@ fn source_of(header: &UniHeader) -> FrameSource
 }
 
 /// The stream after this header.
-fn behind_header(alloc: Global, id: StreamId, header: UniHeader) -> StreamUniRemoteH3
+fn after_header(alloc: Global, id: StreamId, header: UniHeader) -> StreamUniRemoteH3
     ensures { result ≡ record { halves = record { id = id }; stage = record { header = header; frames = at_item (source_of header) } } }
 {
     let frames = FrameReader::for_frames(alloc, source_of(&header));
@@ -112,7 +112,7 @@ impl Stream<QuicRecvStream, UniRemoteQuic> {
             Poll::Ready(Err(error)) => Ok(Poll::Ready(Err(error))),
             Poll::Ready(Ok(header)) => {
                 self.stage.is_spent = true;
-                Ok(Poll::Ready(Ok(behind_header(alloc, id, header))))
+                Ok(Poll::Ready(Ok(after_header(alloc, id, header))))
             }
         }
     }

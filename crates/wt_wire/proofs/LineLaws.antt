@@ -11,9 +11,9 @@ lines_skip fields zero bytes h = refl
 lines_skip fields (suc k) [] h = absurd (omega arith)
 lines_skip fields (suc k) (b ∷ bytes) h = lines_skip fields k bytes (omega arith)
 
-pub lines_end : (fields : Fields) (at : ℕ) (bytes : List ℕ) → length bytes ≤ at → field_lines_from fields 0 (drop at bytes) ≡ Some fields
+pub lines_end : (fields : Fields) (offset : ℕ) (bytes : List ℕ) → length bytes ≤ offset → field_lines_from fields 0 (drop offset bytes) ≡ Some fields
 unfolding field_lines_from
-lines_end fields at bytes h = ap (λ bs. field_lines_from fields 0 bs) (drop_all at bytes h)
+lines_end fields offset bytes h = ap (λ bs. field_lines_from fields 0 bs) (drop_all offset bytes h)
 
 none_in_front : (fields : Fields) (bytes : List ℕ) → 0 < length bytes → None ≡ line_at bytes → field_lines_from fields 0 bytes ≡ None
 unfolding field_lines_from
@@ -32,11 +32,11 @@ line_in_front fields (b ∷ bytes) l h some fits =
     ∙ ap (λ n. field_lines_from (with_field l.name l.value fields) 0 (drop n (b ∷ bytes))) same
 
 -- the same where the code looks at a slice from an offset on
-pub lines_none : (fields : Fields) (at : ℕ) (bytes : List ℕ) → at < length bytes → None ≡ line_at (take (length bytes - at) (drop at bytes)) → field_lines_from fields 0 (drop at bytes) ≡ None
-lines_none fields at bytes l h = none_in_front fields (drop at bytes) (omega (arith, length-drop at bytes)) (h ∙ ap line_at (take_rest bytes at))
+pub lines_none : (fields : Fields) (offset : ℕ) (bytes : List ℕ) → offset < length bytes → None ≡ line_at (take (length bytes - offset) (drop offset bytes)) → field_lines_from fields 0 (drop offset bytes) ≡ None
+lines_none fields offset bytes l h = none_in_front fields (drop offset bytes) (omega (arith, length-drop offset bytes)) (h ∙ ap line_at (take_rest bytes offset))
 
-pub lines_step : (fields : Fields) (at : ℕ) (bytes : List ℕ) (l : FieldLine) → Some l ≡ line_at (take (length bytes - at) (drop at bytes)) → 1 ≤ l.len → at + l.len ≤ length bytes →
-    field_lines_from fields 0 (drop at bytes) ≡ field_lines_from (with_field l.name l.value fields) 0 (drop (at + l.len) bytes)
-lines_step fields at bytes l h some fits =
-    line_in_front fields (drop at bytes) l (h ∙ ap line_at (take_rest bytes at)) some (omega (arith, length-drop at bytes))
-    ∙ ap (λ bs. field_lines_from (with_field l.name l.value fields) 0 bs) (drop-drop l.len at bytes)
+pub lines_step : (fields : Fields) (offset : ℕ) (bytes : List ℕ) (l : FieldLine) → Some l ≡ line_at (take (length bytes - offset) (drop offset bytes)) → 1 ≤ l.len → offset + l.len ≤ length bytes →
+    field_lines_from fields 0 (drop offset bytes) ≡ field_lines_from (with_field l.name l.value fields) 0 (drop (offset + l.len) bytes)
+lines_step fields offset bytes l h some fits =
+    line_in_front fields (drop offset bytes) l (h ∙ ap line_at (take_rest bytes offset)) some (omega (arith, length-drop offset bytes))
+    ∙ ap (λ bs. field_lines_from (with_field l.name l.value fields) 0 bs) (drop-drop l.len offset bytes)

@@ -8,8 +8,8 @@ use Rattle.std.specs.Cmp.Lexicographic.{nat_list_cmp_total}
 use Rattle.wt_wire.specs.HeaderList.{Fields, sort_key, compare_names, with_field, IsAhead, IsHeaderList}
 
 -- what comes after a name has that name ahead
-behind_is_ahead : (a b : List ℕ) → compare_names a b ≡ Greater → compare_names b a ≡ Less
-behind_is_ahead a b h = nat_list_cmp_total.antisymm (sort_key b) (sort_key a) ∙ ap ordering_reverse h
+after_is_ahead : (a b : List ℕ) → compare_names a b ≡ Greater → compare_names b a ≡ Less
+after_is_ahead a b h = nat_list_cmp_total.antisymm (sort_key b) (sort_key a) ∙ ap ordering_reverse h
 
 IsAhead-with_field : (first name value : List ℕ) (fields : Fields) → compare_names first name ≡ Less → IsAhead first fields → IsAhead first (with_field name value fields)
 IsAhead-with_field first name value [] h a = h
@@ -27,4 +27,4 @@ with_field_keeps name value (f ∷ fields) h n v = by (with_field_keeps name val
     by : IsHeaderList (with_field name value fields) → (o : Ordering) → compare_names name f.0 ≡ o → IsHeaderList (match_ordering o ((name, value) ∷ f ∷ fields) ((f.0, value) ∷ fields) (f ∷ with_field name value fields))
     by rest Less e = (e, n, v, h)
     by rest Equal e = (h.0, h.1, v, h.3)
-    by rest Greater e = (IsAhead-with_field f.0 name value fields (behind_is_ahead name f.0 e) h.0, h.1, h.2, rest)
+    by rest Greater e = (IsAhead-with_field f.0 name value fields (after_is_ahead name f.0 e) h.0, h.1, h.2, rest)

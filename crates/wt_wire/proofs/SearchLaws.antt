@@ -51,24 +51,24 @@ at_first : (name value : List ℕ) (f : List ℕ × List ℕ) (fields : Fields) 
     with_field name value (f ∷ fields) ≡ match_ordering (ordering_reverse o) ((name, value) ∷ f ∷ fields) ((f.0, value) ∷ fields) (f ∷ with_field name value fields)
 at_first name value f fields o e = ap (λ p. match_ordering p ((name, value) ∷ f ∷ fields) ((f.0, value) ∷ fields) (f ∷ with_field name value fields)) (turned f.0 name o e)
 
-with_field_there : (name value : List ℕ) (d : List ℕ × List ℕ) (fields : Fields) → IsHeaderList fields → (at : ℕ) → at < length fields →
-    compare_names (slice_index_or fields at d).0 name ≡ Equal → with_field name value fields ≡ set fields at ((slice_index_or fields at d).0, value)
-with_field_there name value d [] h at within same = absurd (omega (arith, within))
+with_field_there : (name value : List ℕ) (d : List ℕ × List ℕ) (fields : Fields) → IsHeaderList fields → (offset : ℕ) → offset < length fields →
+    compare_names (slice_index_or fields offset d).0 name ≡ Equal → with_field name value fields ≡ set fields offset ((slice_index_or fields offset d).0, value)
+with_field_there name value d [] h offset within same = absurd (omega (arith, within))
 with_field_there name value d (f ∷ fields) h zero within same = at_first name value f fields Equal same
-with_field_there name value d (f ∷ fields) h (suc at) within same =
-    let inside : at < length fields = omega (arith, within) in
-    at_first name value f fields Less (below_equal f.0 (slice_index_or fields at d).0 name (below_all f.0 fields h.3 h.0 at d inside) same)
-    ∙ ap (λ rest. f ∷ rest) (with_field_there name value d fields h.3 at inside same)
+with_field_there name value d (f ∷ fields) h (suc offset) within same =
+    let inside : offset < length fields = omega (arith, within) in
+    at_first name value f fields Less (below_equal f.0 (slice_index_or fields offset d).0 name (below_all f.0 fields h.3 h.0 offset d inside) same)
+    ∙ ap (λ rest. f ∷ rest) (with_field_there name value d fields h.3 offset inside same)
 
-with_field_new : (name value : List ℕ) (fields : Fields) (at : ℕ) → at ≤ length fields →
-    AllWithin (λ (f : List ℕ × List ℕ). compare_names f.0 name ≡ Less) fields 0 at → AllWithin (λ (f : List ℕ × List ℕ). compare_names f.0 name ≡ Greater) fields at (length fields) →
-    with_field name value fields ≡ insert fields at (name, value)
+with_field_new : (name value : List ℕ) (fields : Fields) (offset : ℕ) → offset ≤ length fields →
+    AllWithin (λ (f : List ℕ × List ℕ). compare_names f.0 name ≡ Less) fields 0 offset → AllWithin (λ (f : List ℕ × List ℕ). compare_names f.0 name ≡ Greater) fields offset (length fields) →
+    with_field name value fields ≡ insert fields offset (name, value)
 with_field_new name value [] zero within less greater = refl
-with_field_new name value [] (suc at) within less greater = absurd (omega (arith, within))
+with_field_new name value [] (suc offset) within less greater = absurd (omega (arith, within))
 with_field_new name value (f ∷ fields) zero within less greater = at_first name value f fields Greater (greater 0 f (omega arith) (omega arith))
-with_field_new name value (f ∷ fields) (suc at) within less greater =
+with_field_new name value (f ∷ fields) (suc offset) within less greater =
     at_first name value f fields Less (less 0 f (omega arith) (omega arith))
-    ∙ ap (λ rest. f ∷ rest) (with_field_new name value fields at (omega (arith, within))
+    ∙ ap (λ rest. f ∷ rest) (with_field_new name value fields offset (omega (arith, within))
     (λ k d low high. less (suc k) d (omega arith) (omega (arith, high)))
     (λ k d low high. greater (suc k) d (omega (arith, low)) (omega (arith, high))))
 
@@ -76,16 +76,16 @@ with_field_new name value (f ∷ fields) (suc at) within less greater =
 pub searched : (name : List ℕ) (fields : Fields) → IsHeaderList fields → (r : Result ℕ ℕ) → IsSearchInRange r (length fields) →
     IsBinarySearchResult (λ (f : List ℕ × List ℕ). compare_names f.0 name) fields r → record {
       within : IsSearchInRange r (length fields);
-      found : (value : List ℕ) (d : List ℕ × List ℕ) → IfOk r (λ at. with_field name value fields ≡ set fields at ((slice_index_or fields at d).0, value));
-      absent : (value : List ℕ) → IfErr r (λ at. with_field name value fields ≡ insert fields at (name, value));
+      found : (value : List ℕ) (d : List ℕ × List ℕ) → IfOk r (λ offset. with_field name value fields ≡ set fields offset ((slice_index_or fields offset d).0, value));
+      absent : (value : List ℕ) → IfErr r (λ offset. with_field name value fields ≡ insert fields offset (name, value));
     }
-searched name fields h (Ok at) within same = record {
+searched name fields h (Ok offset) within same = record {
   within = within;
-  found = λ value d. with_field_there name value d fields h at within (same d);
+  found = λ value d. with_field_there name value d fields h offset within (same d);
   absent = λ value. tt;
 }
-searched name fields h (Err at) within parted = record {
+searched name fields h (Err offset) within parted = record {
   within = within;
   found = λ value d. tt;
-  absent = λ value. let around = parted (rises name fields h) in with_field_new name value fields at within around.0 around.1;
+  absent = λ value. let around = parted (rises name fields h) in with_field_new name value fields offset within around.0 around.1;
 }

@@ -79,8 +79,8 @@ prefixed_again high full n more above h = by (ltb n full) refl
 
 -- ---- string literals
 
-behind_again : (bytes front text more : List ℕ) → bytes ≡ front ++ (text ++ more) → is_text text ≡ true → string_with_size bytes (length text, length front) ≡ Some (text, length front + length text)
-behind_again bytes front text more e u =
+after_again : (bytes front text more : List ℕ) → bytes ≡ front ++ (text ++ more) → is_text text ≡ true → string_with_size bytes (length text, length front) ≡ Some (text, length front + length text)
+after_again bytes front text more e u =
     let enough : ltb (length bytes - length front) (length text) ≡ false = le-ltb (length bytes - length front) (length text) (omega (arith, ap length e, length-append front (text ++ more), length-append text more)) in
     let rest : take (length text) (drop (length front) bytes) ≡ text = ap (λ bs. take (length text) (drop (length front) bs)) e ∙ ap (take (length text)) (drop_at front (text ++ more) (length front) refl) ∙ take_at text more (length text) refl in
     rw (enough, rest, u) refl
@@ -92,7 +92,7 @@ string_again high full text more above u h =
     let front : List ℕ = prefixed_bytes high full (length text) in
     let joined : (front ++ text) ++ more ≡ front ++ (text ++ more) = append_assoc front text more in
     ap (λ o. o >>= string_with_size ((front ++ text) ++ more)) (ap (prefixed_at full) joined ∙ prefixed_again high full (length text) (text ++ more) above h)
-    ∙ behind_again ((front ++ text) ++ more) front text more joined u
+    ∙ after_again ((front ++ text) ++ more) front text more joined u
     ∙ ap (λ l. Some (text, l)) (sym (length-append front text))
 
 -- ---- field lines
@@ -127,9 +127,9 @@ line_at_first bytes b =
 value_first : (bytes : List ℕ) → BeginsIn bytes 0 127 → begins_value bytes ≡ true
 value_first bytes b = rw b.is (lt-ltb b.first 128 (omega (arith, b.upto)))
 
-named_again : (bytes name : List ℕ) (at : ℕ) (rest value : List ℕ) (len : ℕ) → string_at 7 bytes ≡ Some (name, at) → drop at bytes ≡ rest → begins_value rest ≡ true → string_at 127 rest ≡ Some (value, len) →
-    name_and_value_at bytes ≡ Some (record { name = name; value = value; len = at + len })
-named_again bytes name at rest value len n d p t = rw n (rw d (rw p (rw t refl)))
+named_again : (bytes name : List ℕ) (offset : ℕ) (rest value : List ℕ) (len : ℕ) → string_at 7 bytes ≡ Some (name, offset) → drop offset bytes ≡ rest → begins_value rest ≡ true → string_at 127 rest ≡ Some (value, len) →
+    name_and_value_at bytes ≡ Some (record { name = name; value = value; len = offset + len })
+named_again bytes name offset rest value len n d p t = rw n (rw d (rw p (rw t refl)))
 
 line_again : (f : List ℕ × List ℕ) (more : List ℕ) → IsUtf8 f.0 → IsUtf8 f.1 → length f.0 < 268435456 → length f.1 < 268435456 →
     line_at (line_bytes f ++ more) ≡ Some (record { name = f.0; value = f.1; len = length (line_bytes f) })

@@ -21,7 +21,7 @@ one_more (suc j) b q l h rest = by (ltb (b - 128 + 128 * q.0) 128) refl
   where
     by : (t : Bool) → ltb (b - 128 + 128 * q.0) 128 ≡ t → length (continuation_bytes (suc j) (b - 128 + 128 * q.0)) ≤ q.1 + 1
     by true e = rw e (omega arith)
-    by false e = let next : (b - 128 + 128 * q.0) / 128 ≡ q.0 = omega arith in rw (e, next) (omega (arith, rest j))
+    by false e = let following : (b - 128 + 128 * q.0) / 128 ≡ q.0 = omega arith in rw (e, following) (omega (arith, rest j))
 
 continuation_shortest : (k j : ℕ) (bytes : List ℕ) (p : ℕ × ℕ) → AreBytes bytes → continuation_at k bytes ≡ Some p → length (continuation_bytes j p.0) ≤ p.1
 unfolding continuation_at

@@ -9,6 +9,6 @@ pub lines_more : (fields : Fields) (i : ℕ) (f : List ℕ × List ℕ) → slic
 lines_more [] i f h = cc
 lines_more (g ∷ fields) zero f h = let same : g ≡ f = cc in append-nil (line_bytes g) ∙ ap line_bytes same
 lines_more (g ∷ fields) (suc i) f h =
-    let next : suc i + 1 ≡ suc (i + 1) = omega arith in
-    ap (λ n. flat_map line_bytes (take n (g ∷ fields))) next ∙ ap (λ bs. line_bytes g ++ bs) (lines_more fields i f h)
+    let following : suc i + 1 ≡ suc (i + 1) = omega arith in
+    ap (λ n. flat_map line_bytes (take n (g ∷ fields))) following ∙ ap (λ bs. line_bytes g ++ bs) (lines_more fields i f h)
     ∙ sym (append_assoc (line_bytes g) (flat_map line_bytes (take i fields)) (line_bytes f))

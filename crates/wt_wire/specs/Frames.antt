@@ -57,13 +57,13 @@ frame_with_header bytes kind header size =
 
 -- the same, where the length is read after a type of so many bytes
 abbrev pub frame_with_length : List ℕ → ℕ → ℕ → Option (ℕ × ℕ) → Option (Frame × ℕ)
-frame_with_length bytes kind at None = None
-frame_with_length bytes kind at (Some l) = frame_with_header bytes kind (at + l.1) l.0
+frame_with_length bytes kind offset None = None
+frame_with_length bytes kind offset (Some l) = frame_with_header bytes kind (offset + l.1) l.0
 
 -- the signal, where the id of the session is read after a type of so many bytes
 abbrev pub signal_with_id : ℕ → Option (ℕ × ℕ) → Option (Frame × ℕ)
-signal_with_id at None = None
-signal_with_id at (Some s) = Some (Signal s.0, at + s.1)
+signal_with_id offset None = None
+signal_with_id offset (Some s) = Some (Signal s.0, offset + s.1)
 
 -- the signal, or a frame with a length, where the type is read
 abbrev pub frame_with_type : (List ℕ → Option (ℕ × ℕ)) → List ℕ → Option (ℕ × ℕ) → Option (Frame × ℕ)

@@ -4,4 +4,4 @@ use Rattle.std.specs.Prelude.{Option, option_and_then}
 infixl 10 ◌>>=◌
 -- goes on with the value, where there is one
 abbrev pub ◌>>=◌ : {A B : Type 0} → Option A → (A → Option B) → Option B
-first >>= next = option_and_then next first
+first >>= further = option_and_then further first

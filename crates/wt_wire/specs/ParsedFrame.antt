@@ -7,7 +7,7 @@ use Rattle.wt_wire.specs.Frames.{Frame, Data, Headers, Settings, TooLong, Skippe
 -- the frame that an answer denotes, and how many bytes it takes
 abbrev pub parsed_value : (List ℕ → Option (ℕ × ℕ)) → List ℕ → ParsedFrame → Option (Frame × ℕ)
 parsed_value id_at bytes parsed.Incomplete = None
-parsed_value id_at bytes (parsed.Signal at) = signal_with_id at (id_at (drop at bytes))
+parsed_value id_at bytes (parsed.Signal offset) = signal_with_id offset (id_at (drop offset bytes))
 parsed_value id_at bytes (parsed.TooLong header) = Some (TooLong, header)
 parsed_value id_at bytes (parsed.Data header size) = Some (Data (take size (drop header bytes)), header + size)
 parsed_value id_at bytes (parsed.Headers header size) = Some (Headers (take size (drop header bytes)), header + size)
@@ -21,7 +21,7 @@ IsPayload count header size = (1 ≤ header) × (header + size ≤ count) × (si
 -- the answer lies within so many bytes
 abbrev pub LiesWithin : ℕ → ParsedFrame → Type 0
 LiesWithin count parsed.Incomplete = Unit {0}
-LiesWithin count (parsed.Signal at) = (1 ≤ at) × (at ≤ count) × (at ≤ 8)
+LiesWithin count (parsed.Signal offset) = (1 ≤ offset) × (offset ≤ count) × (offset ≤ 8)
 LiesWithin count (parsed.TooLong header) = (1 ≤ header) × (header ≤ count)
 LiesWithin count (parsed.Data header size) = IsPayload count header size
 LiesWithin count (parsed.Headers header size) = IsPayload count header size

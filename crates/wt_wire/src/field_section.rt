@@ -31,12 +31,12 @@ fn read_string(bytes: &[u8], full: u8) -> Option<StringLiteral<'_>>
     ensures within { IfSome result (λ s. s.len ≤ length bytes.now) }
     ensures some { IfSome result (λ s. 1 ≤ s.len) }
 {
-    let (size, at) = read_prefixed(bytes, full)?;
-    if ((bytes.len() - at) as u64) < size {
+    let (size, offset) = read_prefixed(bytes, full)?;
+    if ((bytes.len() - offset) as u64) < size {
         return None;
     }
-    let len = at + size as usize;
-    let text = from_utf8(&bytes[at..len])?;
+    let len = offset + size as usize;
+    let text = from_utf8(&bytes[offset..len])?;
     Some(StringLiteral { text, len })
 }
 
@@ -65,13 +65,13 @@ fn read_line(bytes: &[u8]) -> Option<FieldLine<'_>>
 fn read_lines(mut list: HeaderList, bytes: &[u8]) -> Result<Option<HeaderList>, OutOfMemory>
     ensures { IfOk result (λ r. r ≡ field_lines_from list 0 bytes.now) }
 {
-    let mut at = 0;
-    while at < bytes.len() {
-        let Some(line) = read_line(&bytes[at..]) else {
+    let mut offset = 0;
+    while offset < bytes.len() {
+        let Some(line) = read_line(&bytes[offset..]) else {
             return Ok(None);
         };
         list.set(line.name, line.value)?;
-        at += line.len;
+        offset += line.len;
     }
     Ok(Some(list))
 }

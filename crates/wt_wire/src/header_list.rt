@@ -50,11 +50,11 @@ fn compare(a: &str, b: &str) -> Ordering
 /// The index of the field with this name, or else the index at which it belongs.
 fn find_index(fields: &[(Text, Text)], name: &str) -> Result<usize, usize>
     requires ordered { IsHeaderList fields.now }
-    ensures within { MatchResult result (λ at. at < length fields.now) (λ at. at ≤ length fields.now) }
-    ensures found { (value : List ℕ) (d : List ℕ × List ℕ) → IfOk result (λ at. with_field name.now value fields.now
-        ≡ slice_set fields.now at ((slice_index_or fields.now at d).0, value)) }
-    ensures absent { (value : List ℕ) → IfErr result (λ at. with_field name.now value fields.now
-        ≡ insert fields.now at (name.now, value)) }
+    ensures within { MatchResult result (λ index. index < length fields.now) (λ index. index ≤ length fields.now) }
+    ensures found { (value : List ℕ) (d : List ℕ × List ℕ) → IfOk result (λ index. with_field name.now value fields.now
+        ≡ slice_set fields.now index ((slice_index_or fields.now index d).0, value)) }
+    ensures absent { (value : List ℕ) → IfErr result (λ index. with_field name.now value fields.now
+        ≡ insert fields.now index (name.now, value)) }
 {
     fields.binary_search_by(|field| compare(field.0.as_str(), name))
 }
@@ -88,8 +88,8 @@ fn set_field(fields: &mut Vec<(Text, Text)>, name: &str, value: &str) -> Result<
     let alloc = *fields.allocator();
     let value = Text::from_text(alloc, value)?;
     match find_index(fields.as_slice(), name) {
-        Ok(at) => fields[at].1 = value,
-        Err(at) => fields.insert(at, (Text::from_text(alloc, name)?, value))?,
+        Ok(index) => fields[index].1 = value,
+        Err(index) => fields.insert(index, (Text::from_text(alloc, name)?, value))?,
     }
     Ok(())
 }

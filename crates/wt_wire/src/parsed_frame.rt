@@ -63,14 +63,14 @@ pub fn parse_frame(bytes: &[u8]) -> ParsedFrame
     ensures frame { (id_at : List ℕ → Option (ℕ × ℕ)) → parsed_value id_at bytes.now result ≡ frame_at id_at bytes.now }
     ensures within { LiesWithin (length bytes.now) result }
 {
-    let Some((kind, at)) = read_varint(bytes) else {
+    let Some((kind, offset)) = read_varint(bytes) else {
         return ParsedFrame::Incomplete;
     };
     if kind.into_inner() == WEBTRANSPORT {
-        return ParsedFrame::Signal(at);
+        return ParsedFrame::Signal(offset);
     }
-    let Some((size, length)) = read_varint(&bytes[at..]) else {
+    let Some((size, length)) = read_varint(&bytes[offset..]) else {
         return ParsedFrame::Incomplete;
     };
-    frame_after_header(bytes, kind, at + length, size)
+    frame_after_header(bytes, kind, offset + length, size)
 }

@@ -36,8 +36,8 @@ pub fn driver_error(
 pub fn established(d: &Driver) -> Established
     ensures { OnSessionStream d.now.state.session → result ≡ d.now.state.session }
 {
-    let (id, at) = d.session()?;
-    Some((SessionId::try_from_session_stream(id)?, at))
+    let (id, offset) = d.session()?;
+    Some((SessionId::try_from_session_stream(id)?, offset))
 }
 
 /// The request that is queued, once SETTINGS came: its session, its fields, and where it ends.

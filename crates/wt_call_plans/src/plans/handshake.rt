@@ -162,7 +162,7 @@ fn request_unless(
     }
 }
 
-/// Once the connection stands, a connect waits for the peer's SETTINGS.
+/// Once the connection is established, a connect waits for the peer's SETTINGS.
 fn connected(
     alloc: Global,
     t: &Transport,

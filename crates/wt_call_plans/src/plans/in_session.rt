@@ -60,7 +60,7 @@ pub fn receive_datagram(alloc: Global, session: Established) -> Plan
     }
 }
 
-/// The session's id is told.
+/// The session's id is reported.
 #[tactic(auto, unfolding(wt_session_spec::specs::Plans::plan_of))]
 pub fn session_id(alloc: Global, session: Established) -> Plan
     ensures { (t : TransportState) (d : DriverAnswers) (s : SessionState) → d.session ≡ session
@@ -72,7 +72,7 @@ pub fn session_id(alloc: Global, session: Established) -> Plan
     }
 }
 
-/// The greatest payload of a datagram is told.
+/// The greatest payload of a datagram is reported.
 #[tactic(auto, unfolding(wt_session_spec::specs::Plans::plan_of))]
 pub fn max_datagram_size(alloc: Global, t: &Transport, session: Established) -> Plan
     ensures { (d : DriverAnswers) (s : SessionState) → d.session ≡ session

@@ -95,7 +95,7 @@ impl Source for MemSource {
 /// see the bytes that it took, and how often it failed.
 #[derive(Debug, Drop)]
 pub struct MemSink {
-    taken: Vec<u8>,
+    written: Vec<u8>,
     calls: FailingCalls,
 }
 
@@ -104,7 +104,7 @@ impl Model for MemSink {
 
     ghost Value = { InMemory };
 
-    ghost view = { λ s. record { bytes = s.taken.items; faults = s.calls.faults } };
+    ghost view = { λ s. record { bytes = s.written.items; faults = s.calls.faults } };
 }
 
 impl MemSink {
@@ -113,16 +113,16 @@ impl MemSink {
         ensures { result ≡ record { bytes = []; faults = 0 } }
     {
         MemSink {
-            taken: Vec::new(alloc),
+            written: Vec::new(alloc),
             calls: FailingCalls::new(failing),
         }
     }
 
     /// The bytes that it took.
-    pub fn taken(&self) -> &[u8]
+    pub fn written(&self) -> &[u8]
         ensures { result.now ≡ self.now.bytes }
     {
-        self.taken.as_slice()
+        self.written.as_slice()
     }
 }
 
@@ -137,7 +137,7 @@ impl Sink for MemSink {
         if self.calls.next_fails() {
             return Err(Failed);
         }
-        match self.taken.extend_from_slice(piece) {
+        match self.written.extend_from_slice(piece) {
             Ok(()) => Ok(piece.len()),
             Err(_) => {
                 self.calls.fail();

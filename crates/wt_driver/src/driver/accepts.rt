@@ -15,7 +15,7 @@ ghost use Rattle.wt_inbox.specs.Stage.{Refines, Stage, with_stage};
 ghost use Rattle.wt_seam_spec.specs.Acting.{MayAct};
 ghost use Rattle.wt_seam_spec.specs.Streams.{can_receive, peer_bi, peer_uni};
 ghost use Rattle.wt_spec.specs.Connection.{pass_stream, read_datagram};
-ghost use Rattle.wt_spec.specs.Driver.{log_and_flush, settles_datagram};
+ghost use Rattle.wt_spec.specs.Driver.{log_and_flush, releases_datagram};
 ghost use Rattle.wt_turn.specs.Log.{CallRecord, Called, Log, Sent, StreamAccepted, StreamPassed};
 ghost use Rattle.wt_turn.specs.declared.action.Action.{Action};
 ghost use Rattle.wt_wire.specs.declared.side.Side.{Side};
@@ -37,14 +37,14 @@ use wt_wire::ids::{SessionId, StreamId};
 fn remove_slot(slots: &mut VecDeque<Slot>, most: usize, id: StreamId)
     ensures { IsAmong most id slots.old.items → slots.new.items ≡ without_slot id slots.old.items }
 {
-    let mut at = 0;
-    while at < most && at < slots.len() {
-        let slot = &slots[at];
+    let mut index = 0;
+    while index < most && index < slots.len() {
+        let slot = &slots[index];
         if slot.id() == id {
-            remove_at(slots, at);
+            remove_at(slots, index);
             return;
         }
-        at += 1;
+        index += 1;
     }
 }
 
@@ -77,8 +77,8 @@ impl Driver {
 
     /// Nothing of a stream is read any more, where it can receive: its bytes are let go.
     pub(super) fn give_up(&mut self, id: StreamId)
-        ensures log { (side : Side) (log : Log) (stage : ℕ → Stage) (untaken : List Action) → Refines side self.old.inbox log stage untaken
-            → Refines side self.new.inbox log (with_stage stage id (unless_given_up (can_receive side log id) (stage id))) untaken }
+        ensures log { (side : Side) (log : Log) (stage : ℕ → Stage) (uncollected : List Action) → Refines side self.old.inbox log stage uncollected
+            → Refines side self.new.inbox log (with_stage stage id (unless_given_up (can_receive side log id) (stage id))) uncollected }
         ensures state { self.new.state ≡ record self.old.state { is_open = self.new.inbox.transport.is_open } }
         ensures queue { self.new.queue ≡ self.old.queue }
         ensures settings { self.new.settings ≡ self.old.settings }
@@ -91,8 +91,8 @@ impl Driver {
 
     /// An accept passed the stream: its bytes are let go.
     pub(super) fn pass(&mut self, id: StreamId)
-        ensures log { (side : Side) (log : Log) (stage : ℕ → Stage) (untaken : List Action) → Refines side self.old.inbox log stage untaken
-            → Refines side self.new.inbox log (with_stage stage id (unless_given_up (can_receive side log id) (stage id))) untaken }
+        ensures log { (side : Side) (log : Log) (stage : ℕ → Stage) (uncollected : List Action) → Refines side self.old.inbox log stage uncollected
+            → Refines side self.new.inbox log (with_stage stage id (unless_given_up (can_receive side log id) (stage id))) uncollected }
         ensures state { IsAmong 4 id self.old.state.unis → IsAmong 1 id self.old.state.bis
             → self.new.state ≡ record (release id self.old.state) { is_open = self.new.inbox.transport.is_open } }
         ensures queue { self.new.queue ≡ self.old.queue }
@@ -105,9 +105,9 @@ impl Driver {
 
     /// A stream of another session is stopped and passed, and the work of that moment is done.
     fn pass_stream(&mut self, id: StreamId) -> Result<(), OutOfMemory>
-        ensures log { OfEachLog self.old (λ side log taken. MayAct side log (passing_stop id)
+        ensures log { OfEachLog self.old (λ side log collected. MayAct side log (passing_stop id)
             → MayBeCalled side (Sent (passing_stop id) ∷ log) (StreamPassed id)
-            → OnOk result (Follows side self.new (pass_stream side log id) taken)) }
+            → OnOk result (Follows side self.new (pass_stream side log id) collected)) }
         ensures has_given { OnOk result (self.new.has_given_settings ≡ self.old.has_given_settings) }
     {
         let code = ErrorCode::BufferedStreamRejected.to_code();
@@ -117,8 +117,8 @@ impl Driver {
 
     /// A stream of the session is given, and the work of that moment is done.
     fn give_stream(&mut self, id: StreamId) -> Result<(), OutOfMemory>
-        ensures log { OfEachLog self.old (λ side log taken. MayBeCalled side log (StreamAccepted id)
-            → OnOk result (Follows side self.new (log_and_flush side log (Called (StreamAccepted id))) taken)) }
+        ensures log { OfEachLog self.old (λ side log collected. MayBeCalled side log (StreamAccepted id)
+            → OnOk result (Follows side self.new (log_and_flush side log (Called (StreamAccepted id))) collected)) }
         ensures has_given { OnOk result (self.new.has_given_settings ≡ self.old.has_given_settings) }
     {
         self.release(id);
@@ -231,7 +231,7 @@ impl Driver {
     fn next_datagram(&self, session: SessionId) -> Option<bool>
         ensures { result ≡ is_own session (next_datagram_now self.now) }
     {
-        if self.settled_datagrams >= self.progress.datagrams() {
+        if self.released_datagrams >= self.progress.datagrams() {
             return None;
         }
         match self.queue.front() {
@@ -241,7 +241,7 @@ impl Driver {
     }
 
     /// The datagram in front is received or passed.
-    pub(super) fn settle_datagram(&mut self) -> Result<(), OutOfMemory>
+    pub(super) fn release_datagram(&mut self) -> Result<(), OutOfMemory>
         ensures { OnOk result (self.new
             ≡ record self.old { state = record self.old.state { datagrams = suc self.old.state.datagrams }; queue = without_first self.old.queue }) }
     {
@@ -254,10 +254,10 @@ impl Driver {
         ensures advanced { OnOk result (self.new
             ≡ record self.old { state = record self.old.state { datagrams = suc self.old.state.datagrams }; queue = without_first self.old.queue }) }
     {
-        match self.settled_datagrams.checked_add(1) {
+        match self.released_datagrams.checked_add(1) {
             None => Err(OutOfMemory),
-            Some(settled_datagrams) => {
-                self.settled_datagrams = settled_datagrams;
+            Some(released_datagrams) => {
+                self.released_datagrams = released_datagrams;
                 Ok(self.queue.pop_front())
             }
         }
@@ -266,9 +266,9 @@ impl Driver {
     /// The same, with the work of that moment; the datagram is given.
     fn take_datagram(&mut self) -> Result<Option<Piece>, OutOfMemory>
         ensures piece { IfOk result (λ piece. piece ≡ front_of self.old.queue) }
-        ensures log { (side : Side) (log : Log) (taken : ℕ) (r : CallRecord) → Follows side self.old log taken → settles_datagram r ≡ true
+        ensures log { (side : Side) (log : Log) (collected : ℕ) (r : CallRecord) → Follows side self.old log collected → releases_datagram r ≡ true
             → MayBeCalled side log r
-            → OnOk result (Follows side self.new (log_and_flush side log (Called r)) taken) }
+            → OnOk result (Follows side self.new (log_and_flush side log (Called r)) collected) }
         ensures has_given { OnOk result (self.new.has_given_settings ≡ self.old.has_given_settings) }
     {
         let piece = self.take_front()?;

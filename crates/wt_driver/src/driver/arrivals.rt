@@ -93,7 +93,7 @@ impl Driver {
     /// What came while the connection is open, but for bytes.
     fn note_arrival(&mut self, turn: &Turn) -> Result<(), OutOfMemory>
         ensures inbox { OnOk result (self.new.inbox ≡ self.old.inbox) }
-        ensures log { (side : Side) (log : Log) (stage : ℕ → Stage) (untaken : List Action) → Refines side self.old.inbox log stage untaken
+        ensures log { (side : Side) (log : Log) (stage : ℕ → Stage) (uncollected : List Action) → Refines side self.old.inbox log stage uncollected
             → is_open log ≡ true
             → OnOk result (self.new ≡ after_arrival (transport_view side log) (event_of turn.now) self.old) }
         ensures has_given { OnOk result (self.new.has_given_settings ≡ self.old.has_given_settings) }
@@ -108,7 +108,7 @@ impl Driver {
 
     fn note_arrival_while_open(&mut self, turn: &Turn) -> Result<(), OutOfMemory>
         ensures inbox { OnOk result (self.new.inbox ≡ self.old.inbox) }
-        ensures log { (side : Side) (log : Log) (stage : ℕ → Stage) (untaken : List Action) → Refines side self.old.inbox log stage untaken
+        ensures log { (side : Side) (log : Log) (stage : ℕ → Stage) (uncollected : List Action) → Refines side self.old.inbox log stage uncollected
             → is_open log ≡ true
             → OnOk result (self.new ≡ after_arrival (transport_view side log) (event_of turn.now) self.old) }
         ensures late { OnOk result (self.old.state.is_open ≡ false → self.new ≡ self.old) }
@@ -122,8 +122,8 @@ impl Driver {
 
     fn record_turn(&mut self, turn: &Turn) -> Result<(), OutOfMemory>
         requires { IsTrue (fits_now self.old.inbox.transport turn.now) }
-        ensures log { (side : Side) (log : Log) (stage : ℕ → Stage) (untaken : List Action) → Refines side self.old.inbox log stage untaken
-            → OnOk result (Refines side self.new.inbox (log_turn log turn.now) stage untaken) }
+        ensures log { (side : Side) (log : Log) (stage : ℕ → Stage) (uncollected : List Action) → Refines side self.old.inbox log stage uncollected
+            → OnOk result (Refines side self.new.inbox (log_turn log turn.now) stage uncollected) }
         ensures state { OnOk result (self.new.state ≡ record self.old.state { is_open = self.new.inbox.transport.is_open }) }
         ensures queue { OnOk result (self.new.queue ≡ self.old.queue) }
         ensures settings { OnOk result (self.new.settings ≡ self.old.settings) }
@@ -135,8 +135,8 @@ impl Driver {
     /// Takes in what the transport tells, but for bytes.
     fn note_turn(&mut self, turn: &Turn) -> Result<(), OutOfMemory>
         requires { IsTrue (fits_now self.old.inbox.transport turn.now) }
-        ensures log { (side : Side) (log : Log) (taken : ℕ) (e : Event) → Follows side self.old log taken → event_of turn.now ≡ Some e
-            → OnOk result (EventTaken side log e self.new taken) }
+        ensures log { (side : Side) (log : Log) (collected : ℕ) (e : Event) → Follows side self.old log collected → event_of turn.now ≡ Some e
+            → OnOk result (EventTaken side log e self.new collected) }
         ensures has_given { OnOk result (self.new.has_given_settings ≡ self.old.has_given_settings) }
     {
         self.note_arrival_while_open(turn)?;
@@ -146,8 +146,8 @@ impl Driver {
     /// Takes in an event, and does the work of its moment.
     fn take_event(&mut self, turn: &Turn) -> Result<(), OutOfMemory>
         requires { IsTrue (fits_now self.old.inbox.transport turn.now) }
-        ensures log { (side : Side) (log : Log) (taken : ℕ) (e : Event) → Follows side self.old log taken → event_of turn.now ≡ Some e
-            → OnOk result (Follows side self.new (log_after side log turn.now) taken) }
+        ensures log { (side : Side) (log : Log) (collected : ℕ) (e : Event) → Follows side self.old log collected → event_of turn.now ≡ Some e
+            → OnOk result (Follows side self.new (log_after side log turn.now) collected) }
         ensures has_given { OnOk result (self.new.has_given_settings ≡ self.old.has_given_settings) }
     {
         self.note_turn(turn)?;
@@ -156,9 +156,9 @@ impl Driver {
 
     /// Takes in one byte of a stream.
     fn note_byte(&mut self, id: StreamId, byte: u8) -> Result<(), OutOfMemory>
-        ensures log { (side : Side) (log : Log) (stage : ℕ → Stage) (untaken : List Action) → Refines side self.old.inbox log stage untaken
+        ensures log { (side : Side) (log : Log) (stage : ℕ → Stage) (uncollected : List Action) → Refines side self.old.inbox log stage uncollected
             → fits side log (turns.Bytes id (byte ∷ [])) ≡ true
-            → OnOk result (Refines side self.new.inbox (log_turn log (turns.Bytes id (byte ∷ []))) stage untaken) }
+            → OnOk result (Refines side self.new.inbox (log_turn log (turns.Bytes id (byte ∷ []))) stage uncollected) }
         ensures state { OnOk result (self.new.state ≡ record self.old.state { is_open = self.new.inbox.transport.is_open }) }
         ensures queue { OnOk result (self.new.queue ≡ self.old.queue) }
         ensures settings { OnOk result (self.new.settings ≡ self.old.settings) }
@@ -172,8 +172,8 @@ impl Driver {
 
     /// One byte of a stream, with the work of its moment.
     fn take_byte(&mut self, id: StreamId, byte: u8) -> Result<(), OutOfMemory>
-        ensures log { OfEachLog self.old (λ side log taken. fits side log (turns.Bytes id (byte ∷ [])) ≡ true
-            → OnOk result (Follows side self.new (receive side log id (byte ∷ [])) taken)) }
+        ensures log { OfEachLog self.old (λ side log collected. fits side log (turns.Bytes id (byte ∷ [])) ≡ true
+            → OnOk result (Follows side self.new (receive side log id (byte ∷ [])) collected)) }
         ensures has_given { OnOk result (self.new.has_given_settings ≡ self.old.has_given_settings) }
     {
         self.note_byte(id, byte)?;
@@ -182,14 +182,14 @@ impl Driver {
 
     /// Bytes of a stream, one after another.
     fn take_bytes(&mut self, id: StreamId, bytes: &[u8]) -> Result<(), OutOfMemory>
-        ensures log { OfEachLog self.old (λ side log taken. fits side log (turns.Bytes id bytes.now) ≡ true
-            → OnOk result (Follows side self.new (receive side log id bytes.now) taken)) }
+        ensures log { OfEachLog self.old (λ side log collected. fits side log (turns.Bytes id bytes.now) ≡ true
+            → OnOk result (Follows side self.new (receive side log id bytes.now) collected)) }
         ensures has_given { OnOk result (self.new.has_given_settings ≡ self.old.has_given_settings) }
     {
-        let mut at = 0;
-        while at < bytes.len() {
-            self.take_byte(id, bytes[at])?;
-            at += 1;
+        let mut index = 0;
+        while index < bytes.len() {
+            self.take_byte(id, bytes[index])?;
+            index += 1;
         }
         Ok(())
     }
@@ -197,8 +197,8 @@ impl Driver {
     /// Takes a turn of the transport, and does the work of its moments: bytes come one after another.
     pub fn turn(&mut self, turn: &Turn) -> Result<(), OutOfMemory>
         requires { IsTrue (fits_now self.old.inbox.transport turn.now) }
-        ensures log { OfEachLog self.old (λ side log taken. is_call turn.now ≡ false
-            → OnOk result (Follows side self.new (log_after side log turn.now) taken)) }
+        ensures log { OfEachLog self.old (λ side log collected. is_call turn.now ≡ false
+            → OnOk result (Follows side self.new (log_after side log turn.now) collected)) }
         ensures has_given { OnOk result (self.new.has_given_settings ≡ self.old.has_given_settings) }
     {
         match turn {

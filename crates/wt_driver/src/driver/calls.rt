@@ -6,7 +6,7 @@ ghost use Rattle.wt_seam_spec.specs.Acting.{MayAct};
 ghost use Rattle.wt_turn.specs.Records.{record_of};
 ghost use Rattle.wt_driver_state.specs.OfLog.{FollowsIfOk, OfEachLog, Tells};
 ghost use Rattle.wt_driver_state.specs.Calling.{leaves_at_rest};
-ghost use Rattle.wt_driver_state.specs.Tie.{Follows, TakenIn, untaken_since};
+ghost use Rattle.wt_driver_state.specs.Tie.{Follows, TakenIn, uncollected_since};
 ghost use Rattle.wt_inbox.specs.Stage.{Body, Refines, ResponseHead, Stage, awaits_response, body_offset, with_stage};
 ghost use Rattle.wt_proto.specs.ResponseWalk.{response_offset, response_walk_of};
 ghost use Rattle.wt_seam_spec.specs.Reports.{end_of};
@@ -100,8 +100,8 @@ impl Driver {
     }
 
     fn put_close(&mut self, code: VarInt, reason: Piece) -> Result<(), OutOfMemory>
-        ensures log { (side : Side) (log : Log) (stage : ℕ → Stage) (untaken : List Action) → Refines side self.old.inbox log stage untaken
-            → OnOk result (Refines side self.new.inbox (with_actions (if_open log (actions.Close code reason)) log) stage (newest_first (if_open log (actions.Close code reason)) untaken)) }
+        ensures log { (side : Side) (log : Log) (stage : ℕ → Stage) (uncollected : List Action) → Refines side self.old.inbox log stage uncollected
+            → OnOk result (Refines side self.new.inbox (with_actions (if_open log (actions.Close code reason)) log) stage (newest_first (if_open log (actions.Close code reason)) uncollected)) }
         ensures state { OnOk result (self.new.state ≡ record self.old.state { is_open = self.new.inbox.transport.is_open }) }
         ensures queue { OnOk result (self.new.queue ≡ self.old.queue) }
         ensures settings { OnOk result (self.new.settings ≡ self.old.settings) }
@@ -112,7 +112,7 @@ impl Driver {
 
     /// The actions since the last such call.
     pub fn take_actions(&mut self) -> Actions
-        ensures actions { OfEachLog self.old (λ side log taken. result ≡ joined_actions (untaken_since taken log)) }
+        ensures actions { OfEachLog self.old (λ side log collected. result ≡ joined_actions (uncollected_since collected log)) }
         ensures log { Tells self.old (λ side log. Follows side self.new log (length (actions_of log))) }
         ensures has_given { self.new.has_given_settings ≡ self.old.has_given_settings }
     {
@@ -123,17 +123,17 @@ impl Driver {
 
     /// Takes in what a call did.
     fn note_call(&mut self, call: &Record) -> Result<(), OutOfMemory>
-        ensures log { OfEachLog self.old (λ side log taken. MayBeCalled side log (record_of call.now)
-            → OnOk result (TakenIn side log (Called (record_of call.now)) self.new taken)) }
+        ensures log { OfEachLog self.old (λ side log collected. MayBeCalled side log (record_of call.now)
+            → OnOk result (TakenIn side log (Called (record_of call.now)) self.new collected)) }
         ensures has_given { OnOk result (self.new.has_given_settings ≡ self.old.has_given_settings) }
     {
         match call {
             Record::RequestDelivered(id) => self.deliver(*id),
-            Record::SessionEstablished(id, at) => self.establish(*id, *at)?,
+            Record::SessionEstablished(id, offset) => self.establish(*id, *offset)?,
             Record::StreamAccepted(id) => self.release(*id),
             Record::StreamPassed(id) => self.pass(*id),
-            Record::DatagramReceived => self.settle_datagram()?,
-            Record::DatagramPassed => self.settle_datagram()?,
+            Record::DatagramReceived => self.release_datagram()?,
+            Record::DatagramPassed => self.release_datagram()?,
             Record::StreamGivenUp(id) => self.give_up(*id),
             Record::ResetUnsent(id, code) => self.reset_unsent(*id, *code)?,
             _ => self.note_reading(call),
@@ -144,8 +144,8 @@ impl Driver {
     /// Takes in what a call did of which no work comes: bytes that were read, a priority, or what isn't
     /// kept here.
     fn note_reading(&mut self, call: &Record)
-        ensures log { OfEachLog self.old (λ side log taken. MayBeCalled side log (record_of call.now)
-            → leaves_at_rest (record_of call.now) ≡ true → TakenIn side log (Called (record_of call.now)) self.new taken) }
+        ensures log { OfEachLog self.old (λ side log collected. MayBeCalled side log (record_of call.now)
+            → leaves_at_rest (record_of call.now) ≡ true → TakenIn side log (Called (record_of call.now)) self.new collected) }
         ensures has_given { self.new.has_given_settings ≡ self.old.has_given_settings }
     {
         match call {
@@ -157,9 +157,9 @@ impl Driver {
 
     /// A reset after the end: it counts, and nothing goes out.
     fn reset_unsent(&mut self, id: StreamId, code: VarInt) -> Result<(), OutOfMemory>
-        ensures log { (side : Side) (log : Log) (stage : ℕ → Stage) (untaken : List Action) → Refines side self.old.inbox log stage untaken
+        ensures log { (side : Side) (log : Log) (stage : ℕ → Stage) (uncollected : List Action) → Refines side self.old.inbox log stage uncollected
             → is_open log ≡ false → can_send side log id ≡ true
-            → OnOk result (Refines side self.new.inbox (Called (ResetUnsent id code) ∷ log) stage untaken) }
+            → OnOk result (Refines side self.new.inbox (Called (ResetUnsent id code) ∷ log) stage uncollected) }
         ensures state { OnOk result (self.new.state ≡ record self.old.state { is_open = self.new.inbox.transport.is_open }) }
         ensures queue { OnOk result (self.new.queue ≡ self.old.queue) }
         ensures settings { OnOk result (self.new.settings ≡ self.old.settings) }
@@ -170,9 +170,9 @@ impl Driver {
 
     /// So many unread bytes of a stream are read.
     fn consume(&mut self, id: StreamId, count: usize)
-        ensures log { (side : Side) (log : Log) (stage : ℕ → Stage) (untaken : List Action) (offset : ℕ)
-            → Refines side self.old.inbox log stage untaken → body_offset (stage id) ≡ Some offset
-            → count ≤ length (drop offset (contents log id)) → Refines side self.new.inbox log (with_stage stage id (Body (offset + count))) untaken }
+        ensures log { (side : Side) (log : Log) (stage : ℕ → Stage) (uncollected : List Action) (offset : ℕ)
+            → Refines side self.old.inbox log stage uncollected → body_offset (stage id) ≡ Some offset
+            → count ≤ length (drop offset (contents log id)) → Refines side self.new.inbox log (with_stage stage id (Body (offset + count))) uncollected }
         ensures state { self.new.state ≡ record self.old.state { is_open = self.new.inbox.transport.is_open } }
         ensures queue { self.new.queue ≡ self.old.queue }
         ensures settings { self.new.settings ≡ self.old.settings }
@@ -191,12 +191,12 @@ impl Driver {
 
     /// A client lets its response go, and reads on after it.
     fn pass_response(&mut self, id: StreamId) -> Result<(), OutOfMemory>
-        ensures client { (log : Log) (stage : ℕ → Stage) (untaken : List Action) (at : ℕ) → Refines Client self.old.inbox log stage untaken
+        ensures client { (log : Log) (stage : ℕ → Stage) (uncollected : List Action) (offset : ℕ) → Refines Client self.old.inbox log stage uncollected
             → awaits_response (stage id) ≡ true
-            → response_offset (response_walk_of (contents log id) (end_of (events_of log) id)) ≡ Some at
-            → OnOk result (Refines Client self.new.inbox log (with_stage stage id (Body at)) untaken) }
-        ensures server { (log : Log) (stage : ℕ → Stage) (untaken : List Action) → Refines Server self.old.inbox log stage untaken
-            → OnOk result (Refines Server self.new.inbox log stage untaken) }
+            → response_offset (response_walk_of (contents log id) (end_of (events_of log) id)) ≡ Some offset
+            → OnOk result (Refines Client self.new.inbox log (with_stage stage id (Body offset)) uncollected) }
+        ensures server { (log : Log) (stage : ℕ → Stage) (uncollected : List Action) → Refines Server self.old.inbox log stage uncollected
+            → OnOk result (Refines Server self.new.inbox log stage uncollected) }
         ensures state { OnOk result (self.new.state ≡ record self.old.state { is_open = self.new.inbox.transport.is_open }) }
         ensures queue { OnOk result (self.new.queue ≡ self.old.queue) }
         ensures settings { OnOk result (self.new.settings ≡ self.old.settings) }
@@ -208,34 +208,34 @@ impl Driver {
         Ok(())
     }
 
-    fn set_session(&mut self, id: StreamId, at: usize)
-        ensures { self.new ≡ with_state self.old (record self.old.state { session = Some (id, at) }) }
+    fn set_session(&mut self, id: StreamId, offset: usize)
+        ensures { self.new ≡ with_state self.old (record self.old.state { session = Some (id, offset) }) }
     {
-        self.session = Some((id, at));
+        self.session = Some((id, offset));
     }
 
     /// The session is established: its part of the stream begins at this offset.
-    fn establish(&mut self, id: StreamId, at: usize) -> Result<(), OutOfMemory>
-        ensures client { (log : Log) (stage : ℕ → Stage) (untaken : List Action) → Refines Client self.old.inbox log stage untaken
+    fn establish(&mut self, id: StreamId, offset: usize) -> Result<(), OutOfMemory>
+        ensures client { (log : Log) (stage : ℕ → Stage) (uncollected : List Action) → Refines Client self.old.inbox log stage uncollected
             → awaits_response (stage id) ≡ true
-            → response_offset (response_walk_of (contents log id) (end_of (events_of log) id)) ≡ Some at
-            → OnOk result (Refines Client self.new.inbox log (with_stage stage id (Body at)) untaken) }
-        ensures server { (log : Log) (stage : ℕ → Stage) (untaken : List Action) → Refines Server self.old.inbox log stage untaken
-            → OnOk result (Refines Server self.new.inbox log stage untaken) }
-        ensures state { OnOk result (self.new.state ≡ record self.old.state { session = Some (id, at); is_open = self.new.inbox.transport.is_open }) }
+            → response_offset (response_walk_of (contents log id) (end_of (events_of log) id)) ≡ Some offset
+            → OnOk result (Refines Client self.new.inbox log (with_stage stage id (Body offset)) uncollected) }
+        ensures server { (log : Log) (stage : ℕ → Stage) (uncollected : List Action) → Refines Server self.old.inbox log stage uncollected
+            → OnOk result (Refines Server self.new.inbox log stage uncollected) }
+        ensures state { OnOk result (self.new.state ≡ record self.old.state { session = Some (id, offset); is_open = self.new.inbox.transport.is_open }) }
         ensures queue { OnOk result (self.new.queue ≡ self.old.queue) }
         ensures settings { OnOk result (self.new.settings ≡ self.old.settings) }
         ensures has_given { OnOk result (self.new.has_given_settings ≡ self.old.has_given_settings) }
     {
         self.pass_response(id)?;
-        self.set_session(id, at);
+        self.set_session(id, offset);
         Ok(())
     }
 
     fn set_priority(&mut self, id: StreamId, priority: i32)
-        ensures log { (side : Side) (log : Log) (stage : ℕ → Stage) (untaken : List Action) → Refines side self.old.inbox log stage untaken
+        ensures log { (side : Side) (log : Log) (stage : ℕ → Stage) (uncollected : List Action) → Refines side self.old.inbox log stage uncollected
             → can_send side log id ≡ true
-            → Refines side self.new.inbox (Called (PrioritySet id priority) ∷ log) stage untaken }
+            → Refines side self.new.inbox (Called (PrioritySet id priority) ∷ log) stage uncollected }
         ensures state { self.new.state ≡ record self.old.state { is_open = self.new.inbox.transport.is_open } }
         ensures queue { self.new.queue ≡ self.old.queue }
         ensures settings { self.new.settings ≡ self.old.settings }
@@ -249,8 +249,8 @@ impl Driver {
     /// Takes in what a call did, and does the work of its moment. What the call sent of its own is put
     /// out before.
     pub fn record_call(&mut self, call: &Record) -> Result<(), OutOfMemory>
-        ensures log { OfEachLog self.old (λ side log taken. MayBeCalled side log (record_of call.now)
-            → OnOk result (Follows side self.new (log_and_flush side log (Called (record_of call.now))) taken)) }
+        ensures log { OfEachLog self.old (λ side log collected. MayBeCalled side log (record_of call.now)
+            → OnOk result (Follows side self.new (log_and_flush side log (Called (record_of call.now))) collected)) }
         ensures has_given { OnOk result (self.new.has_given_settings ≡ self.old.has_given_settings) }
     {
         self.note_call(call)?;
@@ -260,8 +260,8 @@ impl Driver {
     /// Takes in what a call did of which no work comes: a driver at rest stays so. It takes no memory.
     pub fn note_at_rest(&mut self, call: &Record)
         requires { leaves_at_rest (record_of call.now) ≡ true }
-        ensures log { OfEachLog self.old (λ side log taken. MayBeCalled side log (record_of call.now)
-            → Follows side self.new (log_and_flush side log (Called (record_of call.now))) taken) }
+        ensures log { OfEachLog self.old (λ side log collected. MayBeCalled side log (record_of call.now)
+            → Follows side self.new (log_and_flush side log (Called (record_of call.now))) collected) }
         ensures has_given { self.new.has_given_settings ≡ self.old.has_given_settings }
     {
         self.note_reading(call);
@@ -271,9 +271,9 @@ impl Driver {
     // ---- what calls send
 
     fn put_out(&mut self, action: Action) -> Result<(), OutOfMemory>
-        ensures log { (side : Side) (log : Log) (stage : ℕ → Stage) (untaken : List Action) → Refines side self.old.inbox log stage untaken
+        ensures log { (side : Side) (log : Log) (stage : ℕ → Stage) (uncollected : List Action) → Refines side self.old.inbox log stage uncollected
             → MayAct side log action
-            → OnOk result (Refines side self.new.inbox (Sent action ∷ log) stage (action ∷ untaken)) }
+            → OnOk result (Refines side self.new.inbox (Sent action ∷ log) stage (action ∷ uncollected)) }
         ensures state { OnOk result (self.new.state ≡ record self.old.state { is_open = self.new.inbox.transport.is_open }) }
         ensures queue { OnOk result (self.new.queue ≡ self.old.queue) }
         ensures settings { OnOk result (self.new.settings ≡ self.old.settings) }
@@ -284,8 +284,8 @@ impl Driver {
 
     /// An action of a call goes out.
     pub fn act(&mut self, action: Action) -> Result<(), OutOfMemory>
-        ensures log { OfEachLog self.old (λ side log taken. MayAct side log action → SparesControl side log action
-            → OnOk result (Follows side self.new (Sent action ∷ log) taken)) }
+        ensures log { OfEachLog self.old (λ side log collected. MayAct side log action → SparesControl side log action
+            → OnOk result (Follows side self.new (Sent action ∷ log) collected)) }
         ensures has_given { OnOk result (self.new.has_given_settings ≡ self.old.has_given_settings) }
     {
         self.put_out(action)
@@ -294,12 +294,12 @@ impl Driver {
     // ---- the handshake
 
     fn read_response(&mut self, id: StreamId) -> Result<ResponseWalk, OutOfMemory>
-        ensures answer { (side : Side) (log : Log) (stage : ℕ → Stage) (untaken : List Action)
-            → Refines side self.old.inbox log stage untaken → awaits_response (stage id) ≡ true
+        ensures answer { (side : Side) (log : Log) (stage : ℕ → Stage) (uncollected : List Action)
+            → Refines side self.old.inbox log stage uncollected → awaits_response (stage id) ≡ true
             → IfOk result (λ walk. walk ≡ response_walk_of (contents log id) (end_of (events_of log) id)) }
-        ensures log { (side : Side) (log : Log) (stage : ℕ → Stage) (untaken : List Action) → Refines side self.old.inbox log stage untaken
+        ensures log { (side : Side) (log : Log) (stage : ℕ → Stage) (uncollected : List Action) → Refines side self.old.inbox log stage uncollected
             → awaits_response (stage id) ≡ true
-            → OnOk result (Refines side self.new.inbox log (with_stage stage id ResponseHead) untaken) }
+            → OnOk result (Refines side self.new.inbox log (with_stage stage id ResponseHead) uncollected) }
         ensures state { OnOk result (self.new.state ≡ self.old.state) }
         ensures queue { OnOk result (self.new.queue ≡ self.old.queue) }
         ensures settings { OnOk result (self.new.settings ≡ self.old.settings) }
@@ -310,7 +310,7 @@ impl Driver {
 
     /// The response on a client's request stream, as far as it came. Nothing of it is let go.
     pub fn response(&mut self, id: StreamId) -> Result<ResponseWalk, OutOfMemory>
-        ensures log { OfEachLog self.old (λ side log taken. AwaitsResponse side log id → OnOk result (Follows side self.new log taken)) }
+        ensures log { OfEachLog self.old (λ side log collected. AwaitsResponse side log id → OnOk result (Follows side self.new log collected)) }
         ensures answer { Tells self.old (λ side log. AwaitsResponse side log id
             → IfOk result (λ walk. walk ≡ response_walk_of (contents log id) (end_of (events_of log) id))) }
         ensures state { OnOk result (self.new.state ≡ self.old.state) }
@@ -376,7 +376,7 @@ impl Driver {
     pub fn accept_settings(&mut self) -> Result<Poll<Result<Settings, DriverError>>, OutOfMemory>
         ensures answer { IfOk result (λ p. p
             ≡ settings_or (due_settings self.old) (result_of self.old.state.is_open self.old.state.progress.ending)) }
-        ensures given { (side : Side) (log : Log) (taken : ℕ) → Follows side self.old log taken
+        ensures given { (side : Side) (log : Log) (collected : ℕ) → Follows side self.old log collected
             → IfOk result (λ p. p
             ≡ settings_or (unless_given self.old.has_given_settings (peer_settings side log)) (result_of self.old.state.is_open self.old.state.progress.ending)) }
         ensures value { OnOk result (self.new

@@ -55,10 +55,10 @@ impl Driver {
     // ---- the scan of the slots
 
     fn scan_unis(&mut self) -> Result<(), OutOfMemory>
-        ensures log { OfEachLog self.old.inbox (λ side log stage untaken. is_open log ≡ true → AllAwait halves.Uni stage self.old.state.unis
+        ensures log { OfEachLog self.old.inbox (λ side log stage uncollected. is_open log ≡ true → AllAwait halves.Uni stage self.old.state.unis
             → SlotsReceive side log self.old.state.unis → AreDistinct self.old.state.unis
             → IsBounded 4 0 self.old.state.unis
-            → OnOk result (Moves side log untaken self.old self.new (uni_stages (transport_view side log) self.old.state stage) (scan_uni_slots (transport_view side log) self.old.state) self.old.settings)) }
+            → OnOk result (Moves side log uncollected self.old self.new (uni_stages (transport_view side log) self.old.state stage) (scan_uni_slots (transport_view side log) self.old.state) self.old.settings)) }
         ensures has_given { OnOk result (self.new.has_given_settings ≡ self.old.has_given_settings) }
     {
         scan(
@@ -71,10 +71,10 @@ impl Driver {
     }
 
     fn scan_bis(&mut self) -> Result<(), OutOfMemory>
-        ensures log { OfEachLog self.old.inbox (λ side log stage untaken. is_open log ≡ true → AllAwait halves.Bi stage self.old.state.bis
+        ensures log { OfEachLog self.old.inbox (λ side log stage uncollected. is_open log ≡ true → AllAwait halves.Bi stage self.old.state.bis
             → SlotsReceive side log self.old.state.bis → AreDistinct self.old.state.bis
             → IsBounded 1 0 self.old.state.bis
-            → OnOk result (Moves side log untaken self.old self.new (bi_stages (transport_view side log) self.old.state stage) (scan_bi_slots (transport_view side log) self.old.state) self.old.settings)) }
+            → OnOk result (Moves side log uncollected self.old self.new (bi_stages (transport_view side log) self.old.state stage) (scan_bi_slots (transport_view side log) self.old.state) self.old.settings)) }
         ensures has_given { OnOk result (self.new.has_given_settings ≡ self.old.has_given_settings) }
     {
         scan(
@@ -107,8 +107,8 @@ impl Driver {
             → result ≡ ((transport_view side log).ready && self.now.state.datagrams == self.now.state.progress.datagrams)) }
     {
         let is_ready = self.inbox.is_ready();
-        let is_settled = self.settled_datagrams == self.progress.datagrams();
-        is_ready && is_settled
+        let is_all_released = self.released_datagrams == self.progress.datagrams();
+        is_ready && is_all_released
     }
 
     /// One datagram is dequeued at a time.
@@ -134,10 +134,10 @@ impl Driver {
     }
 
     fn end_session(&mut self, id: StreamId) -> Result<(), OutOfMemory>
-        ensures log { (side : Side) (log : Log) (stage : ℕ → Stage) (untaken : List Action) (at : ℕ)
-            → Refines side self.old.inbox log stage untaken → session_offset (stage id) ≡ Some at
-            → OnOk result (Moves side log untaken self.old self.new (with_stage stage id Anywhere)
-            (record self.old.state { progress = session_read (drop at (contents log id)) (end_of (events_of log) id) self.old.state.progress }) self.old.settings) }
+        ensures log { (side : Side) (log : Log) (stage : ℕ → Stage) (uncollected : List Action) (offset : ℕ)
+            → Refines side self.old.inbox log stage uncollected → session_offset (stage id) ≡ Some offset
+            → OnOk result (Moves side log uncollected self.old self.new (with_stage stage id Anywhere)
+            (record self.old.state { progress = session_read (drop offset (contents log id)) (end_of (events_of log) id) self.old.state.progress }) self.old.settings) }
         ensures has_given { OnOk result (self.new.has_given_settings ≡ self.old.has_given_settings) }
     {
         let (walk, by_capsule) = self.inbox.release_session(id)?;
@@ -146,22 +146,22 @@ impl Driver {
     }
 
     fn has_session_end(&mut self, id: StreamId) -> Result<bool, OutOfMemory>
-        ensures answer { (side : Side) (log : Log) (stage : ℕ → Stage) (untaken : List Action) (at : ℕ)
-            → Refines side self.old.inbox log stage untaken → session_offset (stage id) ≡ Some at
-            → IfOk result (λ so. so ≡ is_over (session_walk_of (drop at (contents log id)) (end_of (events_of log) id))) }
-        ensures log { (side : Side) (log : Log) (stage : ℕ → Stage) (untaken : List Action) (at : ℕ)
-            → Refines side self.old.inbox log stage untaken → session_offset (stage id) ≡ Some at
-            → OnOk result (Moves side log untaken self.old self.new (with_stage stage id (SessionBody at)) self.old.state self.old.settings) }
+        ensures answer { (side : Side) (log : Log) (stage : ℕ → Stage) (uncollected : List Action) (offset : ℕ)
+            → Refines side self.old.inbox log stage uncollected → session_offset (stage id) ≡ Some offset
+            → IfOk result (λ so. so ≡ is_over (session_walk_of (drop offset (contents log id)) (end_of (events_of log) id))) }
+        ensures log { (side : Side) (log : Log) (stage : ℕ → Stage) (uncollected : List Action) (offset : ℕ)
+            → Refines side self.old.inbox log stage uncollected → session_offset (stage id) ≡ Some offset
+            → OnOk result (Moves side log uncollected self.old self.new (with_stage stage id (SessionBody offset)) self.old.state self.old.settings) }
         ensures has_given { OnOk result (self.new.has_given_settings ≡ self.old.has_given_settings) }
     {
         self.inbox.has_session_end(id)
     }
 
     fn read_session(&mut self, id: StreamId) -> Result<(), OutOfMemory>
-        ensures log { (side : Side) (log : Log) (stage : ℕ → Stage) (untaken : List Action) (at : ℕ)
-            → Refines side self.old.inbox log stage untaken → session_offset (stage id) ≡ Some at
-            → OnOk result (Moves side log untaken self.old self.new (with_stage stage id (session_stage (is_over (session_walk_of (drop at (contents log id)) (end_of (events_of log) id))) at))
-            (record self.old.state { progress = session_read (drop at (contents log id)) (end_of (events_of log) id) self.old.state.progress }) self.old.settings) }
+        ensures log { (side : Side) (log : Log) (stage : ℕ → Stage) (uncollected : List Action) (offset : ℕ)
+            → Refines side self.old.inbox log stage uncollected → session_offset (stage id) ≡ Some offset
+            → OnOk result (Moves side log uncollected self.old self.new (with_stage stage id (session_stage (is_over (session_walk_of (drop offset (contents log id)) (end_of (events_of log) id))) offset))
+            (record self.old.state { progress = session_read (drop offset (contents log id)) (end_of (events_of log) id) self.old.state.progress }) self.old.settings) }
         ensures has_given { OnOk result (self.new.has_given_settings ≡ self.old.has_given_settings) }
     {
         let is_over = self.has_session_end(id)?;
@@ -172,8 +172,8 @@ impl Driver {
     }
 
     fn walk_session(&mut self, session: Option<(StreamId, usize)>) -> Result<(), OutOfMemory>
-        ensures log { OfEachLog self.old.inbox (λ side log stage untaken. WalkFrom session_offset stage session
-            → OnOk result (Moves side log untaken self.old self.new (session_stages (transport_view side log) session stage) (record self.old.state { progress = check_session (transport_view side log) session self.old.state.progress }) self.old.settings)) }
+        ensures log { OfEachLog self.old.inbox (λ side log stage uncollected. WalkFrom session_offset stage session
+            → OnOk result (Moves side log uncollected self.old self.new (session_stages (transport_view side log) session stage) (record self.old.state { progress = check_session (transport_view side log) session self.old.state.progress }) self.old.settings)) }
         ensures has_given { OnOk result (self.new.has_given_settings ≡ self.old.has_given_settings) }
     {
         match session {
@@ -218,9 +218,9 @@ impl Driver {
 
     /// The peer's end of the session ends the connection.
     fn check_session(&mut self) -> Result<(), OutOfMemory>
-        ensures log { OfEachLog self.old.inbox (λ side log stage untaken. (self.old.state.progress.ending ≡ None
+        ensures log { OfEachLog self.old.inbox (λ side log stage uncollected. (self.old.state.progress.ending ≡ None
             → WalkFrom session_offset stage self.old.state.session)
-            → OnOk result (Moves side log untaken self.old self.new (unless_ended_stage self.old.state.progress.ending (session_stages (transport_view side log) self.old.state.session stage) stage)
+            → OnOk result (Moves side log uncollected self.old self.new (unless_ended_stage self.old.state.progress.ending (session_stages (transport_view side log) self.old.state.session stage) stage)
             (record self.old.state { progress = unless_ended self.old.state.progress.ending (check_session (transport_view side log) self.old.state.session) self.old.state.progress }) self.old.settings)) }
         ensures has_given { OnOk result (self.new.has_given_settings ≡ self.old.has_given_settings) }
     {
@@ -256,11 +256,11 @@ impl Driver {
     }
 
     fn read_control(&mut self, id: StreamId) -> Result<(), OutOfMemory>
-        ensures log { (side : Side) (log : Log) (stage : ℕ → Stage) (untaken : List Action) (at : ℕ)
-            → Refines side self.old.inbox log stage untaken → control_offset (stage id) ≡ Some at
-            → OnOk result (Moves side log untaken self.old self.new (with_stage stage id (ControlBody at))
-            (record self.old.state { progress = control_read (control_walk_of (drop at (contents log id)) (end_of (events_of log) id)) self.old.state.progress })
-            (option_or (control_walk_of (drop at (contents log id)) (end_of (events_of log) id)).settings self.old.settings)) }
+        ensures log { (side : Side) (log : Log) (stage : ℕ → Stage) (uncollected : List Action) (offset : ℕ)
+            → Refines side self.old.inbox log stage uncollected → control_offset (stage id) ≡ Some offset
+            → OnOk result (Moves side log uncollected self.old self.new (with_stage stage id (ControlBody offset))
+            (record self.old.state { progress = control_read (control_walk_of (drop offset (contents log id)) (end_of (events_of log) id)) self.old.state.progress })
+            (option_or (control_walk_of (drop offset (contents log id)) (end_of (events_of log) id)).settings self.old.settings)) }
         ensures has_given { OnOk result (self.new.has_given_settings ≡ self.old.has_given_settings) }
     {
         match self.inbox.control_walk(id) {
@@ -273,8 +273,8 @@ impl Driver {
     }
 
     fn walk_control(&mut self, control: Option<(StreamId, usize)>) -> Result<(), OutOfMemory>
-        ensures log { OfEachLog self.old.inbox (λ side log stage untaken. WalkFrom control_offset stage control
-            → OnOk result (Moves side log untaken self.old self.new (control_stages control stage)
+        ensures log { OfEachLog self.old.inbox (λ side log stage uncollected. WalkFrom control_offset stage control
+            → OnOk result (Moves side log uncollected self.old self.new (control_stages control stage)
             (record self.old.state { progress = check_control (transport_view side log) control self.old.state.progress }) (option_or (settings_read (transport_view side log) control) self.old.settings))) }
         ensures has_given { OnOk result (self.new.has_given_settings ≡ self.old.has_given_settings) }
     {
@@ -289,8 +289,8 @@ impl Driver {
 
     /// The peer's control stream after its type.
     fn check_control(&mut self) -> Result<(), OutOfMemory>
-        ensures log { OfEachLog self.old.inbox (λ side log stage untaken. WalkFrom control_offset stage self.old.state.dispatched.control
-            → OnOk result (Moves side log untaken self.old self.new (unless_ended_stage self.old.state.progress.ending (control_stages self.old.state.dispatched.control stage) stage)
+        ensures log { OfEachLog self.old.inbox (λ side log stage uncollected. WalkFrom control_offset stage self.old.state.dispatched.control
+            → OnOk result (Moves side log uncollected self.old self.new (unless_ended_stage self.old.state.progress.ending (control_stages self.old.state.dispatched.control stage) stage)
             (record self.old.state { progress = unless_ended self.old.state.progress.ending (check_control (transport_view side log) self.old.state.dispatched.control) self.old.state.progress }) (settings_noted (transport_view side log) self.old.state self.old.settings))) }
         ensures has_given { OnOk result (self.new.has_given_settings ≡ self.old.has_given_settings) }
     {
@@ -346,9 +346,9 @@ impl Driver {
 
     /// The checks in their order, up to the first that ends the connection.
     fn run_checks(&mut self) -> Result<(), OutOfMemory>
-        ensures log { OfEachLog self.old.inbox (λ side log stage untaken. is_open log ≡ true → HasDatagram side log self.old
+        ensures log { OfEachLog self.old.inbox (λ side log stage uncollected. is_open log ≡ true → HasDatagram side log self.old
             → MayCheck (transport_view side log) self.old.state stage
-            → OnOk result (Moves side log untaken self.old self.new (check_stages (transport_view side log) self.old.state stage) (run_checks (transport_view side log) self.old.state) (settings_checked (transport_view side log) self.old.state self.old.settings))) }
+            → OnOk result (Moves side log uncollected self.old self.new (check_stages (transport_view side log) self.old.state stage) (run_checks (transport_view side log) self.old.state) (settings_checked (transport_view side log) self.old.state self.old.settings))) }
         ensures has_given { OnOk result (self.new.has_given_settings ≡ self.old.has_given_settings) }
     {
         self.check_datagram()?;
@@ -368,9 +368,9 @@ impl Driver {
 
     /// The whole scan of a moment.
     fn scan(&mut self) -> Result<(), OutOfMemory>
-        ensures log { OfEachLog self.old.inbox (λ side log stage untaken. is_open log ≡ true → HasDatagram side log self.old
+        ensures log { OfEachLog self.old.inbox (λ side log stage uncollected. is_open log ≡ true → HasDatagram side log self.old
             → MayScan (transport_view side log) self.old.state stage → CanGiveUp side log self.old.state
-            → OnOk result (Moves side log untaken self.old self.new (scanned_stages (transport_view side log) self.old.state stage) (scan_state (transport_view side log) self.old.state) (settings_scanned (transport_view side log) self.old.state self.old.settings))) }
+            → OnOk result (Moves side log uncollected self.old self.new (scanned_stages (transport_view side log) self.old.state stage) (scan_state (transport_view side log) self.old.state) (settings_scanned (transport_view side log) self.old.state self.old.settings))) }
         ensures has_given { OnOk result (self.new.has_given_settings ≡ self.old.has_given_settings) }
     {
         self.begin_scan();
@@ -381,8 +381,8 @@ impl Driver {
 
     /// The work of a moment, as long as the connection is open: the scan, and what goes out then.
     pub(super) fn scan_and_flush(&mut self) -> Result<(), OutOfMemory>
-        ensures log { (side : Side) (log : Log) (m : Entry) (taken : ℕ) → TakenIn side log m self.old taken
-            → OnOk result (Follows side self.new (log_and_flush side log m) taken) }
+        ensures log { (side : Side) (log : Log) (m : Entry) (collected : ℕ) → TakenIn side log m self.old collected
+            → OnOk result (Follows side self.new (log_and_flush side log m) collected) }
         ensures closed { OnOk result (self.old.state.is_open ≡ false → self.new ≡ self.old) }
         ensures has_given { OnOk result (self.new.has_given_settings ≡ self.old.has_given_settings) }
     {
@@ -396,9 +396,9 @@ impl Driver {
     /// No work comes of a call that leaves a driver at rest: what the moment before had to stop is
     /// forgotten.
     pub(super) fn stay_at_rest(&mut self)
-        ensures log { (side : Side) (log : Log) (call : CallRecord) (taken : ℕ) → leaves_at_rest call ≡ true
-            → TakenIn side log (Called call) self.old taken
-            → Follows side self.new (log_and_flush side log (Called call)) taken }
+        ensures log { (side : Side) (log : Log) (call : CallRecord) (collected : ℕ) → leaves_at_rest call ≡ true
+            → TakenIn side log (Called call) self.old collected
+            → Follows side self.new (log_and_flush side log (Called call)) collected }
         ensures has_given { self.new.has_given_settings ≡ self.old.has_given_settings }
     {
         if self.inbox.is_open() {
@@ -410,9 +410,9 @@ impl Driver {
 impl Driver {
     /// What goes out after a moment, in its order.
     pub(super) fn flush(&mut self) -> Result<(), OutOfMemory>
-        ensures log { OfEachLog self.old.inbox (λ side log stage untaken. is_open log ≡ true
+        ensures log { OfEachLog self.old.inbox (λ side log stage uncollected. is_open log ≡ true
             → control_sent side log ≡ self.old.state.control_sent → MayFlush side log self.old.state.session self.old.state.progress
-            → OnOk result (Flushes side log stage untaken (actions_after (transport_view side log) (control_sent side log) self.old.state.session self.old.state.progress) self.new.inbox self.new.state.control_sent)) }
+            → OnOk result (Flushes side log stage uncollected (actions_after (transport_view side log) (control_sent side log) self.old.state.session self.old.state.progress) self.new.inbox self.new.state.control_sent)) }
         ensures rest { OnOk result (self.new.state
             ≡ record self.old.state { control_sent = self.new.state.control_sent; is_open = self.new.state.is_open }) }
         ensures queue { OnOk result (self.new.queue ≡ self.old.queue) }

@@ -63,10 +63,10 @@ impl Driver {
     // ---- a client's stream
 
     fn open_bi(&mut self) -> Result<Option<StreamId>, OutOfMemory>
-        ensures id { (side : Side) (log : Log) (stage : ℕ → Stage) (untaken : List Action) → Refines side self.old.inbox log stage untaken
+        ensures id { (side : Side) (log : Log) (stage : ℕ → Stage) (uncollected : List Action) → Refines side self.old.inbox log stage uncollected
             → IfOk result (λ id. id ≡ opened_id side log (local_bi side)) }
-        ensures log { (side : Side) (log : Log) (stage : ℕ → Stage) (untaken : List Action) → Refines side self.old.inbox log stage untaken
-            → OnOk result (Refines side self.new.inbox (with_actions (actions_to_open side log (local_bi side)) log) stage (newest_first (actions_to_open side log (local_bi side)) untaken)) }
+        ensures log { (side : Side) (log : Log) (stage : ℕ → Stage) (uncollected : List Action) → Refines side self.old.inbox log stage uncollected
+            → OnOk result (Refines side self.new.inbox (with_actions (actions_to_open side log (local_bi side)) log) stage (newest_first (actions_to_open side log (local_bi side)) uncollected)) }
         ensures state { OnOk result (self.new.state ≡ record self.old.state { is_open = self.new.inbox.transport.is_open }) }
         ensures queue { OnOk result (self.new.queue ≡ self.old.queue) }
         ensures settings { OnOk result (self.new.settings ≡ self.old.settings) }
@@ -95,9 +95,9 @@ impl Driver {
 
     /// Registers a session where none was registered.
     fn register(&mut self, id: StreamId, offset: usize) -> Result<(), OutOfMemory>
-        ensures log { OfEachLog self.old (λ side log taken. is_open log ≡ true
+        ensures log { OfEachLog self.old (λ side log collected. is_open log ≡ true
             → (may_register log ≡ true → MayBeCalled side log (SessionEstablished id offset))
-            → OnOk result (Follows side self.new (log_once_registered side log id offset) taken)) }
+            → OnOk result (Follows side self.new (log_once_registered side log id offset) collected)) }
         ensures further { OnOk result (is_some self.old.state.session ≡ true → self.new ≡ self.old) }
         ensures has_given { OnOk result (self.new.has_given_settings ≡ self.old.has_given_settings) }
     {
@@ -115,8 +115,8 @@ impl Driver {
         offset: usize,
     ) -> Result<Result<(), DriverError>, OutOfMemory>
         ensures answer { IfOk result (λ r. r ≡ registered_answer (result_of self.old.state.is_open self.old.state.progress.ending)) }
-        ensures log { OfEachLog self.old (λ side log taken. (may_register log ≡ true → MayBeCalled side log (SessionEstablished id offset))
-            → OnOk result (Follows side self.new (log_once_registered side log id offset) taken)) }
+        ensures log { OfEachLog self.old (λ side log collected. (may_register log ≡ true → MayBeCalled side log (SessionEstablished id offset))
+            → OnOk result (Follows side self.new (log_once_registered side log id offset) collected)) }
         ensures further { OnOk result (is_some self.old.state.session ≡ true → self.new ≡ self.old) }
         ensures late { OnOk result (self.old.state.is_open ≡ false → self.new ≡ self.old) }
         ensures has_given { OnOk result (self.new.has_given_settings ≡ self.old.has_given_settings) }

@@ -3,7 +3,7 @@ use super::harness::runs;
 use wt_wire::side::Side;
 
 #[test]
-fn a_response_is_told_until_its_session_is_established(rt: HostRuntime) {
+fn a_response_is_reported_until_its_session_is_established(rt: HostRuntime) {
     let script = "
         dial
         > done ; dial v4:7f000001:443 68

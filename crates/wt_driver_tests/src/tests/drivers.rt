@@ -71,7 +71,7 @@ pub fn dial(rt: &impl Abort, alloc: Global) -> Action {
     Action::Dial { address, name }
 }
 
-/// How the connection ended. One that isn't there is told as closed by this end.
+/// How the connection ended. One that isn't there is reported as closed by this end.
 fn ended(error: DriverError) -> ConnectionError {
     match error {
         DriverError::Proto(code) => ConnectionError::LocalH3Error(H3Error::new(code)),
@@ -109,8 +109,8 @@ pub fn receive_datagram(rt: &impl Abort, driver: &mut Driver) -> Reply {
 /// The request, which ends at the offset 83 as every one does that is given in these tests.
 pub fn accept_session(rt: &impl Abort, driver: &mut Driver) -> Reply {
     match driver.accept_session().expect(rt, "no memory") {
-        Poll::Ready(Ok((id, headers, at))) => {
-            assert_eq!(rt; at, 83);
+        Poll::Ready(Ok((id, headers, offset))) => {
+            assert_eq!(rt; offset, 83);
             let id = SessionId::try_from_session_stream(id).expect(rt, "no session");
             Reply::Request { id, headers }
         }
@@ -135,18 +135,18 @@ pub fn open_session(rt: &impl Abort, driver: &mut Driver) -> Reply {
     }
 }
 
-pub fn register(rt: &impl Abort, driver: &mut Driver, id: StreamId, at: usize) -> Reply {
-    match driver.register_session(id, at).expect(rt, "no memory") {
+pub fn register(rt: &impl Abort, driver: &mut Driver, id: StreamId, offset: usize) -> Reply {
+    match driver.register_session(id, offset).expect(rt, "no memory") {
         Ok(()) => Reply::Done,
         Err(error) => Reply::Failed(ended(error)),
     }
 }
 
-/// How many bytes the response has, where it is there; a stream that ended without one is told as a rejection.
+/// How many bytes the response has, where it is there; a stream that ended without one is reported as a rejection.
 pub fn response(rt: &impl Abort, driver: &mut Driver) -> Reply {
     match driver.response(stream(0)).expect(rt, "no memory") {
         ResponseWalk::Incomplete => Reply::Pending,
-        ResponseWalk::Response(_, at) => Reply::Count(at as u64),
+        ResponseWalk::Response(_, offset) => Reply::Count(offset as u64),
         ResponseWalk::Ended => Reply::Rejected,
         ResponseWalk::Fault(code) => Reply::Failed(ended(DriverError::Proto(code))),
     }
@@ -170,9 +170,9 @@ pub fn error(rt: &impl Abort, driver: &Driver) -> Reply {
 }
 
 /// Whether the queued request is that of this stream, and ends at this offset.
-pub fn has_request(driver: &Driver, id: StreamId, at: usize) -> bool {
+pub fn has_request(driver: &Driver, id: StreamId, offset: usize) -> bool {
     match driver.next_request() {
-        Some((next, _, end)) => next == id && end == at,
+        Some((queued, _, end)) => queued == id && end == offset,
         None => false,
     }
 }

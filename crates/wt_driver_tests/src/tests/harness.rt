@@ -45,12 +45,12 @@ pub struct Run {
     alloc: Global,
     pub driver: Driver,
     is_whole: bool,
-    /// What the last line answered, where no line told it yet.
+    /// What the last line answered, where no line gave it yet.
     answer: Text,
 }
 
 impl Run {
-    /// Nothing was told yet.
+    /// Nothing was reported yet.
     pub fn new(rt: &impl Abort, alloc: Global, side: Side, is_whole: bool) -> Run {
         Run {
             alloc,

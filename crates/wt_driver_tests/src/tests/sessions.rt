@@ -115,7 +115,7 @@ fn one_request_is_queued(rt: HostRuntime) {
 }
 
 #[test]
-fn what_a_control_stream_brings(rt: HostRuntime) {
+fn what_a_control_stream_carries(rt: HostRuntime) {
     let cases = "
         # An exercise frame before SETTINGS.
         peer_uni
@@ -155,7 +155,7 @@ fn what_a_control_stream_brings(rt: HostRuntime) {
 }
 
 #[test]
-fn what_a_request_stream_brings(rt: HostRuntime) {
+fn what_a_request_stream_carries(rt: HostRuntime) {
     let cases = "
         # DATA.
         peer_bi

@@ -26,7 +26,7 @@ fn feed_counting<W: Walk, L: Ledger>(
 {
     let mut steps = Steps::<L>::new(blank);
     match reader.feed(piece, &mut steps) {
-        Ok(taken) => taken,
+        Ok(consumed) => consumed,
         Err(_) => panic!(rt; "no memory"),
     }
 }
@@ -40,8 +40,8 @@ fn fed<W: Walk>(rt: &impl Abort, reader: &mut StreamReader<W>, piece: &[u8]) -> 
 type Piece<'a> = (&'a [u8], usize, usize);
 
 fn feed_pieces<W: Walk>(rt: &impl Abort, reader: &mut StreamReader<W>, pieces: &[Piece]) {
-    for (piece, taken, kept) in pieces {
-        assert_eq!(rt; fed(rt, reader, piece), *taken);
+    for (piece, consumed, kept) in pieces {
+        assert_eq!(rt; fed(rt, reader, piece), *consumed);
         assert_eq!(rt; reader.kept(), *kept);
     }
 }

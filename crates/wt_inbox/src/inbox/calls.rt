@@ -29,7 +29,7 @@ impl Inbox {
         requires { IsTrue (fits_now self.old.transport turn.now) }
         ensures now { OnOk result (self.new ≡ with_transport self.old (after_turn self.old.transport turn.now)) }
         ensures err { OnErr result (self.new ≡ self.old) }
-        ensures log { OfEachLog self.old (λ side log stage untaken. OnOk result (Refines side self.new (log_turn log turn.now) stage untaken)) }
+        ensures log { OfEachLog self.old (λ side log stage uncollected. OnOk result (Refines side self.new (log_turn log turn.now) stage uncollected)) }
     {
         self.transport.take(turn)
     }
@@ -39,7 +39,7 @@ impl Inbox {
         requires { IsTrue (may_receive_now self.old.transport id && not self.old.transport.is_lost) }
         ensures now { OnOk result (self.new ≡ with_transport self.old (after_bytes self.old.transport id bytes.now)) }
         ensures err { OnErr result (self.new ≡ self.old) }
-        ensures log { OfEachLog self.old (λ side log stage untaken. OnOk result (Refines side self.new (log_turn log (Turn.Bytes id bytes.now)) stage untaken)) }
+        ensures log { OfEachLog self.old (λ side log stage uncollected. OnOk result (Refines side self.new (log_turn log (Turn.Bytes id bytes.now)) stage uncollected)) }
     {
         self.transport.take_bytes(id, bytes)
     }
@@ -125,7 +125,7 @@ impl Inbox {
         requires { IsTrue (can_send_now self.old.transport id) }
         ensures now { OnOk result (self.new ≡ with_transport self.old (after_reset self.old.transport id code)) }
         ensures err { OnErr result (self.new ≡ self.old) }
-        ensures log { OfEachLog self.old (λ side log stage untaken. OnOk result (Refines side self.new (reset_entry log id code ∷ log) stage (newest_first (if_open log (Action.ResetOut id code)) untaken))) }
+        ensures log { OfEachLog self.old (λ side log stage uncollected. OnOk result (Refines side self.new (reset_entry log id code ∷ log) stage (newest_first (if_open log (Action.ResetOut id code)) uncollected))) }
     {
         self.transport.reset(id, code)
     }
@@ -145,7 +145,7 @@ impl Inbox {
     pub fn set_priority(&mut self, id: StreamId, priority: i32)
         requires { IsTrue (can_send_now self.old.transport id) }
         ensures now { self.new ≡ with_transport self.old (after_priority self.old.transport id priority) }
-        ensures log { OfEachLog self.old (λ side log stage untaken. Refines side self.new (Called (PrioritySet id priority) ∷ log) stage untaken) }
+        ensures log { OfEachLog self.old (λ side log stage uncollected. Refines side self.new (Called (PrioritySet id priority) ∷ log) stage uncollected) }
     {
         self.transport.set_priority(id, priority);
     }
@@ -154,7 +154,7 @@ impl Inbox {
     pub fn take_actions(&mut self) -> Actions
         ensures actions { result ≡ self.old.transport.actions }
         ensures now { self.new ≡ with_transport self.old (record self.old.transport { actions = [] }) }
-        ensures log_actions { OfEachLog self.old (λ side log stage untaken. result ≡ joined_actions untaken) }
+        ensures log_actions { OfEachLog self.old (λ side log stage uncollected. result ≡ joined_actions uncollected) }
         ensures log { TellsAt self.old (λ side log stage. Refines side self.new log stage []) }
     {
         self.transport.take_actions()
@@ -166,7 +166,7 @@ impl Inbox {
         ensures now { self.new ≡ with_transport self.old (after_give_up self.old.transport id) }
         ensures others { (k : ℕ) → (id == k) ≡ false → SameAt self.old self.new k }
         ensures quiet { quiet self.new.transport ≡ quiet self.old.transport }
-        ensures log { OfEachLog self.old (λ side log stage untaken. Refines side self.new log (with_stage stage id Stage.GivenUp) untaken) }
+        ensures log { OfEachLog self.old (λ side log stage uncollected. Refines side self.new log (with_stage stage id Stage.GivenUp) uncollected) }
     {
         self.transport.give_up(id);
     }
@@ -177,8 +177,8 @@ impl Inbox {
         ensures now { self.new ≡ with_transport self.old (after_consume self.old.transport id count) }
         ensures others { (k : ℕ) → (id == k) ≡ false → SameAt self.old self.new k }
         ensures quiet { quiet self.new.transport ≡ quiet self.old.transport }
-        ensures log { OfEachLog self.old (λ side log stage untaken. (offset : ℕ) → body_offset (stage id) ≡ Some offset
-            → Refines side self.new log (with_stage stage id (Stage.Body (offset + count))) untaken) }
+        ensures log { OfEachLog self.old (λ side log stage uncollected. (offset : ℕ) → body_offset (stage id) ≡ Some offset
+            → Refines side self.new log (with_stage stage id (Stage.Body (offset + count))) uncollected) }
     {
         self.transport.consume(id, count);
     }

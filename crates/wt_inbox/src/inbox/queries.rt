@@ -49,7 +49,7 @@ impl Inbox {
         self.transport.is_connected()
     }
 
-    /// What was told last of datagrams while the connection was open.
+    /// What was reported last of datagrams while the connection was open.
     pub fn datagram_fact(&self) -> Option<DatagramFact>
         ensures now { result ≡ self.now.transport.datagram_fact }
         ensures log { Tells self.now (λ side log. result ≡ datagram_fact (events_of log)) }

@@ -13,7 +13,7 @@ ghost use Rattle.wt_seam_spec.specs.Reports.{end_of};
 ghost use Rattle.wt_seam.specs.Step.{unread_now};
 ghost use Rattle.wt_inbox.specs.OfLog.{OfEachLog, TellsAt};
 ghost use Rattle.wt_inbox.specs.KeptReaders.{is_kept, reading_of};
-ghost use Rattle.wt_inbox.specs.Moves.{BiPulled, BiTaken, ControlPulled, ResponsePulled, ResponseTaken, SessionPulled, SessionTaken, UniPulled, UniTaken};
+ghost use Rattle.wt_inbox.specs.Moves.{BiPulled, BiRemoved, ControlPulled, ResponsePulled, ResponseRemoved, SessionPulled, SessionRemoved, UniPulled, UniRemoved};
 ghost use Rattle.wt_inbox.specs.Quiet.{quiet};
 ghost use Rattle.wt_inbox.specs.State.{SameAt, bi_verdict_now, control_now, is_over_by_bytes, readers_now, response_now, session_now, uni_verdict_now};
 ghost use Rattle.wt_inbox.specs.Stage.{Refines, Stage, awaits_bi, awaits_response, awaits_uni, control_offset, session_offset, stage_from, verdict_offset, with_stage};
@@ -45,8 +45,8 @@ impl Inbox {
         ensures readers { OnOk result (readers_now self.new ≡ (if is_kept self.old.unis id then readers_now self.old else readers_now self.old + 1)) }
         ensures log_answer { TellsAt self.old (λ side log stage. awaits_uni (stage id) ≡ true
             → IfOk result (λ so. so ≡ is_final (uni_verdict_of (contents log id) (end_of (events_of log) id)))) }
-        ensures log { OfEachLog self.old (λ side log stage untaken. awaits_uni (stage id) ≡ true
-            → OnOk result (Refines side self.new log (with_stage stage id Stage.UniHeader) untaken)) }
+        ensures log { OfEachLog self.old (λ side log stage uncollected. awaits_uni (stage id) ≡ true
+            → OnOk result (Refines side self.new log (with_stage stage id Stage.UniHeader) uncollected)) }
     {
         self.pull_uni(id)?;
         Ok(self.is_uni_final(id))
@@ -62,8 +62,8 @@ impl Inbox {
         ensures readers { OnOk result (readers_now self.new ≡ (if is_kept self.old.unis id then readers_now self.old - 1 else readers_now self.old)) }
         ensures log_answer { TellsAt self.old (λ side log stage. awaits_uni (stage id) ≡ true
             → IfOk result (λ outcome. outcome ≡ uni_verdict_of (contents log id) (end_of (events_of log) id))) }
-        ensures log { OfEachLog self.old (λ side log stage untaken. awaits_uni (stage id) ≡ true
-            → OnOk result (Refines side self.new log (with_stage stage id (stage_from (verdict_offset (uni_verdict_of (contents log id) (end_of (events_of log) id))))) untaken)) }
+        ensures log { OfEachLog self.old (λ side log stage uncollected. awaits_uni (stage id) ≡ true
+            → OnOk result (Refines side self.new log (with_stage stage id (stage_from (verdict_offset (uni_verdict_of (contents log id) (end_of (events_of log) id))))) uncollected)) }
     {
         self.pull_uni(id)?;
         Ok(self.take_uni(id))
@@ -82,8 +82,8 @@ impl Inbox {
         ensures readers { OnOk result (readers_now self.new ≡ (if is_kept self.old.bis id then readers_now self.old else readers_now self.old + 1)) }
         ensures log_answer { TellsAt self.old (λ side log stage. awaits_bi (stage id) ≡ true
             → IfOk result (λ so. so ≡ is_final (bi_verdict_of (contents log id) (end_of (events_of log) id)))) }
-        ensures log { OfEachLog self.old (λ side log stage untaken. awaits_bi (stage id) ≡ true
-            → OnOk result (Refines side self.new log (with_stage stage id Stage.BiHeader) untaken)) }
+        ensures log { OfEachLog self.old (λ side log stage uncollected. awaits_bi (stage id) ≡ true
+            → OnOk result (Refines side self.new log (with_stage stage id Stage.BiHeader) uncollected)) }
     {
         self.pull_bi(id)?;
         Ok(self.is_bi_final(id))
@@ -99,8 +99,8 @@ impl Inbox {
         ensures readers { OnOk result (readers_now self.new ≡ (if is_kept self.old.bis id then readers_now self.old - 1 else readers_now self.old)) }
         ensures log_answer { TellsAt self.old (λ side log stage. awaits_bi (stage id) ≡ true
             → IfOk result (λ outcome. outcome ≡ bi_verdict_of (contents log id) (end_of (events_of log) id))) }
-        ensures log { OfEachLog self.old (λ side log stage untaken. awaits_bi (stage id) ≡ true
-            → OnOk result (Refines side self.new log (with_stage stage id (stage_from (verdict_offset (bi_verdict_of (contents log id) (end_of (events_of log) id))))) untaken)) }
+        ensures log { OfEachLog self.old (λ side log stage uncollected. awaits_bi (stage id) ≡ true
+            → OnOk result (Refines side self.new log (with_stage stage id (stage_from (verdict_offset (bi_verdict_of (contents log id) (end_of (events_of log) id))))) uncollected)) }
     {
         self.pull_bi(id)?;
         Ok(self.take_bi(id))
@@ -120,8 +120,8 @@ impl Inbox {
             ≡ (if is_kept self.old.responses id then readers_now self.old else readers_now self.old + 1)) }
         ensures log_answer { TellsAt self.old (λ side log stage. awaits_response (stage id) ≡ true
             → IfOk result (λ so. so ≡ is_answered (response_walk_of (contents log id) (end_of (events_of log) id)))) }
-        ensures log { OfEachLog self.old (λ side log stage untaken. awaits_response (stage id) ≡ true
-            → OnOk result (Refines side self.new log (with_stage stage id Stage.ResponseHead) untaken)) }
+        ensures log { OfEachLog self.old (λ side log stage uncollected. awaits_response (stage id) ≡ true
+            → OnOk result (Refines side self.new log (with_stage stage id Stage.ResponseHead) uncollected)) }
     {
         self.pull_response(id)?;
         Ok(self.is_response_there(id))
@@ -140,8 +140,8 @@ impl Inbox {
             ≡ (if is_kept self.old.responses id then readers_now self.old else readers_now self.old + 1)) }
         ensures log_answer { TellsAt self.old (λ side log stage. awaits_response (stage id) ≡ true
             → IfOk result (λ outcome. outcome ≡ response_walk_of (contents log id) (end_of (events_of log) id))) }
-        ensures log { OfEachLog self.old (λ side log stage untaken. awaits_response (stage id) ≡ true
-            → OnOk result (Refines side self.new log (with_stage stage id Stage.ResponseHead) untaken)) }
+        ensures log { OfEachLog self.old (λ side log stage uncollected. awaits_response (stage id) ≡ true
+            → OnOk result (Refines side self.new log (with_stage stage id Stage.ResponseHead) uncollected)) }
     {
         self.pull_response(id)?;
         self.response_outcome(id)
@@ -158,8 +158,8 @@ impl Inbox {
             ≡ (if is_kept self.old.responses id then readers_now self.old - 1 else readers_now self.old)) }
         ensures log_answer { TellsAt self.old (λ side log stage. awaits_response (stage id) ≡ true
             → IfOk result (λ outcome. outcome ≡ response_walk_of (contents log id) (end_of (events_of log) id))) }
-        ensures log { OfEachLog self.old (λ side log stage untaken. awaits_response (stage id) ≡ true
-            → OnOk result (Refines side self.new log (with_stage stage id (stage_from (response_offset (response_walk_of (contents log id) (end_of (events_of log) id))))) untaken)) }
+        ensures log { OfEachLog self.old (λ side log stage uncollected. awaits_response (stage id) ≡ true
+            → OnOk result (Refines side self.new log (with_stage stage id (stage_from (response_offset (response_walk_of (contents log id) (end_of (events_of log) id))))) uncollected)) }
     {
         self.pull_response(id)?;
         Ok(self.take_response(id))
@@ -177,10 +177,10 @@ impl Inbox {
         ensures kept { OnOk result (is_kept self.new.controls id ≡ true) }
         ensures readers { OnOk result (readers_now self.new
             ≡ (if is_kept self.old.controls id then readers_now self.old else readers_now self.old + 1)) }
-        ensures log_answer { TellsAt self.old (λ side log stage. (at : ℕ) → control_offset (stage id) ≡ Some at
-            → IfOk result (λ walk. walk ≡ control_walk_of (drop at (contents log id)) (end_of (events_of log) id))) }
-        ensures log { OfEachLog self.old (λ side log stage untaken. (at : ℕ) → control_offset (stage id) ≡ Some at
-            → OnOk result (Refines side self.new log (with_stage stage id (Stage.ControlBody at)) untaken)) }
+        ensures log_answer { TellsAt self.old (λ side log stage. (offset : ℕ) → control_offset (stage id) ≡ Some offset
+            → IfOk result (λ walk. walk ≡ control_walk_of (drop offset (contents log id)) (end_of (events_of log) id))) }
+        ensures log { OfEachLog self.old (λ side log stage uncollected. (offset : ℕ) → control_offset (stage id) ≡ Some offset
+            → OnOk result (Refines side self.new log (with_stage stage id (Stage.ControlBody offset)) uncollected)) }
     {
         self.pull_control(id)?;
         Ok(self.control_outcome(id))
@@ -199,10 +199,10 @@ impl Inbox {
         ensures kept { OnOk result (is_kept self.new.sessions id ≡ true) }
         ensures readers { OnOk result (readers_now self.new
             ≡ (if is_kept self.old.sessions id then readers_now self.old else readers_now self.old + 1)) }
-        ensures log_answer { TellsAt self.old (λ side log stage. (at : ℕ) → session_offset (stage id) ≡ Some at
-            → IfOk result (λ so. so ≡ is_over (session_walk_of (drop at (contents log id)) (end_of (events_of log) id)))) }
-        ensures log { OfEachLog self.old (λ side log stage untaken. (at : ℕ) → session_offset (stage id) ≡ Some at
-            → OnOk result (Refines side self.new log (with_stage stage id (Stage.SessionBody at)) untaken)) }
+        ensures log_answer { TellsAt self.old (λ side log stage. (offset : ℕ) → session_offset (stage id) ≡ Some offset
+            → IfOk result (λ so. so ≡ is_over (session_walk_of (drop offset (contents log id)) (end_of (events_of log) id)))) }
+        ensures log { OfEachLog self.old (λ side log stage uncollected. (offset : ℕ) → session_offset (stage id) ≡ Some offset
+            → OnOk result (Refines side self.new log (with_stage stage id (Stage.SessionBody offset)) uncollected)) }
     {
         self.pull_session(id)?;
         Ok(self.is_session_final(id))
@@ -216,11 +216,11 @@ impl Inbox {
         ensures gone { OnOk result (is_kept self.new.sessions id ≡ false) }
         ensures readers { OnOk result (readers_now self.new
             ≡ (if is_kept self.old.sessions id then readers_now self.old - 1 else readers_now self.old)) }
-        ensures log_answer { TellsAt self.old (λ side log stage. (at : ℕ) → session_offset (stage id) ≡ Some at
-            → IfOk result (λ end. (end.0 ≡ session_walk_of (drop at (contents log id)) (end_of (events_of log) id))
-            × (end.1 ≡ is_over (session_walk_of (drop at (contents log id)) Running)))) }
-        ensures log { OfEachLog self.old (λ side log stage untaken. (at : ℕ) → session_offset (stage id) ≡ Some at
-            → OnOk result (Refines side self.new log (with_stage stage id Stage.Anywhere) untaken)) }
+        ensures log_answer { TellsAt self.old (λ side log stage. (offset : ℕ) → session_offset (stage id) ≡ Some offset
+            → IfOk result (λ end. (end.0 ≡ session_walk_of (drop offset (contents log id)) (end_of (events_of log) id))
+            × (end.1 ≡ is_over (session_walk_of (drop offset (contents log id)) Running)))) }
+        ensures log { OfEachLog self.old (λ side log stage uncollected. (offset : ℕ) → session_offset (stage id) ≡ Some offset
+            → OnOk result (Refines side self.new log (with_stage stage id Stage.Anywhere) uncollected)) }
     {
         let by_bytes = self.pull_session(id)?;
         Ok((self.take_session(id), by_bytes))
@@ -246,7 +246,7 @@ impl Inbox {
 
     fn take_uni(&mut self, id: StreamId) -> Verdict
         ensures outcome { result ≡ outcome_in uni_unfinished (reading_of tt self.old.unis id) }
-        ensures taken { UniTaken self.old self.new id }
+        ensures removed { UniRemoved self.old self.new id }
     {
         self.unis.release(id, UniReader::new(self.alloc))
     }
@@ -269,7 +269,7 @@ impl Inbox {
 
     fn take_bi(&mut self, id: StreamId) -> Verdict
         ensures outcome { result ≡ outcome_in bi_unfinished (reading_of 0 self.old.bis id) }
-        ensures taken { BiTaken self.old self.new id }
+        ensures removed { BiRemoved self.old self.new id }
     {
         self.bis.release(id, BiReader::new(self.alloc))
     }
@@ -304,7 +304,7 @@ impl Inbox {
 
     fn take_response(&mut self, id: StreamId) -> ResponseWalk
         ensures outcome { result ≡ outcome_in response_unfinished (reading_of 0 self.old.responses id) }
-        ensures taken { ResponseTaken self.old self.new id }
+        ensures removed { ResponseRemoved self.old self.new id }
     {
         self.responses
             .release(id, FrameReader::for_response(self.alloc))
@@ -351,7 +351,7 @@ impl Inbox {
 
     fn take_session(&mut self, id: StreamId) -> SessionWalk
         ensures outcome { result ≡ outcome_in session_unfinished (reading_of tt self.old.sessions id) }
-        ensures taken { SessionTaken self.old self.new id }
+        ensures removed { SessionRemoved self.old self.new id }
     {
         self.sessions
             .release(id, FrameReader::for_session(self.alloc))

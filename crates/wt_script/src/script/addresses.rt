@@ -56,7 +56,7 @@ fn address_from(version: &[u8], ip: &[u8], port: &[u8]) -> Option<Addr>
 fn read_address(parts: &Parts) -> Option<Addr>
     ensures { result ≡ address_of_words parts.now }
 {
-    let (version, rest) = parts.next()?;
+    let (version, rest) = parts.split_first()?;
     let (ip, port) = rest.two()?;
     address_from(version, ip, port)
 }
@@ -85,7 +85,7 @@ pub fn read_lookup(alloc: Global, word: &[u8]) -> Result<Option<Lookup>, OutOfMe
     ensures { IfOk result (λ lookup. lookup ≡ lookup_of word.now) }
 {
     let parts = Parts::of(b':', word);
-    match parts.next() {
+    match parts.split_first() {
         Some((kind, fields)) => lookup_from(alloc, kind, &parts, &fields),
         None => Ok(None),
     }
@@ -121,7 +121,7 @@ fn outcome_from(
 pub fn read_outcome(alloc: Global, word: &[u8]) -> Result<Option<ConnectOutcome>, OutOfMemory>
     ensures { IfOk result (λ outcome. outcome ≡ outcome_of word.now) }
 {
-    match Parts::of(b':', word).next() {
+    match Parts::of(b':', word).split_first() {
         Some((kind, fields)) => outcome_from(alloc, kind, &fields),
         None => Ok(None),
     }

@@ -171,13 +171,13 @@ fn connect_with(
 fn read_connect(alloc: Global, fields: &Parts) -> Result<Option<Call>, OutOfMemory>
     ensures { IfOk result (λ call. call ≡ connect_of fields.now) }
 {
-    let Some((url, fields)) = fields.next() else {
+    let Some((url, fields)) = fields.split_first() else {
         return Ok(None);
     };
-    let Some((lookup, fields)) = fields.next() else {
+    let Some((lookup, fields)) = fields.split_first() else {
         return Ok(None);
     };
-    match fields.next() {
+    match fields.split_first() {
         Some((outcome, headers)) => connect_with(alloc, url, lookup, outcome, &headers),
         None => Ok(None),
     }

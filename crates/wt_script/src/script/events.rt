@@ -104,7 +104,7 @@ fn read_coded_loss(
 fn read_loss(alloc: Global, fields: &Parts) -> Result<Option<LossReason>, OutOfMemory>
     ensures { IfOk result (λ loss. loss ≡ loss_of_words fields.now) }
 {
-    let Some((kind, fields)) = fields.next() else {
+    let Some((kind, fields)) = fields.split_first() else {
         return Ok(None);
     };
     if fields.is_empty() {
@@ -127,13 +127,13 @@ fn connected_with(uni: &[u8], bi: &[u8], credit: &[u8], datagrams: &[u8]) -> Opt
 fn read_connected(fields: &Parts) -> Option<Turn>
     ensures { result ≡ connected_of fields.now }
 {
-    let (uni, fields) = fields.next()?;
-    let (bi, fields) = fields.next()?;
+    let (uni, fields) = fields.split_first()?;
+    let (bi, fields) = fields.split_first()?;
     let (credit, datagrams) = fields.two()?;
     connected_with(uni, bi, credit, datagrams)
 }
 
-/// The events that bring bytes or a text.
+/// The events that carry bytes or a text.
 fn read_data_event(alloc: Global, name: &[u8], fields: &Parts) -> Result<Option<Turn>, OutOfMemory>
     ensures { IfOk result (λ turn. turn ≡ data_event_of name.now fields.now) }
 {

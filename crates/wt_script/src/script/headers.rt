@@ -54,12 +54,12 @@ pub fn read_headers(alloc: Global, words: &Parts) -> Result<Option<HeaderList>, 
     ensures { IfOk result (λ headers. headers ≡ headers_of_words words.now) }
 {
     let mut headers = HeaderList::new(alloc);
-    let mut rest = words.next();
+    let mut rest = words.split_first();
     while let Some((word, later)) = rest {
         if !add_header(alloc, &mut headers, word)? {
             return Ok(None);
         }
-        rest = later.next();
+        rest = later.split_first();
     }
     Ok(Some(headers))
 }

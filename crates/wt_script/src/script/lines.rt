@@ -24,7 +24,7 @@ fn turn_from(alloc: Global, name: &[u8], fields: &Parts) -> Result<Option<Turn>,
 pub fn read_turn(alloc: Global, line: &[u8]) -> Result<Option<Turn>, OutOfMemory>
     ensures { IfOk result (λ turn. turn ≡ turn_of line.now) }
 {
-    match Parts::of_line(line).next() {
+    match Parts::of_line(line).split_first() {
         Some((name, fields)) => turn_from(alloc, name, &fields),
         None => Ok(None),
     }

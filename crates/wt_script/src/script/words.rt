@@ -41,7 +41,7 @@ impl<'a> Parts<'a> {
     }
 
     /// The next part, and those after it; None where none is left.
-    pub fn next(&self) -> Option<(&'a [u8], Parts<'a>)>
+    pub fn split_first(&self) -> Option<(&'a [u8], Parts<'a>)>
         ensures { MatchOption result (self.now ≡ []) (λ p. self.now ≡ p.0.now ∷ p.1) }
     {
         let bytes = self.rest?;
@@ -59,7 +59,7 @@ impl<'a> Parts<'a> {
     pub fn is_empty(&self) -> bool
         ensures { MatchBool result (self.now ≡ []) ((w : List ℕ) × (ws : List (List ℕ)) × (self.now ≡ w ∷ ws)) }
     {
-        self.next().is_none()
+        self.split_first().is_none()
     }
 
     /// The value, where no part is left.
@@ -73,7 +73,7 @@ impl<'a> Parts<'a> {
     pub fn one(&self) -> Option<&'a [u8]>
         ensures { option_map (λ p. p.now) result ≡ one Some self.now }
     {
-        let (part, rest) = self.next()?;
+        let (part, rest) = self.split_first()?;
         if rest.is_empty() { Some(part) } else { None }
     }
 
@@ -81,8 +81,8 @@ impl<'a> Parts<'a> {
     pub fn two(&self) -> Option<(&'a [u8], &'a [u8])>
         ensures { MatchOption result (two Some Some self.now ≡ None) (λ p. self.now ≡ p.0.now ∷ p.1.now ∷ []) }
     {
-        let (first, rest) = self.next()?;
-        let (second, rest) = rest.next()?;
+        let (first, rest) = self.split_first()?;
+        let (second, rest) = rest.split_first()?;
         if rest.is_empty() {
             Some((first, second))
         } else {
@@ -95,9 +95,9 @@ impl<'a> Parts<'a> {
 fn split_at_separator(separator: u8, bytes: &[u8]) -> (&[u8], Option<&[u8]>)
     ensures { result.0.now ∷ parts_after separator (option_map (λ r. r.now) result.1) ≡ parts separator bytes.now }
 {
-    for (at, byte) in bytes.iter().enumerate() {
+    for (offset, byte) in bytes.iter().enumerate() {
         if *byte == separator {
-            return (&bytes[..at], Some(&bytes[at + 1..]));
+            return (&bytes[..offset], Some(&bytes[offset + 1..]));
         }
     }
     (bytes, None)

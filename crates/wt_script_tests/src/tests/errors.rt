@@ -43,7 +43,7 @@ fn ends_print(rt: HostRuntime) {
 }
 
 #[test]
-fn told_ends_print(rt: HostRuntime) {
+fn reported_ends_print(rt: HostRuntime) {
     let alloc = rt.alloc();
     let close = ApplicationClose::new(VarInt::from_u32(0), piece(&rt, alloc, b""));
     let end = ConnectionError::ApplicationClosed(close);

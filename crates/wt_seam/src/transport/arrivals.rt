@@ -296,7 +296,7 @@ impl Transport {
         requires { IsTrue (fits_now self.old turn.now) }
         ensures now { OnOk result (self.new ≡ after_turn self.old turn.now) }
         ensures err { OnErr result (self.new ≡ self.old) }
-        ensures log { OfEachLog self.old (λ side log position untaken. OnOk result (Refines side self.new (log_turn log turn.now) position untaken)) }
+        ensures log { OfEachLog self.old (λ side log position uncollected. OnOk result (Refines side self.new (log_turn log turn.now) position uncollected)) }
     {
         self.note(turn)
     }
@@ -321,7 +321,7 @@ impl Transport {
         requires { IsTrue (may_receive_now self.old id && not self.old.is_lost) }
         ensures now { OnOk result (self.new ≡ after_bytes self.old id bytes.now) }
         ensures err { OnErr result (self.new ≡ self.old) }
-        ensures log { OfEachLog self.old (λ side log position untaken. OnOk result (Refines side self.new (log_turn log (Turn.Bytes id bytes.now)) position untaken)) }
+        ensures log { OfEachLog self.old (λ side log position uncollected. OnOk result (Refines side self.new (log_turn log (Turn.Bytes id bytes.now)) position uncollected)) }
     {
         self.receive(id, bytes)
     }

@@ -30,7 +30,7 @@ impl Transport {
     fn next_uni_now(&self) -> Option<StreamId>
         ensures { result ≡ opened_id_now self.now (local_uni self.now.side) }
     {
-        self.next(self.local_uni(), self.unis_allowed)
+        self.next_of_kind(self.local_uni(), self.unis_allowed)
     }
 
     /// The stream that `open_bi` would open.
@@ -44,11 +44,11 @@ impl Transport {
     fn next_bi_now(&self) -> Option<StreamId>
         ensures { result ≡ opened_id_now self.now (local_bi self.now.side) }
     {
-        self.next(self.local_bi(), self.bis_allowed)
+        self.next_of_kind(self.local_bi(), self.bis_allowed)
     }
 
     /// The next stream of a kind.
-    fn next(&self, kind: u64, allowed: u64) -> Option<StreamId>
+    fn next_of_kind(&self, kind: u64, allowed: u64) -> Option<StreamId>
         requires kind { kind < 4 }
         requires allowed { allowed ≡ streams_allowed_now self.now kind }
         requires small { allowed ≤ 2 ^ 60 }

@@ -1,4 +1,4 @@
-//! What was told, and what went out.
+//! What was reported, and what went out.
 ghost use Rattle.std.specs.Prelude.{◌≡◌, length, true};
 ghost use Rattle.wt_turn.specs.Log.{actions_of, all_events_of, events_of, is_open};
 ghost use Rattle.wt_seam_spec.specs.Streams.{peer_bi, peer_uni, stream_count};

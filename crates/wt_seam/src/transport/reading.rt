@@ -83,7 +83,7 @@ impl Transport {
     pub fn consume(&mut self, id: StreamId, count: usize)
         requires { count ≤ length (unread_now self.old id) }
         ensures now { self.new ≡ after_consume self.old id count }
-        ensures log { OfEachLog self.old (λ side log position untaken. Refines side self.new log (position_after position id count) untaken) }
+        ensures log { OfEachLog self.old (λ side log position uncollected. Refines side self.new log (position_after position id count) uncollected) }
     {
         self.consume_now(id, count);
     }
@@ -103,7 +103,7 @@ impl Transport {
     pub fn give_up(&mut self, id: StreamId)
         requires { IsTrue (can_receive_now self.old id) }
         ensures now { self.new ≡ after_give_up self.old id }
-        ensures log { OfEachLog self.old (λ side log position untaken. Refines side self.new log (given_up position id) untaken) }
+        ensures log { OfEachLog self.old (λ side log position uncollected. Refines side self.new log (given_up position id) uncollected) }
     {
         self.give_up_now(id);
     }

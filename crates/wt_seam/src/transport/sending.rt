@@ -188,7 +188,7 @@ impl Transport {
         ensures now { OnOk result (self.new ≡ after_reset self.old id code) }
         ensures err { OnErr result (self.new ≡ self.old) }
         ensures ended { self.old.is_open ≡ false → OnOk result (self.new.actions ≡ self.old.actions) }
-        ensures log { OfEachLog self.old (λ side log position untaken. OnOk result (Refines side self.new (reset_entry log id code ∷ log) position (newest_first (if_open log (Action.ResetOut id code)) untaken))) }
+        ensures log { OfEachLog self.old (λ side log position uncollected. OnOk result (Refines side self.new (reset_entry log id code ∷ log) position (newest_first (if_open log (Action.ResetOut id code)) uncollected))) }
     {
         self.reset_now(id, code)
     }
@@ -233,7 +233,7 @@ impl Transport {
     pub fn set_priority(&mut self, id: StreamId, priority: i32)
         requires { IsTrue (can_send_now self.old id) }
         ensures now { self.new ≡ after_priority self.old id priority }
-        ensures log { OfEachLog self.old (λ side log position untaken. Refines side self.new (Called (PrioritySet id priority) ∷ log) position untaken) }
+        ensures log { OfEachLog self.old (λ side log position uncollected. Refines side self.new (Called (PrioritySet id priority) ∷ log) position uncollected) }
     {
         self.set_priority_now(id, priority);
     }

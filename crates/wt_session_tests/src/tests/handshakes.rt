@@ -101,8 +101,8 @@ fn a_client_connects(rt: HostRuntime) {
     let mut connecting = begin(&rt, alloc, &mut driver, options);
     let line = "pending ; dial v4:7f000001:443 68";
     poll_connecting(&rt, alloc, &mut driver, &mut connecting, line);
-    let came = "connected 9 9 100 1200\npeer_uni\nbytes 3 000400\n";
-    turns(&rt, alloc, &mut driver, came);
+    let arrivals = "connected 9 9 100 1200\npeer_uni\nbytes 3 000400\n";
+    turns(&rt, alloc, &mut driver, arrivals);
     poll_connecting(&rt, alloc, &mut driver, &mut connecting, ASKED);
     let response = "bytes 0 010f000027003a73746174757303323030\n";
     turns(&rt, alloc, &mut driver, response);

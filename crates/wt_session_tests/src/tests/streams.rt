@@ -33,9 +33,9 @@ fn read_in_turn(
     left: &mut [u8],
     right: &mut [u8],
 ) -> (ReadAnswer, ReadAnswer)
-    ensures first { (side : Side) (log : Log) (taken : ℕ) → Follows side d.old log taken → IsReachable side log → has_receiving_half side log first.old ≡ true → has_receiving_half side log second.old ≡ true
+    ensures first { (side : Side) (log : Log) (collected : ℕ) → Follows side d.old log collected → IsReachable side log → has_receiving_half side log first.old ≡ true → has_receiving_half side log second.old ≡ true
         → reply_of_read left.new result.0 ≡ (call_effect side log (calls.Read first.old (length left.old))).reply }
-    ensures second { (side : Side) (log : Log) (taken : ℕ) → Follows side d.old log taken → IsReachable side log → has_receiving_half side log first.old ≡ true → has_receiving_half side log second.old ≡ true
+    ensures second { (side : Side) (log : Log) (collected : ℕ) → Follows side d.old log collected → IsReachable side log → has_receiving_half side log first.old ≡ true → has_receiving_half side log second.old ≡ true
         → reply_of_read right.new result.1 ≡ (call_effect side (call_effect side log (calls.Read first.old (length left.old))).log (calls.Read second.old (length right.old))).reply }
 {
     let one = first.read(d, left);
@@ -50,7 +50,7 @@ fn write_polled(
     opening: &mut OpeningUniStream,
     bytes: &[u8],
 ) -> Result<Option<(StreamId, WriteAnswer)>, OutOfMemory>
-    ensures written { (side : Side) (log : Log) (taken : ℕ) → Follows side d.old log taken → IsReachable side log → IsOpening false log opening.old
+    ensures written { (side : Side) (log : Log) (collected : ℕ) → Follows side d.old log collected → IsReachable side log → IsOpening false log opening.old
         → IfOk result (λ written. IfSome written (λ w. write_reply w.1 ≡ (call_effect side (call_effect side log (calls.PollOpening opening.old.id)).log (calls.Write w.0 bytes.now)).reply)) }
     ensures same { opening.new ≡ opening.old }
 {

@@ -1,6 +1,6 @@
 //! Worked bytes of the streams on which a connection rests, as they come and go out.
 use super::rows::{Subject, debugged, rows, says, server};
-use super::typed::{behind_header, into_session, local_control, request};
+use super::typed::{after_header, into_session, local_control, request};
 use std::alloc::Global;
 use std::process::Abort;
 use wt_critical::connect::ConnectStream;
@@ -107,7 +107,7 @@ fn gives(
 fn settings_come_in_pieces_and_are_given_once(rt: HostRuntime) {
     let alloc = rt.alloc();
     let mut t = server(&rt, alloc, "connected 2 2 9 1200\npeer_uni");
-    let stream = behind_header(&rt, alloc, &mut t, "bytes 2 00\n> Control");
+    let stream = after_header(&rt, alloc, &mut t, "bytes 2 00\n> Control");
     let mut s = control_of(&rt, alloc, stream);
     let mut first = s.subscribe();
     rows(&rt, alloc, &mut t, &mut s, "bytes 2 0402\n> Pending");
@@ -127,7 +127,7 @@ fn settings_come_in_pieces_and_are_given_once(rt: HostRuntime) {
 /// The peer's control stream, whose header came alone.
 fn control(rt: &impl Abort, alloc: Global, text: &str) {
     let mut t = server(rt, alloc, "connected 2 2 9 1200\npeer_uni");
-    let stream = behind_header(rt, alloc, &mut t, "bytes 2 00\n> Control");
+    let stream = after_header(rt, alloc, &mut t, "bytes 2 00\n> Control");
     let mut s = control_of(rt, alloc, stream);
     rows(rt, alloc, &mut t, &mut s, text);
 }
@@ -151,7 +151,7 @@ fn control_streams_at_fault(rt: HostRuntime) {
 fn an_encoder_stream_ends(rt: HostRuntime) {
     let alloc = rt.alloc();
     let mut t = server(&rt, alloc, "connected 2 2 9 1200\npeer_uni");
-    let stream = behind_header(&rt, alloc, &mut t, "bytes 2 02\n> QPackEncoder");
+    let stream = after_header(&rt, alloc, &mut t, "bytes 2 02\n> QPackEncoder");
     let mut s = encoder_of(&rt, alloc, stream);
     let text = "bytes 2 3fbd01\n\
         > Pending\n\
@@ -166,7 +166,7 @@ fn an_encoder_stream_ends(rt: HostRuntime) {
 fn a_decoder_stream_is_lost(rt: HostRuntime) {
     let alloc = rt.alloc();
     let mut t = server(&rt, alloc, "connected 2 2 9 1200\npeer_uni");
-    let stream = behind_header(&rt, alloc, &mut t, "bytes 2 03\n> QPackDecoder");
+    let stream = after_header(&rt, alloc, &mut t, "bytes 2 03\n> QPackDecoder");
     let mut s = decoder_of(&rt, alloc, stream);
     let text = "> Pending\nloss timed_out\n> Ready(NotConnected)";
     rows(&rt, alloc, &mut t, &mut s, text);
@@ -192,7 +192,7 @@ fn settings_go_out_once_as_credit_comes(rt: HostRuntime) {
 }
 
 #[test]
-fn a_stop_before_settings_are_out_is_told(rt: HostRuntime) {
+fn a_stop_before_settings_are_out_is_reported(rt: HostRuntime) {
     let alloc = rt.alloc();
     let mut t = server(&rt, alloc, "connected 2 2 3 1200");
     let stream = local_control(&rt, alloc, &mut t);

@@ -79,7 +79,7 @@ fn has_response(rt: &impl Abort, inbox: &mut Inbox) -> bool {
 /// The offset of a response, of which the reader is kept; None before it is there.
 fn offset(rt: &impl Abort, inbox: &mut Inbox) -> Option<usize> {
     match inbox.response(stream(0)).expect(rt, "no memory") {
-        ResponseWalk::Response(_, at) => Some(at),
+        ResponseWalk::Response(_, end) => Some(end),
         _ => None,
     }
 }

@@ -123,7 +123,7 @@ impl Subject for HeaderIn {
 }
 
 /// The peer's first unidirectional stream, after the header that comes in these lines.
-pub fn behind_header(
+pub fn after_header(
     rt: &impl Abort,
     alloc: Global,
     t: &mut Transport,
@@ -321,7 +321,7 @@ fn a_control_stream_gives_exercise_frames(rt: HostRuntime) {
     let alloc = rt.alloc();
     let mut t = server(&rt, alloc, "connected 2 2 9 1200\npeer_uni");
     let head = "bytes 2 00210201\n> Control";
-    let mut http = behind_header(&rt, alloc, &mut t, head);
+    let mut http = after_header(&rt, alloc, &mut t, head);
     let text = "> Pending\n\
         bytes 2 020400005001\n\
         > Ready(Ok(Frame { kind: Exercise(VarInt { value: 33 }), payload: [], session: None }))\n\

@@ -142,7 +142,7 @@ fn streams(rt: &impl Abort, alloc: Global) {
     );
 }
 
-/// What is told where a connection ended.
+/// What is reported where a connection ended.
 fn reasons(rt: &impl Abort, alloc: Global) {
     show!(rt, alloc;
         by_transport(rt, alloc, b"") => "10",

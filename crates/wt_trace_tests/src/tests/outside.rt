@@ -36,7 +36,7 @@ fn chosen_writes_fail(rt: HostRuntime) {
     assert!(rt; write(&mut sink, b"ab") == Some(2));
     assert!(rt; write(&mut sink, b"cd").is_none());
     assert!(rt; write(&mut sink, b"ef") == Some(2));
-    assert_eq!(rt; sink.taken(), b"abef".as_slice());
+    assert_eq!(rt; sink.written(), b"abef".as_slice());
 }
 
 /// Each of its reads fails, as those of a directory do.
@@ -90,7 +90,7 @@ fn a_reader_that_fails_is_no_end_of_input(rt: HostRuntime) {
 }
 
 #[test]
-fn a_write_that_fails_is_told(rt: HostRuntime) {
+fn a_write_that_fails_is_reported(rt: HostRuntime) {
     for fails in [true, false] {
         let mut source = ReaderSource::new(b"foo".as_slice());
         let mut sink = WriterSink::new(FullDevice { fails });

@@ -52,7 +52,7 @@ fn ends(
     let mut sink = MemSink::new(alloc, Vec::new(alloc));
     let got = answers(rt, alloc, words, &mut source, &mut sink);
     assert!(rt; got == status);
-    assert_eq!(rt; sink.taken(), text.as_bytes());
+    assert_eq!(rt; sink.written(), text.as_bytes());
 }
 
 /// Words that ask for nothing, on a line each; on the first there are none.
@@ -149,16 +149,16 @@ fn long_text(rt: &impl Abort, alloc: Global) -> Vec<u8> {
 fn a_long_run_is_answered(rt: HostRuntime) {
     let sink = long_run(&rt, rt.alloc(), NEVER, 0);
     let text = long_text(&rt, rt.alloc());
-    assert!(rt; sink.taken() == text.as_slice());
+    assert!(rt; sink.written() == text.as_slice());
 }
 
 #[test]
 fn a_sink_may_fail(rt: HostRuntime) {
     let sink = long_run(&rt, rt.alloc(), 0, 5);
-    assert!(rt; sink.taken().is_empty());
+    assert!(rt; sink.written().is_empty());
     let sink = long_run(&rt, rt.alloc(), 1, 5);
     let text = long_text(&rt, rt.alloc());
-    let size = sink.taken().len();
-    assert!(rt; text.starts_with(sink.taken()));
+    let size = sink.written().len();
+    assert!(rt; text.starts_with(sink.written()));
     assert!(rt; size >= 65_536 && size < text.len());
 }

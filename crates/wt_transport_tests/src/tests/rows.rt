@@ -15,7 +15,7 @@ use wt_wire::text::Text;
 // Each call of the transport stands in a function of its own: who calls that one knows nothing of the
 // transport's contract, which makes it cheap to prove.
 
-/// The transport of a server to which nothing was told yet.
+/// The transport of a server to which nothing was reported yet.
 pub fn server(alloc: Global) -> Transport {
     Transport::new(alloc, Side::Server)
 }

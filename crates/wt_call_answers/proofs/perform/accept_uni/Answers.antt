@@ -5,10 +5,10 @@ use Rattle.wt_seam_spec.specs.Streams.{peer_uni}
 use Rattle.wt_reply.specs.declared.reply.Reply.TheVariants as replies
 
 pub returns-clause-reply : goal.returns-clause-reply
-returns-clause-reply c = λ side log taken r. c.uni_reply.ensures ∙ c.in_ok-answer.ensures.reply side log taken r
+returns-clause-reply c = λ side log collected r. c.uni_reply.ensures ∙ c.in_ok-answer.ensures.reply side log collected r
 
 pub returns-clause-session : goal.returns-clause-session
-returns-clause-session c = λ side log taken r k.
-    accept_kept side replies.Uni (peer_uni side) c.args.session log c.args.s.now c.settle.new.s c.given_in.result
-    (c.given_in.ensures ∙ c.in_ok-answer.ensures.given side log taken r)
-    (λ calls x. c.in_ok-settle.ensures calls x) k
+returns-clause-session c = λ side log collected r k.
+    accept_kept side replies.Uni (peer_uni side) c.args.session log c.args.s.now c.note_given.new.s c.given_in.result
+    (c.given_in.ensures ∙ c.in_ok-answer.ensures.given side log collected r)
+    (λ calls x. c.in_ok-note_given.ensures calls x) k

@@ -12,9 +12,9 @@ use Rattle.wt_session_spec.specs.Plans.{plan_of}
 use Rattle.std.specs.Prelude.{Bool, ◌≡◌}
 
 pub returns : goal.returns
-returns c = λ side log taken f k end r m known.
+returns c = λ side log collected f k end r m known.
     let there : c.transport.result.now ≡ c.args.d.now.inbox.transport = c.transport.ensures ∙ ap (λ (x : InboxState). x.transport) c.inbox.ensures in
-    planned_by_log side c.args.d.now log taken c.args.s.now f k r c.args.walk end known c.args.call.now c.plan.result m
+    planned_by_log side c.args.d.now log collected c.args.s.now f k r c.args.walk end known c.args.call.now c.plan.result m
     (subst (λ (t : TransportState). (first : Bool) → MayPlan t c.args.d.now.state c.args.s.now c.args.call.now
     → IfOk c.plan.result (λ p. defined_plan p ≡ plan_of (facts_now t (answers_now t c.args.d.now.state first c.args.s.now.request_end c.args.walk)) (session_of_table c.args.s.now) c.args.call.now))
     there c.plan.ensures)

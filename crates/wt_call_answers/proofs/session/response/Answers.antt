@@ -4,17 +4,17 @@ use Rattle.wt_call_answers.proofs.session.response.Goals as goal
 use Rattle.wt_call_answers.specs.Walking.{is_connecting}
 
 pub returns-then-is_connecting-clause-log : goal.returns-then-is_connecting-clause-log
-returns-then-is_connecting-clause-log c = λ side log taken f k r.
-    c.response.ensures.log side log taken f
+returns-then-is_connecting-clause-log c = λ side log collected f k r.
+    c.response.ensures.log side log collected f
     (awaits_response side log r c.args.s.now k (sym (c.is_connecting.ensures ∙ ap is_connecting c.handshake.ensures) ∙ c.if-is_connecting.true) c.new-id.result (c.new-id.ensures ∙ c.from_u32.ensures))
 
 pub returns-then-is_connecting-clause-walk : goal.returns-then-is_connecting-clause-walk
-returns-then-is_connecting-clause-walk c = λ side log taken f k r.
+returns-then-is_connecting-clause-walk c = λ side log collected f k r.
     let on = sym (c.is_connecting.ensures ∙ ap is_connecting c.handshake.ensures) ∙ c.if-is_connecting.true in
     let first = c.new-id.ensures ∙ c.from_u32.ensures in
     knows_response side log r c.args.s.now k on c.new-id.result first c.response.result
-    (c.response.ensures.answer side log taken f (awaits_response side log r c.args.s.now k on c.new-id.result first))
+    (c.response.ensures.answer side log collected f (awaits_response side log r c.args.s.now k on c.new-id.result first))
 
 pub returns-clause-walk : goal.returns-clause-walk
-returns-clause-walk c = λ side log taken f k r.
+returns-clause-walk c = λ side log collected f k r.
     needs_no_response side log r c.args.s.now k (sym (c.is_connecting.ensures ∙ ap is_connecting c.handshake.ensures) ∙ c.if-is_connecting.false) _

@@ -5,11 +5,11 @@ use Rattle.wt_spec.specs.Effect.{pending_or_failed}
 use Rattle.wt_calls.proofs.acting.accept_answer.Goals as goal
 
 pub returns-in-Some-2-clause-reply : goal.returns-in-Some-2-clause-reply
-returns-in-Some-2-clause-reply c = λ kind side log taken f.
-    ap wait_reply (sym c.in-Some-2.is) ∙ c.in_ok-error-in-None.ensures side log taken f
+returns-in-Some-2-clause-reply c = λ kind side log collected f.
+    ap wait_reply (sym c.in-Some-2.is) ∙ c.in_ok-error-in-None.ensures side log collected f
     ∙ sym (ap (λ (o : Option ℕ). reply_or kind (pending_or_failed side log) o) c.in-None.is)
 
 pub returns-in-None-2-clause-reply : goal.returns-in-None-2-clause-reply
-returns-in-None-2-clause-reply c = λ kind side log taken f.
-    ap wait_reply (sym c.in-None-2.is) ∙ c.in_ok-error-in-None.ensures side log taken f
+returns-in-None-2-clause-reply c = λ kind side log collected f.
+    ap wait_reply (sym c.in-None-2.is) ∙ c.in_ok-error-in-None.ensures side log collected f
     ∙ sym (ap (λ (o : Option ℕ). reply_or kind (pending_or_failed side log) o) c.in-None.is)

@@ -1,5 +1,5 @@
 use Rattle.std.proofs.Common.{◌∙◌, subst, sym}
-use Rattle.wt_calls.proofs.Gives.{accept_log, accept_told}
+use Rattle.wt_calls.proofs.Gives.{accept_log, accept_reported}
 use Rattle.wt_calls.proofs.acting.accept_bi.Goals as goal
 use Rattle.wt_seam_spec.specs.Streams.{peer_bi}
 use Rattle.wt_driver_state.specs.Tie.{Follows}
@@ -8,16 +8,16 @@ use Rattle.wt_calls.specs.GivingCalls.{poll_reply}
 use Rattle.wt_reply.specs.declared.reply.Reply.TheVariants as replies
 
 pub returns-clause-reply : goal.returns-clause-reply
-returns-clause-reply c = λ side log taken r.
-    accept_told side replies.Bi (peer_bi side) c.args.session log c.given_by-given.result (poll_reply replies.Bi c.in_ok-answer.answer)
-    (c.in_ok-answer.ensures.reply replies.Bi side (accept_outcome side (peer_bi side) log c.args.session).state taken (c.in_ok-accept_bi_id.ensures.log side log taken r))
-    (c.given_by-given.ensures ∙ c.in_ok-accept_bi_id.ensures.given side log taken r)
+returns-clause-reply c = λ side log collected r.
+    accept_reported side replies.Bi (peer_bi side) c.args.session log c.given_by-given.result (poll_reply replies.Bi c.in_ok-answer.answer)
+    (c.in_ok-answer.ensures.reply replies.Bi side (accept_outcome side (peer_bi side) log c.args.session).state collected (c.in_ok-accept_bi_id.ensures.log side log collected r))
+    (c.given_by-given.ensures ∙ c.in_ok-accept_bi_id.ensures.given side log collected r)
 
 pub returns-clause-log : goal.returns-clause-log
-returns-clause-log c = λ side log taken r.
-    subst (λ g. Follows side c.poll.new.d g taken) (sym (accept_log side replies.Bi (peer_bi side) c.args.session log))
-    (c.in_ok-poll.ensures.log side (accept_outcome side (peer_bi side) log c.args.session).state taken (c.in_ok-accept_bi_id.ensures.log side log taken r))
+returns-clause-log c = λ side log collected r.
+    subst (λ g. Follows side c.poll.new.d g collected) (sym (accept_log side replies.Bi (peer_bi side) c.args.session log))
+    (c.in_ok-poll.ensures.log side (accept_outcome side (peer_bi side) log c.args.session).state collected (c.in_ok-accept_bi_id.ensures.log side log collected r))
 
 pub returns-clause-given : goal.returns-clause-given
-returns-clause-given c = λ side log taken r.
-    c.in_ok-answer.ensures.given ∙ c.given_by-given.ensures ∙ c.in_ok-accept_bi_id.ensures.given side log taken r
+returns-clause-given c = λ side log collected r.
+    c.in_ok-answer.ensures.given ∙ c.given_by-given.ensures ∙ c.in_ok-accept_bi_id.ensures.given side log collected r

@@ -7,4 +7,4 @@ use Rattle.wt_wire.specs.declared.side.Side.{Side}
 
 abbrev pub invariant-loop-action : goal.invariant-loop-action
 invariant-loop-action l = (l.fn.own.items ≡ l.yielded ++ l.action-iterator.rest.items)
-    × ((side : Side) (log : Log) (taken : ℕ) → Follows side l.fn.d log taken → MaySendAll side log l.fn.own.items → Follows side l.d (with_actions l.yielded log) taken)
+    × ((side : Side) (log : Log) (collected : ℕ) → Follows side l.fn.d log collected → MaySendAll side log l.fn.own.items → Follows side l.d (with_actions l.yielded log) collected)

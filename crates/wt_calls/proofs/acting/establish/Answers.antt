@@ -7,10 +7,10 @@ use Rattle.wt_turn.specs.Log.{Polled, SessionEstablished, with_actions}
 
 pub returns : goal.returns
 returns c = record {
-  log = λ side log taken f m.
+  log = λ side log collected f m.
       let same = c.session_stream.ensures.stream in
       let may = subst (λ (i : ℕ). MayBeCalled side (with_actions c.args.own.items log) (SessionEstablished i c.args.offset)) (sym same) m.1 in
-      let stepped = c.in_ok-step.ensures.log side log taken f m.0 may in
-      subst (λ (i : ℕ). OnOk c.poll.result (Follows side c.poll.new.d (log_call side (log_call side log c.args.own.items (SessionEstablished i c.args.offset)) [] Polled) taken)) same
-      (c.poll.ensures.log side (log_call side log c.args.own.items (SessionEstablished c.session_stream.result c.args.offset)) taken stepped);
+      let stepped = c.in_ok-step.ensures.log side log collected f m.0 may in
+      subst (λ (i : ℕ). OnOk c.poll.result (Follows side c.poll.new.d (log_call side (log_call side log c.args.own.items (SessionEstablished i c.args.offset)) [] Polled) collected)) same
+      (c.poll.ensures.log side (log_call side log c.args.own.items (SessionEstablished c.session_stream.result c.args.offset)) collected stepped);
 }

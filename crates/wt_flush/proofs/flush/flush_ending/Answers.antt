@@ -11,11 +11,11 @@ use Rattle.wt_flush.proofs.flush.flush_ending.Goals as goal
 
 pub returns-in_ok-reset_if-in-BySession : goal.returns-in_ok-reset_if-in-BySession
 returns-in_ok-reset_if-in-BySession c = record {
-  log = λ side log stage untaken r o can.
+  log = λ side log stage uncollected r o can.
       let id = session_id c.args.session in
       let b = c.in-BySession.by_capsule in
       let is = ap option_copied c.in-Some.is ∙ ap (λ (e : Ending). Some e) (sym c.kind.ensures ∙ ap ending_of_kind c.in-BySession.is) in
-      let first = c.in_ok-reset_if-in-BySession.ensures.log side log stage untaken r o (rw c.session_id.ensures (ending_resets side log stage untaken c.args.session _ _ b _ is can)) in
-      let second = c.close_with-in-BySession.ensures.log side (with_actions (reset_if b id) log) stage (newest_first (reset_if b id) untaken) (rw c.session_id.ensures at first) (ending_open side log stage untaken c.args.session _ _ b _ is o) in
-      on_ok_weaker c.close_with-in-BySession.result (ending_sends side log stage untaken c.args.session _ _ b _ is c.close_with-in-BySession.new.inbox) second;
+      let first = c.in_ok-reset_if-in-BySession.ensures.log side log stage uncollected r o (rw c.session_id.ensures (ending_resets side log stage uncollected c.args.session _ _ b _ is can)) in
+      let second = c.close_with-in-BySession.ensures.log side (with_actions (reset_if b id) log) stage (newest_first (reset_if b id) uncollected) (rw c.session_id.ensures at first) (ending_open side log stage uncollected c.args.session _ _ b _ is o) in
+      on_ok_weaker c.close_with-in-BySession.result (ending_sends side log stage uncollected c.args.session _ _ b _ is c.close_with-in-BySession.new.inbox) second;
 }

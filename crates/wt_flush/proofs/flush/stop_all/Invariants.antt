@@ -7,9 +7,9 @@ use Rattle.wt_turn.specs.declared.action.Action.{Action}
 use Rattle.wt_wire.specs.declared.side.Side.{Side}
 use Rattle.wt_flush.proofs.flush.stop_all.Given as goal
 
-abbrev pub invariant-loop-at : goal.invariant-loop-at
-invariant-loop-at l = (side : Side) (log : Log) (stage : ℕ → Stage) (untaken : List Action) → Refines side l.fn.inbox log stage untaken → is_open log ≡ true → CanStop side log l.stops
-    → StopsSoFar side log stage untaken l.stops l.at l.inbox
+abbrev pub invariant-loop-index : goal.invariant-loop-index
+invariant-loop-index l = (side : Side) (log : Log) (stage : ℕ → Stage) (uncollected : List Action) → Refines side l.fn.inbox log stage uncollected → is_open log ≡ true → CanStop side log l.stops
+    → StopsSoFar side log stage uncollected l.stops l.index l.inbox
 
-abbrev pub decreases-loop-at : goal.decreases-loop-at
-decreases-loop-at l = length l.stops - l.at
+abbrev pub decreases-loop-index : goal.decreases-loop-index
+decreases-loop-index l = length l.stops - l.index

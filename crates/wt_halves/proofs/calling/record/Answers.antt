@@ -8,8 +8,8 @@ use Rattle.wt_turn.specs.Records.{record_of}
 
 pub returns : goal.returns
 returns c = record {
-  log = λ side log taken call reply f r m e.
+  log = λ side log collected call reply f r m e.
       let p = Step [] (record_of c.args.made.now) reply in
-      subst (λ (x : Effect). Follows side c.note_at_rest.new.self x.log taken) (leads side log call p e)
-      (c.note_at_rest.ensures.log side log taken f (may_perform side log call p e r m).1);
+      subst (λ (x : Effect). Follows side c.note_at_rest.new.self x.log collected) (leads side log call p e)
+      (c.note_at_rest.ensures.log side log collected f (may_perform side log call p e r m).1);
 }

@@ -15,10 +15,10 @@ less t u id n old false c e more =
     rw e (omega arith)
 
 pub loop-goes-smaller : goal.loop-goes-smaller
-loop-goes-smaller g c = less c.loop-goes.transport c.read_piece-in-loop-goes.new.transport c.args.id c.in_ok-goes-2.ensures.bytes_taken.0 c.loop-goes.goes c.in_ok-goes-2.goes c.in_ok-goes-2.ensures.bytes_taken.1.consumes c.loop-goes-test.true c.in_ok-goes-2.ensures.more
+loop-goes-smaller g c = less c.loop-goes.transport c.read_piece-in-loop-goes.new.transport c.args.id c.in_ok-goes-2.ensures.bytes_consumed.0 c.loop-goes.goes c.in_ok-goes-2.goes c.in_ok-goes-2.ensures.bytes_consumed.1.consumes c.loop-goes-test.true c.in_ok-goes-2.ensures.more
 
 pub loop-goes-preserved : goal.loop-goes-preserved
 loop-goes-preserved g c = record {
-  bytes_taken = (c.loop-goes.invariant.bytes_taken.0 + c.in_ok-goes-2.ensures.bytes_taken.0, takes-twice g.W.Walk.start_state g.W.Walk.decides c.requires g.W.Walk.is_final_outcome g.W.Walk.outcome_of c.args.reader.now c.loop-goes.reader c.read_piece-in-loop-goes.new.reader c.args.transport.now c.loop-goes.transport c.read_piece-in-loop-goes.new.transport c.args.id c.loop-goes.invariant.bytes_taken.0 c.in_ok-goes-2.ensures.bytes_taken.0 c.loop-goes.invariant.bytes_taken.1 c.in_ok-goes-2.ensures.bytes_taken.1);
+  bytes_consumed = (c.loop-goes.invariant.bytes_consumed.0 + c.in_ok-goes-2.ensures.bytes_consumed.0, takes-twice g.W.Walk.start_state g.W.Walk.decides c.requires g.W.Walk.is_final_outcome g.W.Walk.outcome_of c.args.reader.now c.loop-goes.reader c.read_piece-in-loop-goes.new.reader c.args.transport.now c.loop-goes.transport c.read_piece-in-loop-goes.new.transport c.args.id c.loop-goes.invariant.bytes_consumed.0 c.in_ok-goes-2.ensures.bytes_consumed.0 c.loop-goes.invariant.bytes_consumed.1 c.in_ok-goes-2.ensures.bytes_consumed.1);
   done = c.in_ok-goes-2.ensures.done;
 }

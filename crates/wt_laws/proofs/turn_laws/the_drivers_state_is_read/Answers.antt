@@ -1,7 +1,7 @@
 use Rattle.wt_laws.proofs.DatagramOrEnds.{datagram-or-ends}
 use Rattle.wt_laws.proofs.FaultLaws.{classified-rightly, ends-for-cause, settings-come-read}
 use Rattle.wt_laws.proofs.FaultlessLaws.{faultless-or-ends}
-use Rattle.wt_laws.proofs.FirstFault.{first-is-told}
+use Rattle.wt_laws.proofs.FirstFault.{first-is-reported}
 use Rattle.wt_laws.proofs.NoFault.{streams-faultless}
 use Rattle.wt_laws.proofs.OnceLaws.{once-each}
 use Rattle.wt_laws.proofs.turn_laws.the_drivers_state_is_read.Goals as goal
@@ -28,4 +28,4 @@ pub returns-clause-datagram : goal.returns-clause-datagram
 returns-clause-datagram c = datagram-or-ends
 
 pub returns-clause-first : goal.returns-clause-first
-returns-clause-first c = first-is-told
+returns-clause-first c = first-is-reported

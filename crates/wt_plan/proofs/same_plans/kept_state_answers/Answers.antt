@@ -7,7 +7,7 @@ returns-clause-own c side log = own_answers side log
 
 -- src/same_plans.rt:40:1
 pub returns-clause-answers : goal.returns-clause-answers
-returns-clause-answers c side log t position untaken first end walk r f k w = answers_same side log t position untaken first end walk r f k w
+returns-clause-answers c side log t position uncollected first end walk r f k w = answers_same side log t position uncollected first end walk r f k w
 
 -- src/same_plans.rt:40:1
 pub returns-clause-end : goal.returns-clause-end

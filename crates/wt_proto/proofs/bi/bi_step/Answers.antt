@@ -5,4 +5,4 @@ use Rattle.wt_proto.proofs.bi.bi_step.Goals as goal
 
 pub returns-in_ok-next_offset-in-Headers : goal.returns-in_ok-next_offset-in-Headers
 returns-in_ok-next_offset-in-Headers c =
-    if_ok_same _ _ _ c.headers_step.ensures (rw c.in_ok-next_offset-in-Headers.ensures (bi-headers c.args.at c.args.bytes.now c.in-Headers.header c.in-Headers.size (c.in-Headers.ensures.frame varint_at)))
+    if_ok_same _ _ _ c.headers_step.ensures (rw c.in_ok-next_offset-in-Headers.ensures (bi-headers c.args.offset c.args.bytes.now c.in-Headers.header c.in-Headers.size (c.in-Headers.ensures.frame varint_at)))

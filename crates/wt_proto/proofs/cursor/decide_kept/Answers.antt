@@ -5,7 +5,7 @@ use Rattle.wt_proto.proofs.cursor.decide_kept.Goals as goal
 
 pub leave_item-requires : goal.leave_item-requires
 leave_item-requires g c =
-    let is : g.W.Walk.decides c.args.cursor.now.state c.args.cursor.now.kept.items ≡ Goes c.in-Ok-Goes.next c.in-Ok-Goes.size =
+    let is : g.W.Walk.decides c.args.cursor.now.state c.args.cursor.now.kept.items ≡ Goes c.in-Ok-Goes.moved c.in-Ok-Goes.size =
     ap (λ xs. g.W.Walk.decides c.args.cursor.now.state xs) (sym c.as_slice.ensures.value) ∙ (sym c.in-Ok-Goes.ensures.step ∙ c.in-Ok-Goes.field-0-is) in
     c.requires.whole _ (ap (λ d. size_of_step d) is)
 

@@ -2,8 +2,8 @@ use Rattle.std.proofs.Common.{length, ◌-◌}
 use Rattle.wt_proto.specs.WalkProgress.{Advances, at_item}
 use Rattle.wt_proto.proofs.cursor.go_over.Given as goal
 
-abbrev pub invariant-loop-at : goal.invariant-loop-at
-invariant-loop-at g l = Advances g.W.Walk.decides (at_item l.fn.state) (at_item l.state) l.bytes l.at
+abbrev pub invariant-loop-offset : goal.invariant-loop-offset
+invariant-loop-offset g l = Advances g.W.Walk.decides (at_item l.fn.state) (at_item l.state) l.bytes l.offset
 
-abbrev pub decreases-loop-at : goal.decreases-loop-at
-decreases-loop-at g l = length l.bytes - l.at
+abbrev pub decreases-loop-offset : goal.decreases-loop-offset
+decreases-loop-offset g l = length l.bytes - l.offset

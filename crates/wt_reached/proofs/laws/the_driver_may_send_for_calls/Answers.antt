@@ -5,4 +5,4 @@ pub returns-clause-step : goal.returns-clause-step
 returns-clause-step c = λ side log call own made reply r l e. step_theorem side log call own made reply r l e
 
 pub returns-clause-establish : goal.returns-clause-establish
-returns-clause-establish c = λ side log call own id at r l e. establish_theorem side log call own id at r l e
+returns-clause-establish c = λ side log call own id offset r l e. establish_theorem side log call own id offset r l e

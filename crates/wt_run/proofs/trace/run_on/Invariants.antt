@@ -5,7 +5,7 @@ use Rattle.wt_run.proofs.RunLaws.{after_answers}
 use Rattle.wt_run.proofs.trace.run_on.Given as goal
 use Rattle.wt_turn.specs.Log.{Log}
 
-abbrev pub invariant-loop-at : goal.invariant-loop-at
-invariant-loop-at l = (log : Log) × Refines l.core log × (l.core.side ≡ l.fn.core.side)
-    × (after_answers l.answers (run_from l.fn.core.side log (drop l.at l.turns)) ≡ run l.fn.core.side l.turns)
-    × (length l.answers ≡ l.at)
+abbrev pub invariant-loop-index : goal.invariant-loop-index
+invariant-loop-index l = (log : Log) × Refines l.core log × (l.core.side ≡ l.fn.core.side)
+    × (after_answers l.answers (run_from l.fn.core.side log (drop l.index l.turns)) ≡ run l.fn.core.side l.turns)
+    × (length l.answers ≡ l.index)

@@ -1,9 +1,9 @@
 use Rattle.std.proofs.Common.{◌≡◌, [], length, take}
 use Rattle.wt_driver_spec.specs.Dequeued.{StreamsDequeued}
-use Rattle.wt_laws.specs.Datagrams.{DatagramTold}
+use Rattle.wt_laws.specs.Datagrams.{DatagramReported}
 use Rattle.wt_laws.specs.Ended.{EndingGoesOut}
 use Rattle.wt_laws.specs.GivenOnce.{GivenOnce}
-use Rattle.wt_laws.specs.Laws.{DatagramsInOrder, HeadersOut, NothingAfterEnd, OneSession, OpenExactly, ReadsFromStart, ReadsInOrder, ReplyHasCause, RequestTold, SendsAll, SendsEnd, SendsInOrder, SessionStreamOut, SessionTold, SessionsRightly, SettingsOut, StreamsAcceptedRightly, TakenGoesOut, WithinCredit}
+use Rattle.wt_laws.specs.Laws.{DatagramsInOrder, HeadersOut, NothingAfterEnd, OneSession, OpenExactly, ReadsFromStart, ReadsInOrder, ReplyHasCause, RequestReported, SendsAll, SendsEnd, SendsInOrder, SessionStreamOut, SessionReported, SessionsRightly, SettingsOut, StreamsAcceptedRightly, WrittenGoesOut, WithinCredit}
 use Rattle.wt_laws.specs.LeavesRecord.{LeavesRecord}
 use Rattle.wt_laws.specs.Left.{PendingExactly}
 use Rattle.wt_laws.specs.OpenedInOrder.{OpenedInOrder}
@@ -16,7 +16,7 @@ use Rattle.wt_run.proofs.LawsHold.{laws}
 use Rattle.wt_run.proofs.PrefixLaws.{answered, completes, each-answered, stops-rightly}
 use Rattle.wt_run.proofs.RunLaws.{run-answers, run-lawful}
 use Rattle.wt_run.proofs.trace.run_trace.Goals as goal
-use Rattle.wt_run.specs.Laws.{AtEachTurn, BiStreamsInOrder, CallsAnswer, DoneAfterEnd, DriverIsRead, FaultsClose, HandshakesAnswer, HeadGoesOut, LateIsForgotten, MayBeCut, NonePendingAfterEnd, OfExchanges, ResultStaysAfterEnd, SettledStays, Throughout}
+use Rattle.wt_run.specs.Laws.{AtEachTurn, BiStreamsInOrder, CallsAnswer, DoneAfterEnd, DriverIsRead, FaultsClose, HandshakesAnswer, HeadGoesOut, LateIsForgotten, MayBeCut, NonePendingAfterEnd, OfExchanges, ResultStaysAfterEnd, DecidedStays, Throughout}
 use Rattle.wt_run.specs.Trace.{EachAnswered}
 
 pub returns-clause-answers : goal.returns-clause-answers
@@ -43,10 +43,10 @@ pub returns-clause-one_session : goal.returns-clause-one_session
 returns-clause-one_session c = answered c.args.side c.args.turns.now _ (AtEachTurn c.args.side (OneSession c.args.side) c.args.turns.now) c.run_turns.ensures.trace (laws c.args.side c.args.turns.now).one_session
 
 pub returns-clause-reported : goal.returns-clause-reported
-returns-clause-reported c = answered c.args.side c.args.turns.now _ (AtEachTurn c.args.side (SessionTold c.args.side) c.args.turns.now) c.run_turns.ensures.trace (laws c.args.side c.args.turns.now).reported
+returns-clause-reported c = answered c.args.side c.args.turns.now _ (AtEachTurn c.args.side (SessionReported c.args.side) c.args.turns.now) c.run_turns.ensures.trace (laws c.args.side c.args.turns.now).reported
 
 pub returns-clause-requests : goal.returns-clause-requests
-returns-clause-requests c = answered c.args.side c.args.turns.now _ (AtEachTurn c.args.side (RequestTold c.args.side) c.args.turns.now) c.run_turns.ensures.trace (laws c.args.side c.args.turns.now).requests
+returns-clause-requests c = answered c.args.side c.args.turns.now _ (AtEachTurn c.args.side (RequestReported c.args.side) c.args.turns.now) c.run_turns.ensures.trace (laws c.args.side c.args.turns.now).requests
 
 pub returns-clause-streams : goal.returns-clause-streams
 returns-clause-streams c = answered c.args.side c.args.turns.now _ (AtEachTurn c.args.side (StreamsAcceptedRightly c.args.side) c.args.turns.now) c.run_turns.ensures.trace (laws c.args.side c.args.turns.now).streams
@@ -67,7 +67,7 @@ pub returns-clause-datagrams : goal.returns-clause-datagrams
 returns-clause-datagrams c = answered c.args.side c.args.turns.now _ (OfExchanges c.args.side (DatagramsInOrder c.args.side) c.args.turns.now) c.run_turns.ensures.trace (laws c.args.side c.args.turns.now).datagrams
 
 pub returns-clause-next_datagram : goal.returns-clause-next_datagram
-returns-clause-next_datagram c = answered c.args.side c.args.turns.now _ (AtEachTurn c.args.side (DatagramTold c.args.side) c.args.turns.now) c.run_turns.ensures.trace (laws c.args.side c.args.turns.now).next_datagram
+returns-clause-next_datagram c = answered c.args.side c.args.turns.now _ (AtEachTurn c.args.side (DatagramReported c.args.side) c.args.turns.now) c.run_turns.ensures.trace (laws c.args.side c.args.turns.now).next_datagram
 
 pub returns-clause-pending : goal.returns-clause-pending
 returns-clause-pending c = answered c.args.side c.args.turns.now _ (AtEachTurn c.args.side (PendingExactly c.args.side) c.args.turns.now) c.run_turns.ensures.trace (laws c.args.side c.args.turns.now).pending
@@ -129,8 +129,8 @@ returns-clause-late c = answered c.args.side c.args.turns.now _ (AtEachTurn c.ar
 pub returns-clause-forgotten : goal.returns-clause-forgotten
 returns-clause-forgotten c = answered c.args.side c.args.turns.now _ (Throughout c.args.side (LateIsForgotten c.args.side) c.args.turns.now) c.run_turns.ensures.trace (laws c.args.side c.args.turns.now).forgotten
 
-pub returns-clause-settled_stay : goal.returns-clause-settled_stay
-returns-clause-settled_stay c = answered c.args.side c.args.turns.now _ (Throughout c.args.side (SettledStays c.args.side) c.args.turns.now) c.run_turns.ensures.trace (laws c.args.side c.args.turns.now).settled_stay
+pub returns-clause-decided_stay : goal.returns-clause-decided_stay
+returns-clause-decided_stay c = answered c.args.side c.args.turns.now _ (Throughout c.args.side (DecidedStays c.args.side) c.args.turns.now) c.run_turns.ensures.trace (laws c.args.side c.args.turns.now).decided_stay
 
 pub returns-clause-settings : goal.returns-clause-settings
 returns-clause-settings c = answered c.args.side c.args.turns.now _ (Throughout c.args.side (SettingsOut c.args.side) c.args.turns.now) c.run_turns.ensures.trace (laws c.args.side c.args.turns.now).settings
@@ -156,8 +156,8 @@ returns-clause-sends_end c = answered c.args.side c.args.turns.now _ (AtEachTurn
 pub returns-clause-credit : goal.returns-clause-credit
 returns-clause-credit c = answered c.args.side c.args.turns.now _ (Throughout c.args.side (WithinCredit c.args.side) c.args.turns.now) c.run_turns.ensures.trace (laws c.args.side c.args.turns.now).credit
 
-pub returns-clause-taken_goes_out : goal.returns-clause-taken_goes_out
-returns-clause-taken_goes_out c = answered c.args.side c.args.turns.now _ (Throughout c.args.side (TakenGoesOut c.args.side) c.args.turns.now) c.run_turns.ensures.trace (laws c.args.side c.args.turns.now).taken_goes_out
+pub returns-clause-written_goes_out : goal.returns-clause-written_goes_out
+returns-clause-written_goes_out c = answered c.args.side c.args.turns.now _ (Throughout c.args.side (WrittenGoesOut c.args.side) c.args.turns.now) c.run_turns.ensures.trace (laws c.args.side c.args.turns.now).written_goes_out
 
 pub returns-clause-opened_in_order : goal.returns-clause-opened_in_order
 returns-clause-opened_in_order c = answered c.args.side c.args.turns.now _ (Throughout c.args.side OpenedInOrder c.args.turns.now) c.run_turns.ensures.trace (laws c.args.side c.args.turns.now).opened_in_order

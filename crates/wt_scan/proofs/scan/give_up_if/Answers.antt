@@ -7,13 +7,13 @@ use Rattle.wt_scan.proofs.scan.give_up_if.Goals.{else-test-via-then-test+else-ca
 
 pub returns-then-can_receive : goal.returns-then-can_receive
 returns-then-can_receive c = record {
-  log = λ side log stage to untaken r can. rw c.if-test.true (twice side _ log untaken stage c.args.id to GivenUp (c.give_up.ensures.log side log (with_stage stage c.args.id to) untaken r));
+  log = λ side log stage to uncollected r can. rw c.if-test.true (twice side _ log uncollected stage c.args.id to GivenUp (c.give_up.ensures.log side log (with_stage stage c.args.id to) uncollected r));
 }
 
 pub returns-else-test : goal.returns-else-test
 returns-else-test c = elim c.else-test.branch [
   | else-test-via-then-test+else-can_receive w ↦ record {
-    log = λ side log stage to untaken r can. absurd (true≢false (sym can ∙ sym (w.can_receive.ensures.log side log (with_stage stage c.args.id to) untaken r) ∙ w.if-can_receive.false));
+    log = λ side log stage to uncollected r can. absurd (true≢false (sym can ∙ sym (w.can_receive.ensures.log side log (with_stage stage c.args.id to) uncollected r) ∙ w.if-can_receive.false));
   }
-  | else-test-via-else-test w ↦ record { log = λ side log stage to untaken r can. rw w.if-test.false r }
+  | else-test-via-else-test w ↦ record { log = λ side log stage to uncollected r can. rw w.if-test.false r }
 ]

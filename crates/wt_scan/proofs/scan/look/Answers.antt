@@ -6,16 +6,16 @@ use Rattle.wt_scan.proofs.scan.look.Goals as goal
 
 pub returns-then-is_decided : goal.returns-then-is_decided
 returns-then-is_decided c = record {
-  log = λ side log stage untaken n r a can.
-      rw (sym (c.in_ok-is_decided.ensures.answer side log stage untaken r a) ∙ c.if-is_decided.true)
-      (if_ok c.classify.result (λ left v. leaves-twice side log stage untaken c.args.id n c.args.half _ _ left _ _ v)
-      (c.classify.ensures.log side log (with_stage stage c.args.id (header_stage c.args.half)) untaken n (c.in_ok-is_decided.ensures.log side log stage untaken r a)
+  log = λ side log stage uncollected n r a can.
+      rw (sym (c.in_ok-is_decided.ensures.answer side log stage uncollected r a) ∙ c.if-is_decided.true)
+      (if_ok c.classify.result (λ left v. leaves-twice side log stage uncollected c.args.id n c.args.half _ _ left _ _ v)
+      (c.classify.ensures.log side log (with_stage stage c.args.id (header_stage c.args.half)) uncollected n (c.in_ok-is_decided.ensures.log side log stage uncollected r a)
       (header-awaits c.args.half stage c.args.id) can));
 }
 
 pub returns-else-is_decided : goal.returns-else-is_decided
 returns-else-is_decided c = record {
-  log = λ side log stage untaken n r a can.
-      rw (sym (c.in_ok-is_decided.ensures.answer side log stage untaken r a) ∙ c.if-is_decided.false, c.dequeued.ensures)
-      (record { inbox = c.in_ok-is_decided.ensures.log side log stage untaken r a; visited = refl });
+  log = λ side log stage uncollected n r a can.
+      rw (sym (c.in_ok-is_decided.ensures.answer side log stage uncollected r a) ∙ c.if-is_decided.false, c.dequeued.ensures)
+      (record { inbox = c.in_ok-is_decided.ensures.log side log stage uncollected r a; visited = refl });
 }

@@ -8,27 +8,27 @@ use Rattle.wt_script.proofs.script.read_on.Goals.{then-byte-eq10+in_ok-take_line
 pub returns-then-not-branch : goal.returns-then-not-branch
 returns-then-not-branch c =
     let script = c.args.script.now in
-    let line = take (c.loop-at.at - c.loop-at.start) (drop c.loop-at.start script) in
-    let lines = lines_from [] (drop (c.loop-at.at + 1) script) in
+    let line = take (c.loop-offset.offset - c.loop-offset.start) (drop c.loop-offset.start script) in
+    let lines = lines_from [] (drop (c.loop-offset.offset + 1) script) in
     let none = rw c.if-not-branch.true at c.in_ok-take_line.ensures in
-    sym (refused_here c.loop-at.number c.loop-at.draft line lines none)
-    ∙ ap (read_lines c.loop-at.number c.loop-at.draft) (sym (at_line_end line script c.loop-at.at c.loop-at-test.true c.if-byte-eq10.true))
-    ∙ c.loop-at.invariant.joined
+    sym (refused_here c.loop-offset.number c.loop-offset.draft line lines none)
+    ∙ ap (read_lines c.loop-offset.number c.loop-offset.draft) (sym (at_line_end line script c.loop-offset.offset c.loop-offset-test.true c.if-byte-eq10.true))
+    ∙ c.loop-offset.invariant.joined
 
-pub loop-at-preserved : goal.loop-at-preserved
-loop-at-preserved c = elim c.if-byte-eq10.branch [
+pub loop-offset-preserved : goal.loop-offset-preserved
+loop-offset-preserved c = elim c.if-byte-eq10.branch [
   | then-byte-eq10+in_ok-take_line+else-not-branch w ↦
-      let line = take (c.loop-at.at - c.loop-at.start) (drop c.loop-at.start c.args.script.now) in
-      let taken = rw w.if-not-branch.false at w.in_ok-take_line.ensures in
+      let line = take (c.loop-offset.offset - c.loop-offset.start) (drop c.loop-offset.start c.args.script.now) in
+      let accepted = rw w.if-not-branch.false at w.in_ok-take_line.ensures in
       rw (w.draft-is, w.number-is, w.start-is) (record {
-        joined = next_line c.args.script.now line c.loop-at.at c.loop-at.number c.loop-at.draft w.take_line.new.self c.loop-at-test.true w.if-byte-eq10.true taken ∙ c.loop-at.invariant.joined;
+        joined = next_line c.args.script.now line c.loop-offset.offset c.loop-offset.number c.loop-offset.draft w.take_line.new.self c.loop-offset-test.true w.if-byte-eq10.true accepted ∙ c.loop-offset.invariant.joined;
         begun = omega arith;
         count_is = omega arith;
       })
   | else-byte-eq10 w ↦
-      let same = in_line c.args.script.now c.loop-at.start c.loop-at.at c.loop-at.invariant.begun c.loop-at-test.true w.if-byte-eq10.false in
+      let same = in_line c.args.script.now c.loop-offset.start c.loop-offset.offset c.loop-offset.invariant.begun c.loop-offset-test.true w.if-byte-eq10.false in
       rw (w.draft-is, w.number-is, w.start-is) (record {
-        joined = ap (read_lines c.loop-at.number c.loop-at.draft) (sym same) ∙ c.loop-at.invariant.joined;
+        joined = ap (read_lines c.loop-offset.number c.loop-offset.draft) (sym same) ∙ c.loop-offset.invariant.joined;
         begun = omega arith;
         count_is = omega arith;
       })

@@ -8,8 +8,8 @@ use Rattle.wt_streams.proofs.unread.copy_pieces.Goals as goal
 pub loop-index-preserved : goal.loop-index-preserved
 loop-index-preserved c =
     let items : List (List ℕ) = c.args.pieces.now.items in
-    let at : ℕ = c.loop-index.at in
-    let n : ℕ = c.copy_at-at.result in
+    let offset : ℕ = c.loop-index.offset in
+    let n : ℕ = c.copy_at-offset.result in
     let old : List ℕ = c.args.buffer.now in
     let piece : List ℕ = c.as_slice.result.now in
     let done : List ℕ = concat (take c.loop-index.index items) in
@@ -18,9 +18,9 @@ loop-index-preserved c =
     let more : concat (take (c.loop-index.index + 1) items) ≡ done ++ piece =
     ap concat (take_more items c.loop-index.index c.index.result.now inside) ∙ concat_push (take c.loop-index.index items) _ ∙ ap (λ xs. done ++ xs) here in
     record {
-      at = more_at done piece old c.loop-index.buffer at n c.loop-index.invariant.at c.loop-index.auto.buffer c.loop-index.invariant.bytes c.copy_at-at.ensures.count
+      offset = more_at done piece old c.loop-index.buffer offset n c.loop-index.invariant.offset c.loop-index.auto.buffer c.loop-index.invariant.bytes c.copy_at-offset.ensures.count
           ∙ ap (λ xs. min (length old) (length xs)) (sym more);
-      bytes = c.copy_at-at.ensures.bytes
-          ∙ more_copied done piece old c.loop-index.buffer at n c.loop-index.invariant.at c.loop-index.auto.buffer c.loop-index.invariant.bytes c.copy_at-at.ensures.count
-          ∙ ap (λ xs. take (at + n) xs ++ drop (at + n) old) (sym more);
+      bytes = c.copy_at-offset.ensures.bytes
+          ∙ more_copied done piece old c.loop-index.buffer offset n c.loop-index.invariant.offset c.loop-index.auto.buffer c.loop-index.invariant.bytes c.copy_at-offset.ensures.count
+          ∙ ap (λ xs. take (offset + n) xs ++ drop (offset + n) old) (sym more);
     }

@@ -4,8 +4,8 @@ use Rattle.wt_streams.proofs.unread.copy_pieces.Given as goal
 
 abbrev pub invariant-loop-index : goal.invariant-loop-index
 invariant-loop-index l = record {
-  at : l.at ≡ min (length l.fn.buffer) (length (concat (take l.index l.pieces.items)));
-  bytes : l.buffer ≡ take l.at (concat (take l.index l.pieces.items)) ++ drop l.at l.fn.buffer;
+  offset : l.offset ≡ min (length l.fn.buffer) (length (concat (take l.index l.pieces.items)));
+  bytes : l.buffer ≡ take l.offset (concat (take l.index l.pieces.items)) ++ drop l.offset l.fn.buffer;
 }
 
 abbrev pub decreases-loop-index : goal.decreases-loop-index

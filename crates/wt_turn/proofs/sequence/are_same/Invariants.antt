@@ -1,5 +1,5 @@
 use Rattle.std.proofs.Common.{◌≡◌, take}
 use Rattle.wt_turn.proofs.sequence.are_same.Given as goal
 
-abbrev pub invariant-loop-at : goal.invariant-loop-at
-invariant-loop-at g l = take l.at l.items ≡ take l.at l.others
+abbrev pub invariant-loop-index : goal.invariant-loop-index
+invariant-loop-index g l = take l.index l.items ≡ take l.index l.others

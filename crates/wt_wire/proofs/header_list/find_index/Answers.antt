@@ -9,4 +9,4 @@ pub returns : goal.returns
 returns c =
     let facts = c.binary_search_by.ensures in
     searched c.args.name.now c.args.fields.now c.requires.ordered c.binary_search_by.result facts.bound
-    (facts.position (λ field. compare_names field.0 c.args.name.now) (always_returns_same _ _ _ (λ a r g called. (search rules, search rules))))
+    (facts.position (λ field. compare_names field.0 c.args.name.now) (always_returns_same _ _ _ (λ a r g calls. (search rules, search rules))))

@@ -7,9 +7,9 @@ use Rattle.wt_reply.specs.declared.reply.Reply.TheVariants as replies
 use Rattle.wt_connection.proofs.connection.Connection.max_datagram_size.Goals as goal
 
 pub returns-clause-reply : goal.returns-clause-reply
-returns-clause-reply c = rw (← c.self.view_is) (λ side log taken f r s.
-    ap replies.Size (c.payload_limit-limit.ensures ∙ ap (λ (t : TransportState). payload_limit c.self.inside.session t.datagram_fact) c.transport.ensures) ∙ size_replies side log c.self.inside.session s c.args.d.now taken f r)
+returns-clause-reply c = rw (← c.self.view_is) (λ side log collected f r s.
+    ap replies.Size (c.payload_limit-limit.ensures ∙ ap (λ (t : TransportState). payload_limit c.self.inside.session t.datagram_fact) c.transport.ensures) ∙ size_replies side log c.self.inside.session s c.args.d.now collected f r)
 
 pub returns-clause-log : goal.returns-clause-log
-returns-clause-log c = rw (← c.self.view_is) (λ side log taken f r s.
-    c.record.ensures.log side log taken calls.MaxDatagramSize _ f r (may_use side log c.self.inside.session s) (size_by_log side log c.self.inside.session s c.args.d.now taken f r))
+returns-clause-log c = rw (← c.self.view_is) (λ side log collected f r s.
+    c.record.ensures.log side log collected calls.MaxDatagramSize _ f r (may_use side log c.self.inside.session s) (size_by_log side log c.self.inside.session s c.args.d.now collected f r))

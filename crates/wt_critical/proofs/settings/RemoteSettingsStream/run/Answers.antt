@@ -1,9 +1,9 @@
-use Rattle.wt_critical.proofs.Runs.{control-goes-on, control-now, control-reading, control-told}
+use Rattle.wt_critical.proofs.Runs.{control-goes-on, control-now, control-reading, control-reported}
 use Rattle.wt_critical.proofs.settings.RemoteSettingsStream.run.Goals as goal
 
 pub returns-clause-answer : goal.returns-clause-answer
 returns-clause-answer c =
-    control-told c.args.self.now c.self.inside.stream c.in-Some.stream c.self.inside.reader c.args.t.now c.self.view_is c.in-Some.is
+    control-reported c.args.self.now c.self.inside.stream c.in-Some.stream c.self.inside.reader c.args.t.now c.self.view_is c.in-Some.is
     c.id_of-id.result c.id_of-id.ensures.id c.is_open-is_open.result c.is_open-is_open.ensures.now
     c.in_ok-shown.shown c.in_ok-shown.ensures.shown c.shown_or_ended.result c.shown_or_ended.ensures
 

@@ -8,8 +8,8 @@ use Rattle.wt_driver.proofs.driver.Driver.accept.Given as goal
 
 abbrev pub invariant-loop-due : goal.invariant-loop-due
 invariant-loop-due l = record {
-  looks : (side : Side) (log : Log) (taken : ℕ) → Follows side l.fn.self log taken
-      → LooksOn side taken (log_streams side l.kind l.session) (take_due (log_streams side l.kind l.session) (suc l.looks) log) l.left l.self;
+  looks : (side : Side) (log : Log) (collected : ℕ) → Follows side l.fn.self log collected
+      → LooksOn side collected (log_streams side l.kind l.session) (take_due (log_streams side l.kind l.session) (suc l.looks) log) l.left l.self;
   has_given : l.self.has_given_settings ≡ l.fn.self.has_given_settings;
 }
 

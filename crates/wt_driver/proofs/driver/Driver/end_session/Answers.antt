@@ -7,9 +7,9 @@ use Rattle.wt_driver.proofs.driver.Driver.end_session.Goals as goal
 
 pub returns-clause-log : goal.returns-clause-log
 returns-clause-log c = rw (← c.self.view_is)
-    (λ side log stage untaken at r e.
-    let a = c.in_ok-walk.ensures.log_answer side log stage untaken r at e in
-    noted side log untaken _ c.note_session.new.self c.release_session.new.self stage (with_stage stage c.args.id Anywhere) _ _ _ r (c.in_ok-walk.ensures.log side log stage untaken r at e) refl
+    (λ side log stage uncollected offset r e.
+    let a = c.in_ok-walk.ensures.log_answer side log stage uncollected r offset e in
+    noted side log uncollected _ c.note_session.new.self c.release_session.new.self stage (with_stage stage c.args.id Anywhere) _ _ _ r (c.in_ok-walk.ensures.log side log stage uncollected r offset e) refl
     (ap (λ (v : DriverValue). v.inbox) c.note_session.ensures) (ap (λ (v : DriverValue). v.state) c.note_session.ensures) (ap (λ (v : DriverValue). v.queue) c.note_session.ensures) (ap (λ (v : DriverValue). v.settings) c.note_session.ensures)
     (λ i. session_ends (a.0 i) (a.1 i) c.self.inside.progress))
 

@@ -5,7 +5,7 @@ use Rattle.wt_inbox.specs.Stage.{Refines}
 use Rattle.wt_driver.proofs.driver.Driver.note_byte.Goals as goal
 
 pub returns-else-bytes_fit-clause-log : goal.returns-else-bytes_fit-clause-log
-returns-else-bytes_fit-clause-log c = λ side log stage untaken r may.
+returns-else-bytes_fit-clause-log c = λ side log stage uncollected r may.
     absurd
     (true≢false
-    (sym may ∙ sym (c.bytes_fit.ensures.log side log stage untaken (subst (λ (v : DriverValue). Refines side v.inbox log stage untaken) (sym c.self.view_is) r) (c.args.byte ∷ [])) ∙ c.if-bytes_fit.false))
+    (sym may ∙ sym (c.bytes_fit.ensures.log side log stage uncollected (subst (λ (v : DriverValue). Refines side v.inbox log stage uncollected) (sym c.self.view_is) r) (c.args.byte ∷ [])) ∙ c.if-bytes_fit.false))

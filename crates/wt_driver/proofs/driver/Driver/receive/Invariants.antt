@@ -8,7 +8,7 @@ use Rattle.wt_driver.proofs.driver.Driver.receive.Given as goal
 
 abbrev pub invariant-loop-is_own : goal.invariant-loop-is_own
 invariant-loop-is_own l = record {
-  looks : (side : Side) (log : Log) (taken : ℕ) → Follows side l.fn.self log taken → LooksOn side taken (log_datagrams side l.session) (receive_outcome side log l.session) l.left l.self;
+  looks : (side : Side) (log : Log) (collected : ℕ) → Follows side l.fn.self log collected → LooksOn side collected (log_datagrams side l.session) (receive_outcome side log l.session) l.left l.self;
   has_given : l.self.has_given_settings ≡ l.fn.self.has_given_settings;
 }
 

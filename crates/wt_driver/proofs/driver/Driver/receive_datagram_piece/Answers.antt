@@ -8,8 +8,8 @@ use Rattle.wt_spec.specs.Connection.{read_datagram}
 use Rattle.wt_driver.proofs.driver.Driver.receive_datagram_piece.Goals as goal
 
 pub returns-in-Some-clause-given : goal.returns-in-Some-clause-given
-returns-in-Some-clause-given c = λ side log taken f.
-    ap (λ (x : Option (List ℕ)). payload_in (read_datagram x)) (sym c.in-Some.is) ∙ c.in_ok-piece.ensures.given side log taken f
+returns-in-Some-clause-given c = λ side log collected f.
+    ap (λ (x : Option (List ℕ)). payload_in (read_datagram x)) (sym c.in-Some.is) ∙ c.in_ok-piece.ensures.given side log collected f
 
 pub returns-in-Some-clause-nothing : goal.returns-in-Some-clause-nothing
 returns-in-Some-clause-nothing c = λ e.
@@ -21,10 +21,10 @@ returns-in-Some-clause-own c = λ piece e.
 
 pub returns-in-None : goal.returns-in-None
 returns-in-None c = record {
-  log = λ side log taken f. always-ok c.nothing_left.result (c.in_ok-piece.ensures.log side log taken f);
-  given = λ side log taken f.
+  log = λ side log collected f. always-ok c.nothing_left.result (c.in_ok-piece.ensures.log side log collected f);
+  given = λ side log collected f.
       nothing-paid c.nothing_left.result (receive_outcome side log c.args.session).given (result_of c.receive.new.self.state.is_open c.receive.new.self.state.progress.ending)
-      (ap (λ (x : Option (List ℕ)). payload_in (read_datagram x)) (sym c.in-None.is) ∙ c.in_ok-piece.ensures.given side log taken f) c.nothing_left.ensures;
+      (ap (λ (x : Option (List ℕ)). payload_in (read_datagram x)) (sym c.in-None.is) ∙ c.in_ok-piece.ensures.given side log collected f) c.nothing_left.ensures;
   nothing = nothing-else c.nothing_left.result (result_of c.receive.new.self.state.is_open c.receive.new.self.state.progress.ending) (λ p. payload_by p ≡ None) c.nothing_left.ensures;
   has_given = always-ok c.nothing_left.result c.in_ok-piece.ensures.has_given;
   own = nothing-own c.nothing_left.result c.args.session (result_of c.receive.new.self.state.is_open c.receive.new.self.state.progress.ending) c.nothing_left.ensures;

@@ -5,7 +5,7 @@ use Rattle.wt_turn.specs.Log.{Called}
 use Rattle.wt_driver.proofs.driver.Driver.record_call.Goals as goal
 
 pub returns-clause-log : goal.returns-clause-log
-returns-clause-log c = λ side log taken f a. c.scan_and_flush.ensures.log side log (Called (record_of c.args.call.now)) taken (c.in_ok-note_call.ensures.log side log taken f a)
+returns-clause-log c = λ side log collected f a. c.scan_and_flush.ensures.log side log (Called (record_of c.args.call.now)) collected (c.in_ok-note_call.ensures.log side log collected f a)
 
 pub returns-clause-has_given : goal.returns-clause-has_given
 returns-clause-has_given c = on_ok_weaker c.scan_and_flush.result (λ e. e ∙ c.in_ok-note_call.ensures.has_given) c.scan_and_flush.ensures.has_given

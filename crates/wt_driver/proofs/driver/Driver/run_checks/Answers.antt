@@ -8,7 +8,7 @@ use Rattle.wt_spec.specs.Driver.{transport_view}
 use Rattle.wt_driver.proofs.driver.Driver.run_checks.Goals as goal
 
 pub returns-clause-log : goal.returns-clause-log
-returns-clause-log c = λ side log stage untaken r o h w.
+returns-clause-log c = λ side log stage uncollected r o h w.
     let t = transport_view side log in
     let d0 = c.args.self.now in
     let d1 = c.check_datagram.new.self in
@@ -17,16 +17,16 @@ returns-clause-log c = λ side log stage untaken r o h w.
     let d4 = c.check_control.new.self in
     let d5 = c.check_encoder.new.self in
     let d6 = c.check_decoder.new.self in
-    let m1 = state-moves side log untaken d0 d1 stage (datagram_checked_state t d0.state) r (c.in_ok-check_datagram.ensures.log side log stage untaken r o h) in
-    let m2 = c.in_ok-check_session.ensures.log side log stage untaken m1.inbox (λ none. subst (λ (s : DriverState). WalkFrom session_offset stage s.session) (sym m1.state_is) (w.session (ap (λ (s : DriverState). s.progress.ending) (sym m1.state_is) ∙ none))) in
+    let m1 = state-moves side log uncollected d0 d1 stage (datagram_checked_state t d0.state) r (c.in_ok-check_datagram.ensures.log side log stage uncollected r o h) in
+    let m2 = c.in_ok-check_session.ensures.log side log stage uncollected m1.inbox (λ none. subst (λ (s : DriverState). WalkFrom session_offset stage s.session) (sym m1.state_is) (w.session (ap (λ (s : DriverState). s.progress.ending) (sym m1.state_is) ∙ none))) in
     let st2 = session_checked_stages t d1.state stage in
-    let m3 = state-moves side log untaken d2 d3 st2 (local_state t d2.state) m2.inbox (c.check_local_control.ensures.log side log st2 untaken m2.inbox) in
-    let a3 = three-checks side log untaken t stage d0 d1 d2 d3 m1 m2 m3 in
-    let m4 = c.in_ok-check_control.ensures.log side log st2 untaken m3.inbox (control-waits side log untaken t stage d0 d1 d2 d3 m1 a3 w.control) in
+    let m3 = state-moves side log uncollected d2 d3 st2 (local_state t d2.state) m2.inbox (c.check_local_control.ensures.log side log st2 uncollected m2.inbox) in
+    let a3 = three-checks side log uncollected t stage d0 d1 d2 d3 m1 m2 m3 in
+    let m4 = c.in_ok-check_control.ensures.log side log st2 uncollected m3.inbox (control-waits side log uncollected t stage d0 d1 d2 d3 m1 a3 w.control) in
     let st4 = control_checked_stages d3.state st2 in
-    let m5 = state-moves side log untaken d4 d5 st4 (encoder_state t d4.state) m4.inbox (c.check_encoder.ensures.log side log st4 untaken m4.inbox) in
-    let m6 = state-moves side log untaken d5 d6 st4 (decoder_state t d5.state) m5.inbox (c.check_decoder.ensures.log side log st4 untaken m5.inbox) in
-    checks-done side log untaken t stage d0 d1 d2 d3 d4 d5 d6 m1 a3 m4 m5 m6
+    let m5 = state-moves side log uncollected d4 d5 st4 (encoder_state t d4.state) m4.inbox (c.check_encoder.ensures.log side log st4 uncollected m4.inbox) in
+    let m6 = state-moves side log uncollected d5 d6 st4 (decoder_state t d5.state) m5.inbox (c.check_decoder.ensures.log side log st4 uncollected m5.inbox) in
+    checks-done side log uncollected t stage d0 d1 d2 d3 d4 d5 d6 m1 a3 m4 m5 m6
 
 pub returns-clause-has_given : goal.returns-clause-has_given
 returns-clause-has_given c =

@@ -15,7 +15,7 @@ use Rattle.wt_spec.specs.Driver.{transport_view}
 use Rattle.wt_driver.proofs.driver.Driver.scan.Goals as goal
 
 pub returns-clause-log : goal.returns-clause-log
-returns-clause-log c = λ side log stage untaken r o h w g.
+returns-clause-log c = λ side log stage uncollected r o h w g.
     let t = transport_view side log in
     let d0 = c.args.self.now in
     let d1 = c.begin_scan.new.self in
@@ -27,31 +27,31 @@ returns-clause-log c = λ side log stage untaken r o h w g.
     let s3 = scan_bi_slots t s2 in
     let st2 = uni_stages t s1 stage in
     let st3 = bi_stages t s2 st2 in
-    let m1 = state-moves side log untaken d0 d1 stage s1 r c.begin_scan.ensures in
-    let m2 = c.in_ok-scan_unis.ensures.log side log stage untaken m1.inbox o
+    let m1 = state-moves side log uncollected d0 d1 stage s1 r c.begin_scan.ensures in
+    let m2 = c.in_ok-scan_unis.ensures.log side log stage uncollected m1.inbox o
     (subst (λ (s : DriverState). AllAwait Uni stage s.unis) (sym m1.state_is) w.unis_await)
     (subst (λ (s : DriverState). SlotsReceive side log s.unis) (sym m1.state_is) g.unis)
     (subst (λ (s : DriverState). AreDistinct s.unis) (sym m1.state_is) w.unis_distinct)
     (subst (λ (s : DriverState). IsBounded 4 0 s.unis) (sym m1.state_is) w.unis_bounded) in
-    let a2 : Moves side log untaken d0 d2 st2 s2 d0.settings =
-    subst (λ (z : ℕ → Stage). Moves side log untaken d0 d2 z s2 d0.settings) (ap (λ (s : DriverState). uni_stages t s stage) m1.state_is)
-    (moves-on side log untaken d0 d1 d2 stage (uni_stages t d1.state stage) s1 (scan_uni_slots t) d0.settings m1 m2) in
-    let m3 = c.in_ok-scan_bis.ensures.log side log st2 untaken a2.inbox o
+    let a2 : Moves side log uncollected d0 d2 st2 s2 d0.settings =
+    subst (λ (z : ℕ → Stage). Moves side log uncollected d0 d2 z s2 d0.settings) (ap (λ (s : DriverState). uni_stages t s stage) m1.state_is)
+    (moves-on side log uncollected d0 d1 d2 stage (uni_stages t d1.state stage) s1 (scan_uni_slots t) d0.settings m1 m2) in
+    let m3 = c.in_ok-scan_bis.ensures.log side log st2 uncollected a2.inbox o
     (subst (λ (s : DriverState). AllAwait Bi st2 s.bis) (sym a2.state_is) w.bis_await)
     (subst (λ (s : DriverState). SlotsReceive side log s.bis) (sym a2.state_is) g.bis)
     (subst (λ (s : DriverState). AreDistinct s.bis) (sym a2.state_is) w.bis_distinct)
     (subst (λ (s : DriverState). IsBounded 1 0 s.bis) (sym a2.state_is) w.bis_bounded) in
-    let a3 : Moves side log untaken d0 d3 st3 s3 d0.settings =
-    subst (λ (z : ℕ → Stage). Moves side log untaken d0 d3 z s3 d0.settings) (ap (λ (s : DriverState). bi_stages t s st2) a2.state_is)
-    (moves-on side log untaken d0 d2 d3 st2 (bi_stages t d2.state st2) s2 (scan_bi_slots t) d0.settings a2 m3) in
+    let a3 : Moves side log uncollected d0 d3 st3 s3 d0.settings =
+    subst (λ (z : ℕ → Stage). Moves side log uncollected d0 d3 z s3 d0.settings) (ap (λ (s : DriverState). bi_stages t s st2) a2.state_is)
+    (moves-on side log uncollected d0 d2 d3 st2 (bi_stages t d2.state st2) s2 (scan_bi_slots t) d0.settings a2 m3) in
     let due : HasDatagram side log d3 =
     subst (λ (q : List (List ℕ)). t.datagram d3.state.datagrams ≡ front_of q) (sym a3.queue)
     (subst (λ (s : DriverState). t.datagram s.datagrams ≡ front_of d0.queue) (sym a3.state_is) h) in
     on_ok_weaker c.run_checks.result
     (λ m4.
-    subst (λ (z : ℕ → Stage). Moves side log untaken d0 d4 z (run_checks t s3) (settings_checked t s3 d0.settings)) (ap (λ (s : DriverState). check_stages t s st3) a3.state_is)
-    (reads-on side log untaken d0 d3 d4 st3 (check_stages t d3.state st3) s3 (run_checks t) d0.settings (settings_checked t) a3 m4))
-    (c.run_checks.ensures.log side log st3 untaken a3.inbox o due (subst (λ (s : DriverState). MayCheck t s st3) (sym a3.state_is) w.checks))
+    subst (λ (z : ℕ → Stage). Moves side log uncollected d0 d4 z (run_checks t s3) (settings_checked t s3 d0.settings)) (ap (λ (s : DriverState). check_stages t s st3) a3.state_is)
+    (reads-on side log uncollected d0 d3 d4 st3 (check_stages t d3.state st3) s3 (run_checks t) d0.settings (settings_checked t) a3 m4))
+    (c.run_checks.ensures.log side log st3 uncollected a3.inbox o due (subst (λ (s : DriverState). MayCheck t s st3) (sym a3.state_is) w.checks))
 
 pub returns-clause-has_given : goal.returns-clause-has_given
 returns-clause-has_given c =

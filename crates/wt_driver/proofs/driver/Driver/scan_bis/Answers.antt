@@ -5,5 +5,5 @@ use Rattle.wt_driver.proofs.driver.Driver.scan_bis.Goals as goal
 
 pub returns-clause-log : goal.returns-clause-log
 returns-clause-log c = rw (← c.self.view_is)
-    (λ side log stage untaken r o a g d b.
-    on_ok_weaker c.scan.result (bis-moved side log untaken _ c.scan.new.inbox stage c.scan.new.slots.items c.scan.new.dispatched c.scan.new.progress r refl) (c.scan.ensures.log side log stage untaken r o a g d b))
+    (λ side log stage uncollected r o a g d b.
+    on_ok_weaker c.scan.result (bis-moved side log uncollected _ c.scan.new.inbox stage c.scan.new.slots.items c.scan.new.dispatched c.scan.new.progress r refl) (c.scan.ensures.log side log stage uncollected r o a g d b))

@@ -7,12 +7,12 @@ use Rattle.wt_turn.specs.declared.turn.Turn.TheVariants as turns
 use Rattle.wt_wire.specs.declared.side.Side.{Side}
 use Rattle.wt_driver.proofs.driver.Driver.take_bytes.Given as goal
 
-abbrev pub invariant-loop-at : goal.invariant-loop-at
-invariant-loop-at l = record {
-  taken_in : (side : Side) (log : Log) (taken : ℕ) → Follows side l.fn.self log taken → fits side log (turns.Bytes l.id l.bytes) ≡ true
-      → BytesSoFar side log taken l.id l.bytes l.at l.self;
+abbrev pub invariant-loop-index : goal.invariant-loop-index
+invariant-loop-index l = record {
+  taken_in : (side : Side) (log : Log) (collected : ℕ) → Follows side l.fn.self log collected → fits side log (turns.Bytes l.id l.bytes) ≡ true
+      → BytesSoFar side log collected l.id l.bytes l.index l.self;
   has_given : l.self.has_given_settings ≡ l.fn.self.has_given_settings;
 }
 
-abbrev pub decreases-loop-at : goal.decreases-loop-at
-decreases-loop-at l = length l.bytes - l.at
+abbrev pub decreases-loop-index : goal.decreases-loop-index
+decreases-loop-index l = length l.bytes - l.index

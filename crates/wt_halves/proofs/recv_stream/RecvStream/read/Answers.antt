@@ -1,6 +1,6 @@
 use Rattle.std.proofs.Common.{◌∙◌, ◌≡◌, ◌≤◌, ap, arith, drop, length, min, take, ℕ}
 use Rattle.std.proofs.lemmas.List.{length-take-le}
-use Rattle.wt_halves.proofs.Receiving.{may_use, read_planned, read_told}
+use Rattle.wt_halves.proofs.Receiving.{may_use, read_planned, read_reported}
 use Rattle.wt_seam.specs.Rules.{receiving_half_now}
 use Rattle.wt_seam.specs.Step.{unread_now}
 use Rattle.wt_streams.specs.HalfRules.{read_answer}
@@ -9,22 +9,22 @@ use Rattle.wt_turn.specs.declared.call.Call.TheVariants as calls
 use Rattle.wt_halves.proofs.recv_stream.RecvStream.read.Goals as goal
 
 pub returns-clause-reply : goal.returns-clause-reply
-returns-clause-reply c = rw (← c.self.view_is) (λ side log taken f r h.
+returns-clause-reply c = rw (← c.self.view_is) (λ side log collected f r h.
     let size = length c.args.buf.now in
     let unread = unread_now c.transport-t.result.now c.self.inside.id in
     let count : c.min-count.result ≡ min size (length unread) = c.min-count.ensures ∙ ap (λ (n : ℕ). min size n) c.unread.ensures.now in
     let within : c.min-count.result ≤ size = omega arith in
-    read_told side c.args.d.now log taken f r c.self.inside.id h size c.transport-t.result.now c.transport-t.ensures c.read_answer-answer.result c.read_answer-answer.ensures
+    read_reported side c.args.d.now log collected f r c.self.inside.id h size c.transport-t.result.now c.transport-t.ensures c.read_answer-answer.result c.read_answer-answer.ensures
     c.min-count.result count c.copy_unread.new.buffer (drop c.min-count.result c.args.buf.now)
     (c.copy_unread.ensures ∙ ap (λ (n : ℕ). take n unread) (length-take-le c.min-count.result c.args.buf.now within)))
 
 pub returns-clause-log : goal.returns-clause-log
-returns-clause-log c = rw (← c.self.view_is) (λ side log taken f r h.
+returns-clause-log c = rw (← c.self.view_is) (λ side log collected f r h.
     let size = length c.args.buf.now in
     let unread = unread_now c.transport-t.result.now c.self.inside.id in
     let count : c.min-count.result ≡ min size (length unread) = c.min-count.ensures ∙ ap (λ (n : ℕ). min size n) c.unread.ensures.now in
-    c.record.ensures.log side log taken (calls.Read c.self.inside.id size) _ f r (may_use side log c.self.inside.id h)
-    (read_planned side c.args.d.now log taken f r c.self.inside.id h size c.transport-t.result.now c.transport-t.ensures c.min-count.result count (record_of c.read_record.result) c.read_record.ensures.now))
+    c.record.ensures.log side log collected (calls.Read c.self.inside.id size) _ f r (may_use side log c.self.inside.id h)
+    (read_planned side c.args.d.now log collected f r c.self.inside.id h size c.transport-t.result.now c.transport-t.ensures c.min-count.result count (record_of c.read_record.result) c.read_record.ensures.now))
 
 pub returns-clause-empty : goal.returns-clause-empty
 returns-clause-empty c = λ z.

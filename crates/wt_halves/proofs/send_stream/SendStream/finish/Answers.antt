@@ -1,20 +1,20 @@
-use Rattle.wt_halves.proofs.Sending.{finish_planned, finish_told, may_use, missing}
+use Rattle.wt_halves.proofs.Sending.{finish_planned, finish_reported, may_use, missing}
 use Rattle.wt_turn.specs.declared.call.Call.TheVariants as calls
 use Rattle.wt_halves.proofs.send_stream.SendStream.finish.Goals as goal
 
 pub returns-then-not-can_send-clause-reply : goal.returns-then-not-can_send-clause-reply
-returns-then-not-can_send-clause-reply c = rw (← c.self.view_is) (λ side log taken f r h.
-    absurd (missing side c.args.d.now log taken f r c.self.inside.id h c.transport-t.result.now c.transport-t.ensures c.can_send.result c.can_send.ensures.now c.if-not-can_send.true))
+returns-then-not-can_send-clause-reply c = rw (← c.self.view_is) (λ side log collected f r h.
+    absurd (missing side c.args.d.now log collected f r c.self.inside.id h c.transport-t.result.now c.transport-t.ensures c.can_send.result c.can_send.ensures.now c.if-not-can_send.true))
 
 pub returns-then-not-can_send-clause-log : goal.returns-then-not-can_send-clause-log
-returns-then-not-can_send-clause-log c = rw (← c.self.view_is) (λ side log taken f r h.
-    absurd (missing side c.args.d.now log taken f r c.self.inside.id h c.transport-t.result.now c.transport-t.ensures c.can_send.result c.can_send.ensures.now c.if-not-can_send.true))
+returns-then-not-can_send-clause-log c = rw (← c.self.view_is) (λ side log collected f r h.
+    absurd (missing side c.args.d.now log collected f r c.self.inside.id h c.transport-t.result.now c.transport-t.ensures c.can_send.result c.can_send.ensures.now c.if-not-can_send.true))
 
 pub returns-clause-reply : goal.returns-clause-reply
-returns-clause-reply c = rw (← c.self.view_is) (λ side log taken f r h.
-    finish_told side c.args.d.now log taken f r c.self.inside.id h c.transport-t.result.now c.transport-t.ensures c.finish_answer-answer.result c.finish_answer-answer.ensures)
+returns-clause-reply c = rw (← c.self.view_is) (λ side log collected f r h.
+    finish_reported side c.args.d.now log collected f r c.self.inside.id h c.transport-t.result.now c.transport-t.ensures c.finish_answer-answer.result c.finish_answer-answer.ensures)
 
 pub returns-clause-log : goal.returns-clause-log
-returns-clause-log c = rw (← c.self.view_is) (λ side log taken f r h.
-    c.in_ok-carry_out.ensures.log side log taken (calls.Finish c.self.inside.id) f r (may_use side log c.self.inside.id h)
-    (finish_planned side c.args.d.now log taken f r c.self.inside.id h c.transport-t.result.now c.transport-t.ensures c.in_ok-plan.plan c.in_ok-plan.ensures))
+returns-clause-log c = rw (← c.self.view_is) (λ side log collected f r h.
+    c.in_ok-carry_out.ensures.log side log collected (calls.Finish c.self.inside.id) f r (may_use side log c.self.inside.id h)
+    (finish_planned side c.args.d.now log collected f r c.self.inside.id h c.transport-t.result.now c.transport-t.ensures c.in_ok-plan.plan c.in_ok-plan.ensures))

@@ -1,19 +1,19 @@
-use Rattle.wt_halves.proofs.Sending.{may_use, missing, stopped_by_log, stopped_told}
+use Rattle.wt_halves.proofs.Sending.{may_use, missing, stopped_by_log, stopped_reported}
 use Rattle.wt_turn.specs.declared.call.Call.TheVariants as calls
 use Rattle.wt_halves.proofs.send_stream.SendStream.stopped.Goals as goal
 
 pub returns-then-not-can_send-clause-reply : goal.returns-then-not-can_send-clause-reply
-returns-then-not-can_send-clause-reply c = rw (← c.self.view_is) (λ side log taken f r h.
-    absurd (missing side c.args.d.now log taken f r c.self.inside.id h c.transport-t.result.now c.transport-t.ensures c.can_send.result c.can_send.ensures.now c.if-not-can_send.true))
+returns-then-not-can_send-clause-reply c = rw (← c.self.view_is) (λ side log collected f r h.
+    absurd (missing side c.args.d.now log collected f r c.self.inside.id h c.transport-t.result.now c.transport-t.ensures c.can_send.result c.can_send.ensures.now c.if-not-can_send.true))
 
 pub returns-then-not-can_send-clause-log : goal.returns-then-not-can_send-clause-log
-returns-then-not-can_send-clause-log c = rw (← c.self.view_is) (λ side log taken f r h.
-    absurd (missing side c.args.d.now log taken f r c.self.inside.id h c.transport-t.result.now c.transport-t.ensures c.can_send.result c.can_send.ensures.now c.if-not-can_send.true))
+returns-then-not-can_send-clause-log c = rw (← c.self.view_is) (λ side log collected f r h.
+    absurd (missing side c.args.d.now log collected f r c.self.inside.id h c.transport-t.result.now c.transport-t.ensures c.can_send.result c.can_send.ensures.now c.if-not-can_send.true))
 
 pub returns-clause-reply : goal.returns-clause-reply
-returns-clause-reply c = rw (← c.self.view_is) (λ side log taken f r h.
-    stopped_told side c.args.d.now log taken f r c.self.inside.id h c.transport-t.result.now c.transport-t.ensures c.stopped_answer-answer.result c.stopped_answer-answer.ensures)
+returns-clause-reply c = rw (← c.self.view_is) (λ side log collected f r h.
+    stopped_reported side c.args.d.now log collected f r c.self.inside.id h c.transport-t.result.now c.transport-t.ensures c.stopped_answer-answer.result c.stopped_answer-answer.ensures)
 
 pub returns-clause-log : goal.returns-clause-log
-returns-clause-log c = rw (← c.self.view_is) (λ side log taken f r h.
-    c.record.ensures.log side log taken (calls.Stopped c.self.inside.id) _ f r (may_use side log c.self.inside.id h) (stopped_by_log side c.args.d.now log taken f r c.self.inside.id h))
+returns-clause-log c = rw (← c.self.view_is) (λ side log collected f r h.
+    c.record.ensures.log side log collected (calls.Stopped c.self.inside.id) _ f r (may_use side log c.self.inside.id h) (stopped_by_log side c.args.d.now log collected f r c.self.inside.id h))

@@ -13,7 +13,7 @@ pub returns-clause-quiet : goal.returns-clause-quiet
 returns-clause-quiet c = read-quiet-of (record { transport = c.self.inside.transport; unis = c.self.inside.unis; bis = c.self.inside.bis; responses = c.self.inside.responses; controls = c.self.inside.controls; sessions = c.self.inside.sessions }) c.args.self.now c.consume.new.self c.args.id c.self.view_is c.args.count (subst (λ (z : InboxState). c.args.count ≤ length (unread_now z.transport c.args.id)) (sym c.self.view_is) c.requires) c.consume.ensures.now
 
 pub returns-clause-log : goal.returns-clause-log
-returns-clause-log c = λ side log stage untaken r offset a.
+returns-clause-log c = λ side log stage uncollected r offset a.
     let x : InboxState = record { transport = c.self.inside.transport; unis = c.self.inside.unis; bis = c.self.inside.bis; responses = c.self.inside.responses; controls = c.self.inside.controls; sessions = c.self.inside.sessions } in
-    let s : Refines side x log stage untaken = subst (λ (y : InboxState). Refines side y log stage untaken) (sym c.self.view_is) r in
-    reads-body side x log stage untaken s c.args.id offset a c.consume.new.self c.args.count (c.consume.ensures.log side log s.position untaken s.transport)
+    let s : Refines side x log stage uncollected = subst (λ (y : InboxState). Refines side y log stage uncollected) (sym c.self.view_is) r in
+    reads-body side x log stage uncollected s c.args.id offset a c.consume.new.self c.args.count (c.consume.ensures.log side log s.position uncollected s.transport)

@@ -6,5 +6,5 @@ use Rattle.wt_seam.proofs.Refining.{refined_side}
 use Rattle.wt_inbox.proofs.inbox.Inbox.control_credit.Goals as goal
 
 pub returns-clause-log : goal.returns-clause-log
-returns-clause-log c = λ side log stage untaken r o.
-    c.credit.ensures.log side log stage untaken r o ∙ ap (credit (events_of log)) (c.control_id.ensures ∙ ap local_uni (refined_side side c.args.self.now.transport log r.position untaken r.transport))
+returns-clause-log c = λ side log stage uncollected r o.
+    c.credit.ensures.log side log stage uncollected r o ∙ ap (credit (events_of log)) (c.control_id.ensures ∙ ap local_uni (refined_side side c.args.self.now.transport log r.position uncollected r.transport))

@@ -7,5 +7,5 @@ use Rattle.wt_seam.proofs.Refining.{refined_side}
 use Rattle.wt_inbox.proofs.inbox.Inbox.control_stopped.Goals as goal
 
 pub returns-clause-log : goal.returns-clause-log
-returns-clause-log c = λ side log stage untaken r.
-    c.is_some.ensures ∙ ap is_some (c.stop_code.ensures.log side log stage untaken r ∙ ap (stop_of (events_of log)) (c.control_id.ensures ∙ ap local_uni (refined_side side c.args.self.now.transport log r.position untaken r.transport)))
+returns-clause-log c = λ side log stage uncollected r.
+    c.is_some.ensures ∙ ap is_some (c.stop_code.ensures.log side log stage uncollected r ∙ ap (stop_of (events_of log)) (c.control_id.ensures ∙ ap local_uni (refined_side side c.args.self.now.transport log r.position uncollected r.transport)))

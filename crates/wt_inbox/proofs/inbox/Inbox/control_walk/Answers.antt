@@ -19,10 +19,10 @@ pub returns-clause-quiet : goal.returns-clause-quiet
 returns-clause-quiet c = control-quiet c.args.self.now c.pull_control.new.self c.args.id c.in_ok-pull_control.ensures
 
 pub returns-clause-log_answer : goal.returns-clause-log_answer
-returns-clause-log_answer c = λ side log stage untaken r from a. c.control_outcome.ensures ∙ control-answered c.args.self.now c.pull_control.new.self c.args.id c.in_ok-pull_control.ensures ∙ control-says side c.args.self.now log stage untaken r c.args.id from a
+returns-clause-log_answer c = λ side log stage uncollected r from a. c.control_outcome.ensures ∙ control-answered c.args.self.now c.pull_control.new.self c.args.id c.in_ok-pull_control.ensures ∙ control-says side c.args.self.now log stage uncollected r c.args.id from a
 
 pub returns-clause-log : goal.returns-clause-log
-returns-clause-log c = λ side log stage untaken r from a. control_read_refines side c.args.self.now log stage untaken r c.args.id from a c.pull_control.new.self c.in_ok-pull_control.ensures
+returns-clause-log c = λ side log stage uncollected r from a. control_read_refines side c.args.self.now log stage uncollected r c.args.id from a c.pull_control.new.self c.in_ok-pull_control.ensures
 
 pub returns-clause-kept : goal.returns-clause-kept
 returns-clause-kept c = c.in_ok-pull_control.ensures.pulled.kept

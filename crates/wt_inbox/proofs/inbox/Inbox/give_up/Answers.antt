@@ -11,7 +11,7 @@ pub returns-clause-quiet : goal.returns-clause-quiet
 returns-clause-quiet c = given-quiet-of (record { transport = c.self.inside.transport; unis = c.self.inside.unis; bis = c.self.inside.bis; responses = c.self.inside.responses; controls = c.self.inside.controls; sessions = c.self.inside.sessions }) c.args.self.now c.give_up.new.self c.args.id c.self.view_is c.give_up.ensures.now
 
 pub returns-clause-log : goal.returns-clause-log
-returns-clause-log c = λ side log stage untaken r.
+returns-clause-log c = λ side log stage uncollected r.
     let x : InboxState = record { transport = c.self.inside.transport; unis = c.self.inside.unis; bis = c.self.inside.bis; responses = c.self.inside.responses; controls = c.self.inside.controls; sessions = c.self.inside.sessions } in
-    let s : Refines side x log stage untaken = subst (λ (y : InboxState). Refines side y log stage untaken) (sym c.self.view_is) r in
-    gives-up side x log stage untaken s c.give_up.new.self c.args.id (c.give_up.ensures.log side log s.position untaken s.transport)
+    let s : Refines side x log stage uncollected = subst (λ (y : InboxState). Refines side y log stage uncollected) (sym c.self.view_is) r in
+    gives-up side x log stage uncollected s c.give_up.new.self c.args.id (c.give_up.ensures.log side log s.position uncollected s.transport)

@@ -18,10 +18,10 @@ pub returns-clause-quiet : goal.returns-clause-quiet
 returns-clause-quiet c = bi-quiet c.args.self.now c.pull_bi.new.self c.args.id c.in_ok-pull_bi.ensures
 
 pub returns-clause-log_answer : goal.returns-clause-log_answer
-returns-clause-log_answer c = λ side log stage untaken r a. c.is_bi_final.ensures ∙ ap is_final (bi-answered c.args.self.now c.pull_bi.new.self c.args.id c.in_ok-pull_bi.ensures ∙ bi-says side c.args.self.now log stage untaken r c.args.id a)
+returns-clause-log_answer c = λ side log stage uncollected r a. c.is_bi_final.ensures ∙ ap is_final (bi-answered c.args.self.now c.pull_bi.new.self c.args.id c.in_ok-pull_bi.ensures ∙ bi-says side c.args.self.now log stage uncollected r c.args.id a)
 
 pub returns-clause-log : goal.returns-clause-log
-returns-clause-log c = λ side log stage untaken r a. bi_read_refines side c.args.self.now log stage untaken r c.args.id a c.pull_bi.new.self c.in_ok-pull_bi.ensures
+returns-clause-log c = λ side log stage uncollected r a. bi_read_refines side c.args.self.now log stage uncollected r c.args.id a c.pull_bi.new.self c.in_ok-pull_bi.ensures
 
 pub returns-clause-kept : goal.returns-clause-kept
 returns-clause-kept c = c.in_ok-pull_bi.ensures.pulled.kept

@@ -21,10 +21,10 @@ pub returns-clause-quiet : goal.returns-clause-quiet
 returns-clause-quiet c = session-quiet c.args.self.now c.pull_session.new.self c.args.id c.in_ok-pull_session.ensures.pulled
 
 pub returns-clause-log_answer : goal.returns-clause-log_answer
-returns-clause-log_answer c = λ side log stage untaken r from a. c.is_session_final.ensures ∙ ap is_over (session-answered c.args.self.now c.pull_session.new.self c.args.id c.in_ok-pull_session.ensures.pulled ∙ session-says side c.args.self.now log stage untaken r c.args.id from a)
+returns-clause-log_answer c = λ side log stage uncollected r from a. c.is_session_final.ensures ∙ ap is_over (session-answered c.args.self.now c.pull_session.new.self c.args.id c.in_ok-pull_session.ensures.pulled ∙ session-says side c.args.self.now log stage uncollected r c.args.id from a)
 
 pub returns-clause-log : goal.returns-clause-log
-returns-clause-log c = λ side log stage untaken r from a. session_read_refines side c.args.self.now log stage untaken r c.args.id from a c.pull_session.new.self c.in_ok-pull_session.ensures.pulled
+returns-clause-log c = λ side log stage uncollected r from a. session_read_refines side c.args.self.now log stage uncollected r c.args.id from a c.pull_session.new.self c.in_ok-pull_session.ensures.pulled
 
 pub returns-clause-kept : goal.returns-clause-kept
 returns-clause-kept c = c.in_ok-pull_session.ensures.pulled.pulled.kept

@@ -18,10 +18,10 @@ pub returns-clause-quiet : goal.returns-clause-quiet
 returns-clause-quiet c = uni-quiet c.args.self.now c.pull_uni.new.self c.args.id c.in_ok-pull_uni.ensures
 
 pub returns-clause-log_answer : goal.returns-clause-log_answer
-returns-clause-log_answer c = λ side log stage untaken r a. c.is_uni_final.ensures ∙ ap is_final (uni-answered c.args.self.now c.pull_uni.new.self c.args.id c.in_ok-pull_uni.ensures ∙ uni-says side c.args.self.now log stage untaken r c.args.id a)
+returns-clause-log_answer c = λ side log stage uncollected r a. c.is_uni_final.ensures ∙ ap is_final (uni-answered c.args.self.now c.pull_uni.new.self c.args.id c.in_ok-pull_uni.ensures ∙ uni-says side c.args.self.now log stage uncollected r c.args.id a)
 
 pub returns-clause-log : goal.returns-clause-log
-returns-clause-log c = λ side log stage untaken r a. uni_read_refines side c.args.self.now log stage untaken r c.args.id a c.pull_uni.new.self c.in_ok-pull_uni.ensures
+returns-clause-log c = λ side log stage uncollected r a. uni_read_refines side c.args.self.now log stage uncollected r c.args.id a c.pull_uni.new.self c.in_ok-pull_uni.ensures
 
 pub returns-clause-kept : goal.returns-clause-kept
 returns-clause-kept c = c.in_ok-pull_uni.ensures.pulled.kept

@@ -4,7 +4,7 @@ use Rattle.wt_inbox.specs.Stage.{Refines}
 use Rattle.wt_inbox.proofs.inbox.Inbox.loss.Goals as goal
 
 pub returns-clause-log : goal.returns-clause-log
-returns-clause-log c = λ side log stage untaken r.
+returns-clause-log c = λ side log stage uncollected r.
     let x : InboxState = record { transport = c.self.inside.transport; unis = c.self.inside.unis; bis = c.self.inside.bis; responses = c.self.inside.responses; controls = c.self.inside.controls; sessions = c.self.inside.sessions } in
-    let s : Refines side x log stage untaken = subst (λ (y : InboxState). Refines side y log stage untaken) (sym c.self.view_is) r in
-    c.loss.ensures.log side log s.position untaken s.transport
+    let s : Refines side x log stage uncollected = subst (λ (y : InboxState). Refines side y log stage uncollected) (sym c.self.view_is) r in
+    c.loss.ensures.log side log s.position uncollected s.transport

@@ -6,13 +6,13 @@ use Rattle.wt_inbox.proofs.Passing.{goes-open-uni, passes}
 use Rattle.wt_inbox.proofs.inbox.Inbox.open_uni.Goals as goal
 
 pub returns-clause-log_id : goal.returns-clause-log_id
-returns-clause-log_id c = λ side log stage untaken r.
+returns-clause-log_id c = λ side log stage uncollected r.
     let x : InboxState = record { transport = c.self.inside.transport; unis = c.self.inside.unis; bis = c.self.inside.bis; responses = c.self.inside.responses; controls = c.self.inside.controls; sessions = c.self.inside.sessions } in
-    let s : Refines side x log stage untaken = subst (λ (y : InboxState). Refines side y log stage untaken) (sym c.self.view_is) r in
-    c.open_uni.ensures.log_id side log s.position untaken s.transport
+    let s : Refines side x log stage uncollected = subst (λ (y : InboxState). Refines side y log stage uncollected) (sym c.self.view_is) r in
+    c.open_uni.ensures.log_id side log s.position uncollected s.transport
 
 pub returns-clause-log : goal.returns-clause-log
-returns-clause-log c = λ side log stage untaken r.
+returns-clause-log c = λ side log stage uncollected r.
     let x : InboxState = record { transport = c.self.inside.transport; unis = c.self.inside.unis; bis = c.self.inside.bis; responses = c.self.inside.responses; controls = c.self.inside.controls; sessions = c.self.inside.sessions } in
-    let s : Refines side x log stage untaken = subst (λ (y : InboxState). Refines side y log stage untaken) (sym c.self.view_is) r in
-    on_ok_weaker c.open_uni.result (λ q. passes side x log stage untaken s c.open_uni.new.self _ _ (goes-open-uni side log) q) (c.open_uni.ensures.log side log s.position untaken s.transport)
+    let s : Refines side x log stage uncollected = subst (λ (y : InboxState). Refines side y log stage uncollected) (sym c.self.view_is) r in
+    on_ok_weaker c.open_uni.result (λ q. passes side x log stage uncollected s c.open_uni.new.self _ _ (goes-open-uni side log) q) (c.open_uni.ensures.log side log s.position uncollected s.transport)

@@ -5,7 +5,7 @@ use Rattle.wt_inbox.proofs.Passing.{peer-unis-are}
 use Rattle.wt_inbox.proofs.inbox.Inbox.peer_unis.Goals as goal
 
 pub returns-clause-log : goal.returns-clause-log
-returns-clause-log c = λ side log stage untaken r o.
+returns-clause-log c = λ side log stage uncollected r o.
     let x : InboxState = record { transport = c.self.inside.transport; unis = c.self.inside.unis; bis = c.self.inside.bis; responses = c.self.inside.responses; controls = c.self.inside.controls; sessions = c.self.inside.sessions } in
-    let s : Refines side x log stage untaken = subst (λ (y : InboxState). Refines side y log stage untaken) (sym c.self.view_is) r in
-    c.peer_unis.ensures.log side log s.position untaken s.transport ∙ peer-unis-are side x log stage untaken s o
+    let s : Refines side x log stage uncollected = subst (λ (y : InboxState). Refines side y log stage uncollected) (sym c.self.view_is) r in
+    c.peer_unis.ensures.log side log s.position uncollected s.transport ∙ peer-unis-are side x log stage uncollected s o

@@ -18,11 +18,11 @@ pub returns-clause-quiet : goal.returns-clause-quiet
 returns-clause-quiet c = on-ok c.response_outcome.result (response-quiet c.args.self.now c.pull_response.new.self c.args.id c.in_ok-pull_response.ensures)
 
 pub returns-clause-log_answer : goal.returns-clause-log_answer
-returns-clause-log_answer c = λ side log stage untaken r a.
-    if-ok c.response_outcome.result (λ x e. e ∙ response-answered c.args.self.now c.pull_response.new.self c.args.id c.in_ok-pull_response.ensures ∙ response-says side c.args.self.now log stage untaken r c.args.id a) c.response_outcome.ensures
+returns-clause-log_answer c = λ side log stage uncollected r a.
+    if-ok c.response_outcome.result (λ x e. e ∙ response-answered c.args.self.now c.pull_response.new.self c.args.id c.in_ok-pull_response.ensures ∙ response-says side c.args.self.now log stage uncollected r c.args.id a) c.response_outcome.ensures
 
 pub returns-clause-log : goal.returns-clause-log
-returns-clause-log c = λ side log stage untaken r a. on-ok c.response_outcome.result (response_read_refines side c.args.self.now log stage untaken r c.args.id a c.pull_response.new.self c.in_ok-pull_response.ensures)
+returns-clause-log c = λ side log stage uncollected r a. on-ok c.response_outcome.result (response_read_refines side c.args.self.now log stage uncollected r c.args.id a c.pull_response.new.self c.in_ok-pull_response.ensures)
 
 pub returns-clause-kept : goal.returns-clause-kept
 returns-clause-kept c = on-ok c.response_outcome.result (c.in_ok-pull_response.ensures.pulled.kept)

@@ -6,13 +6,13 @@ use Rattle.wt_inbox.proofs.Passing.{goes-sending, passes}
 use Rattle.wt_inbox.proofs.inbox.Inbox.send.Goals as goal
 
 pub returns-clause-log_count : goal.returns-clause-log_count
-returns-clause-log_count c = λ side log stage untaken r.
+returns-clause-log_count c = λ side log stage uncollected r.
     let x : InboxState = record { transport = c.self.inside.transport; unis = c.self.inside.unis; bis = c.self.inside.bis; responses = c.self.inside.responses; controls = c.self.inside.controls; sessions = c.self.inside.sessions } in
-    let s : Refines side x log stage untaken = subst (λ (y : InboxState). Refines side y log stage untaken) (sym c.self.view_is) r in
-    c.send.ensures.log_count side log s.position untaken s.transport
+    let s : Refines side x log stage uncollected = subst (λ (y : InboxState). Refines side y log stage uncollected) (sym c.self.view_is) r in
+    c.send.ensures.log_count side log s.position uncollected s.transport
 
 pub returns-clause-log : goal.returns-clause-log
-returns-clause-log c = λ side log stage untaken r.
+returns-clause-log c = λ side log stage uncollected r.
     let x : InboxState = record { transport = c.self.inside.transport; unis = c.self.inside.unis; bis = c.self.inside.bis; responses = c.self.inside.responses; controls = c.self.inside.controls; sessions = c.self.inside.sessions } in
-    let s : Refines side x log stage untaken = subst (λ (y : InboxState). Refines side y log stage untaken) (sym c.self.view_is) r in
-    on_ok_weaker c.send.result (λ q. passes side x log stage untaken s c.send.new.self _ _ (goes-sending side log c.args.id c.args.bytes.now) q) (c.send.ensures.log side log s.position untaken s.transport)
+    let s : Refines side x log stage uncollected = subst (λ (y : InboxState). Refines side y log stage uncollected) (sym c.self.view_is) r in
+    on_ok_weaker c.send.result (λ q. passes side x log stage uncollected s c.send.new.self _ _ (goes-sending side log c.args.id c.args.bytes.now) q) (c.send.ensures.log side log s.position uncollected s.transport)

@@ -10,8 +10,8 @@ use Rattle.wt_inbox.proofs.Passing.{goes-called, passes}
 use Rattle.wt_inbox.proofs.inbox.Inbox.set_priority.Goals as goal
 
 pub returns-clause-log : goal.returns-clause-log
-returns-clause-log c = λ side log stage untaken r.
+returns-clause-log c = λ side log stage uncollected r.
     let x : InboxState = record { transport = c.self.inside.transport; unis = c.self.inside.unis; bis = c.self.inside.bis; responses = c.self.inside.responses; controls = c.self.inside.controls; sessions = c.self.inside.sessions } in
-    let s : Refines side x log stage untaken = subst (λ (y : InboxState). Refines side y log stage untaken) (sym c.self.view_is) r in
-    passes side x log stage untaken s c.set_priority.new.self _ _ (goes-called side log (PrioritySet c.args.id c.args.priority))
-    (subst (λ (p : ℤ). seam.Refines side c.set_priority.new.self (Called (PrioritySet c.args.id p) ∷ log) s.position untaken) (to_z-of_z c.ranges.priority) (c.set_priority.ensures.log side log s.position untaken s.transport))
+    let s : Refines side x log stage uncollected = subst (λ (y : InboxState). Refines side y log stage uncollected) (sym c.self.view_is) r in
+    passes side x log stage uncollected s c.set_priority.new.self _ _ (goes-called side log (PrioritySet c.args.id c.args.priority))
+    (subst (λ (p : ℤ). seam.Refines side c.set_priority.new.self (Called (PrioritySet c.args.id p) ∷ log) s.position uncollected) (to_z-of_z c.ranges.priority) (c.set_priority.ensures.log side log s.position uncollected s.transport))

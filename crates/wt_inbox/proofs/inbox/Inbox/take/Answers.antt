@@ -6,7 +6,7 @@ use Rattle.wt_inbox.proofs.Passing.{goes-turn, passes}
 use Rattle.wt_inbox.proofs.inbox.Inbox.take.Goals as goal
 
 pub returns-clause-log : goal.returns-clause-log
-returns-clause-log c = λ side log stage untaken r.
+returns-clause-log c = λ side log stage uncollected r.
     let x : InboxState = record { transport = c.self.inside.transport; unis = c.self.inside.unis; bis = c.self.inside.bis; responses = c.self.inside.responses; controls = c.self.inside.controls; sessions = c.self.inside.sessions } in
-    let s : Refines side x log stage untaken = subst (λ (y : InboxState). Refines side y log stage untaken) (sym c.self.view_is) r in
-    on_ok_weaker c.take.result (λ q. passes side x log stage untaken s c.take.new.self _ _ (goes-turn side log c.args.turn.now) q) (c.take.ensures.log side log s.position untaken s.transport)
+    let s : Refines side x log stage uncollected = subst (λ (y : InboxState). Refines side y log stage uncollected) (sym c.self.view_is) r in
+    on_ok_weaker c.take.result (λ q. passes side x log stage uncollected s c.take.new.self _ _ (goes-turn side log c.args.turn.now) q) (c.take.ensures.log side log s.position uncollected s.transport)

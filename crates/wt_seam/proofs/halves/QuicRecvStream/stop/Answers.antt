@@ -10,4 +10,4 @@ use Rattle.wt_seam.proofs.HalfLaws.{stop_half_refines}
 use Rattle.wt_seam.proofs.halves.QuicRecvStream.stop.Goals as goal
 
 pub returns-clause-log : goal.returns-clause-log
-returns-clause-log c = λ side log position untaken r. on_ok_weaker c.stop_half.result (λ e. subst (λ (u : TransportState). Refines side u (with_actions (if_open log (actions.StopOut c.args.self.id c.args.code)) log) (given_up position c.args.self.id) (newest_first (if_open log (actions.StopOut c.args.self.id c.args.code)) untaken)) (sym e) (stop_half_refines side c.args.t.now log position untaken r c.args.self.id c.args.code c.requires)) c.stop_half.ensures.state
+returns-clause-log c = λ side log position uncollected r. on_ok_weaker c.stop_half.result (λ e. subst (λ (u : TransportState). Refines side u (with_actions (if_open log (actions.StopOut c.args.self.id c.args.code)) log) (given_up position c.args.self.id) (newest_first (if_open log (actions.StopOut c.args.self.id c.args.code)) uncollected)) (sym e) (stop_half_refines side c.args.t.now log position uncollected r c.args.self.id c.args.code c.requires)) c.stop_half.ensures.state

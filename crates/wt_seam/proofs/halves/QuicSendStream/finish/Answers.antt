@@ -10,7 +10,7 @@ use Rattle.wt_seam.proofs.HalfLaws.{sending_answer, finishing_refines}
 use Rattle.wt_seam.proofs.halves.QuicSendStream.finish.Goals as goal
 
 pub returns-clause-log_answer : goal.returns-clause-log_answer
-returns-clause-log_answer c = λ side log position untaken r. if_ok c.finish_half.result (λ a e. e ∙ sending_answer side c.args.t.now log position untaken r (finish_answer) c.args.self.now.id c.requires) c.finish_half.ensures.answer
+returns-clause-log_answer c = λ side log position uncollected r. if_ok c.finish_half.result (λ a e. e ∙ sending_answer side c.args.t.now log position uncollected r (finish_answer) c.args.self.now.id c.requires) c.finish_half.ensures.answer
 
 pub returns-clause-log : goal.returns-clause-log
-returns-clause-log c = λ side log position untaken r. on_ok_weaker c.finish_half.result (λ e. subst (λ (u : TransportState). Refines side u (with_actions (actions_of_finish side log c.args.self.now.id) log) position (newest_first (actions_of_finish side log c.args.self.now.id) untaken)) (sym e) (finishing_refines side c.args.t.now log position untaken r c.args.self.now.id)) c.finish_half.ensures.state
+returns-clause-log c = λ side log position uncollected r. on_ok_weaker c.finish_half.result (λ e. subst (λ (u : TransportState). Refines side u (with_actions (actions_of_finish side log c.args.self.now.id) log) position (newest_first (actions_of_finish side log c.args.self.now.id) uncollected)) (sym e) (finishing_refines side c.args.t.now log position uncollected r c.args.self.now.id)) c.finish_half.ensures.state

@@ -4,4 +4,4 @@ use Rattle.wt_seam.proofs.HalfLaws.{sending_answer}
 use Rattle.wt_seam.proofs.halves.QuicSendStream.stopped.Goals as goal
 
 pub returns-clause-log_answer : goal.returns-clause-log_answer
-returns-clause-log_answer c = λ side log position untaken r. c.stopped.ensures ∙ sending_answer side c.args.t.now log position untaken r stopped_answer c.args.self.now.id c.requires
+returns-clause-log_answer c = λ side log position uncollected r. c.stopped.ensures ∙ sending_answer side c.args.t.now log position uncollected r stopped_answer c.args.self.now.id c.requires

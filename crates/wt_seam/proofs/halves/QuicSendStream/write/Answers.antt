@@ -10,7 +10,7 @@ use Rattle.wt_seam.proofs.HalfLaws.{sending_answer, write_refines}
 use Rattle.wt_seam.proofs.halves.QuicSendStream.write.Goals as goal
 
 pub returns-clause-log_answer : goal.returns-clause-log_answer
-returns-clause-log_answer c = λ side log position untaken r. if_ok c.write.result (λ a e. e ∙ sending_answer side c.args.t.now log position untaken r (λ o h. write_answer o h c.args.bytes.now) c.args.self.now.id c.requires) c.write.ensures.answer
+returns-clause-log_answer c = λ side log position uncollected r. if_ok c.write.result (λ a e. e ∙ sending_answer side c.args.t.now log position uncollected r (λ o h. write_answer o h c.args.bytes.now) c.args.self.now.id c.requires) c.write.ensures.answer
 
 pub returns-clause-log : goal.returns-clause-log
-returns-clause-log c = λ side log position untaken r. on_ok_weaker c.write.result (λ e. subst (λ (u : TransportState). Refines side u (with_actions (actions_of_write side log c.args.self.now.id c.args.bytes.now) log) position (newest_first (actions_of_write side log c.args.self.now.id c.args.bytes.now) untaken)) (sym e) (write_refines side c.args.t.now log position untaken r c.args.self.now.id c.args.bytes.now)) c.write.ensures.state
+returns-clause-log c = λ side log position uncollected r. on_ok_weaker c.write.result (λ e. subst (λ (u : TransportState). Refines side u (with_actions (actions_of_write side log c.args.self.now.id c.args.bytes.now) log) position (newest_first (actions_of_write side log c.args.self.now.id c.args.bytes.now) uncollected)) (sym e) (write_refines side c.args.t.now log position uncollected r c.args.self.now.id c.args.bytes.now)) c.write.ensures.state

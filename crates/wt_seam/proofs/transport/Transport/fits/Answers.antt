@@ -3,4 +3,4 @@ use Rattle.wt_seam.proofs.Refining.{refined_fits}
 use Rattle.wt_seam.proofs.transport.Transport.fits.Goals as goal
 
 pub returns-clause-log : goal.returns-clause-log
-returns-clause-log c = λ side log position untaken r. c.fits_now.ensures ∙ refined_fits side c.args.self.now log position untaken r c.args.turn.now
+returns-clause-log c = λ side log position uncollected r. c.fits_now.ensures ∙ refined_fits side c.args.self.now log position uncollected r c.args.turn.now

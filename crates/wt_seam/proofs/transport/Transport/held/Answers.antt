@@ -3,4 +3,4 @@ use Rattle.wt_seam.proofs.Refining.{refined_unread}
 use Rattle.wt_seam.proofs.transport.Transport.held.Goals as goal
 
 pub returns-clause-log : goal.returns-clause-log
-returns-clause-log c = λ side log position untaken r. c.unread_now.ensures ∙ ap length (refined_unread side c.args.self.now log position untaken r c.args.id)
+returns-clause-log c = λ side log position uncollected r. c.unread_now.ensures ∙ ap length (refined_unread side c.args.self.now log position uncollected r c.args.id)

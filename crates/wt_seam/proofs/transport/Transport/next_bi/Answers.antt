@@ -4,4 +4,4 @@ use Rattle.wt_seam.proofs.Refining.{refined_bi}
 use Rattle.wt_seam.proofs.transport.Transport.next_bi.Goals as goal
 
 pub returns-clause-log : goal.returns-clause-log
-returns-clause-log c = λ side log position untaken r. c.next_bi_now.ensures ∙ refined_bi side c.args.self.now log position untaken r
+returns-clause-log c = λ side log position uncollected r. c.next_bi_now.ensures ∙ refined_bi side c.args.self.now log position uncollected r

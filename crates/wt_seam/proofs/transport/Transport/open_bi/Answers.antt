@@ -10,7 +10,7 @@ use Rattle.wt_seam.proofs.Refining.{refined_bi, bi_refines}
 use Rattle.wt_seam.proofs.transport.Transport.open_bi.Goals as goal
 
 pub returns-clause-log_id : goal.returns-clause-log_id
-returns-clause-log_id c = λ side log position untaken r. if_ok c.open_bi_now.result (λ id e. e ∙ refined_bi side c.args.self.now log position untaken r) c.open_bi_now.ensures.id
+returns-clause-log_id c = λ side log position uncollected r. if_ok c.open_bi_now.result (λ id e. e ∙ refined_bi side c.args.self.now log position uncollected r) c.open_bi_now.ensures.id
 
 pub returns-clause-log : goal.returns-clause-log
-returns-clause-log c = λ side log position untaken r. on_ok_weaker c.open_bi_now.result (λ e. subst (λ (t : TransportState). Refines side t (with_actions (actions_to_open side log (local_bi side)) log) position (newest_first (actions_to_open side log (local_bi side)) untaken)) (sym e) (bi_refines side c.args.self.now log position untaken r)) c.open_bi_now.ensures.state
+returns-clause-log c = λ side log position uncollected r. on_ok_weaker c.open_bi_now.result (λ e. subst (λ (t : TransportState). Refines side t (with_actions (actions_to_open side log (local_bi side)) log) position (newest_first (actions_to_open side log (local_bi side)) uncollected)) (sym e) (bi_refines side c.args.self.now log position uncollected r)) c.open_bi_now.ensures.state

@@ -10,7 +10,7 @@ use Rattle.wt_seam.proofs.Refining.{refined_uni, uni_refines}
 use Rattle.wt_seam.proofs.transport.Transport.open_uni.Goals as goal
 
 pub returns-clause-log_id : goal.returns-clause-log_id
-returns-clause-log_id c = λ side log position untaken r. if_ok c.open_uni_now.result (λ id e. e ∙ refined_uni side c.args.self.now log position untaken r) c.open_uni_now.ensures.id
+returns-clause-log_id c = λ side log position uncollected r. if_ok c.open_uni_now.result (λ id e. e ∙ refined_uni side c.args.self.now log position uncollected r) c.open_uni_now.ensures.id
 
 pub returns-clause-log : goal.returns-clause-log
-returns-clause-log c = λ side log position untaken r. on_ok_weaker c.open_uni_now.result (λ e. subst (λ (t : TransportState). Refines side t (with_actions (actions_to_open side log (local_uni side)) log) position (newest_first (actions_to_open side log (local_uni side)) untaken)) (sym e) (uni_refines side c.args.self.now log position untaken r)) c.open_uni_now.ensures.state
+returns-clause-log c = λ side log position uncollected r. on_ok_weaker c.open_uni_now.result (λ e. subst (λ (t : TransportState). Refines side t (with_actions (actions_to_open side log (local_uni side)) log) position (newest_first (actions_to_open side log (local_uni side)) uncollected)) (sym e) (uni_refines side c.args.self.now log position uncollected r)) c.open_uni_now.ensures.state

@@ -5,7 +5,7 @@ use Rattle.wt_seam.proofs.Refining.{refined_peek, refined_no_pieces}
 use Rattle.wt_seam.proofs.transport.Transport.peek.Goals as goal
 
 pub returns-clause-log : goal.returns-clause-log
-returns-clause-log c = λ side log position untaken r. subst (λ (front : List ℕ). IsFront front (unread log position c.args.id)) (sym c.peek_now.ensures.piece) (refined_peek side c.args.self.now log position untaken r c.args.id)
+returns-clause-log c = λ side log position uncollected r. subst (λ (front : List ℕ). IsFront front (unread log position c.args.id)) (sym c.peek_now.ensures.piece) (refined_peek side c.args.self.now log position uncollected r c.args.id)
 
 pub returns-clause-no_half : goal.returns-clause-no_half
-returns-clause-no_half c = λ side log position untaken r none. c.peek_now.ensures.piece ∙ ap first_piece (refined_no_pieces side c.args.self.now log position untaken r c.args.id none)
+returns-clause-no_half c = λ side log position uncollected r none. c.peek_now.ensures.piece ∙ ap first_piece (refined_no_pieces side c.args.self.now log position uncollected r c.args.id none)

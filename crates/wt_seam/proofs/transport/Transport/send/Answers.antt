@@ -9,7 +9,7 @@ use Rattle.wt_seam.proofs.Refining.{refined_sent, send_refines}
 use Rattle.wt_seam.proofs.transport.Transport.send.Goals as goal
 
 pub returns-clause-log_count : goal.returns-clause-log_count
-returns-clause-log_count c = λ side log position untaken r. if_ok c.send_now.result (λ n e. e ∙ refined_sent side c.args.self.now log position untaken r c.args.id c.args.bytes.now c.requires) c.send_now.ensures.count
+returns-clause-log_count c = λ side log position uncollected r. if_ok c.send_now.result (λ n e. e ∙ refined_sent side c.args.self.now log position uncollected r c.args.id c.args.bytes.now c.requires) c.send_now.ensures.count
 
 pub returns-clause-log : goal.returns-clause-log
-returns-clause-log c = λ side log position untaken r. on_ok_weaker c.send_now.result (λ e. subst (λ (t : TransportState). Refines side t (with_actions (actions_to_send log c.args.id c.args.bytes.now) log) position (newest_first (actions_to_send log c.args.id c.args.bytes.now) untaken)) (sym e) (send_refines side c.args.self.now log position untaken r c.args.id c.args.bytes.now c.requires)) c.send_now.ensures.state
+returns-clause-log c = λ side log position uncollected r. on_ok_weaker c.send_now.result (λ e. subst (λ (t : TransportState). Refines side t (with_actions (actions_to_send log c.args.id c.args.bytes.now) log) position (newest_first (actions_to_send log c.args.id c.args.bytes.now) uncollected)) (sym e) (send_refines side c.args.self.now log position uncollected r c.args.id c.args.bytes.now c.requires)) c.send_now.ensures.state

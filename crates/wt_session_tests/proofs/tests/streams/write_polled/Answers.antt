@@ -11,13 +11,13 @@ use Rattle.wt_turn.specs.declared.poll.Poll.TheVariants.{Ready}
 
 -- the half that is given stands after the poll
 pub returns-in_ok-answer-in-Ready-Ok-clause-written : goal.returns-in_ok-answer-in-Ready-Ok-clause-written
-returns-in_ok-answer-in-Ready-Ok-clause-written c = λ side log taken f r o.
+returns-in_ok-answer-in-Ready-Ok-clause-written c = λ side log collected f r o.
     let opening = c.args.opening.now in
     let poll = calls.PollOpening opening.id in
     let later = (call_effect side log poll).log in
     let may = c.calls_lead_on.ensures.session side log poll opening.session o.session refl in
     let reached = c.calls_lead_on.ensures.reachable side log poll r may in
     let given = c.in-Ready-Ok.is ∙ ap Ready c.in-Ready-Ok.field-0-is in
-    let in_log = subst (λ (a : Poll (Result ℕ StreamOpeningError)). IfGiven a (λ half. has_sending_half side later half ≡ true)) given (c.in_ok-polled.ensures.in_log side log taken f r o) in
+    let in_log = subst (λ (a : Poll (Result ℕ StreamOpeningError)). IfGiven a (λ half. has_sending_half side later half ≡ true)) given (c.in_ok-polled.ensures.in_log side log collected f r o) in
     subst (λ (k : ℕ). write_reply c.in_ok-answer-in-Ready-Ok.answer ≡ (call_effect side later (calls.Write k c.args.bytes.now)).reply) (sym c.id-id.ensures)
-    (c.in_ok-answer-in-Ready-Ok.ensures.reply side later taken (c.in_ok-polled.ensures.log side log taken f r o) reached in_log)
+    (c.in_ok-answer-in-Ready-Ok.ensures.reply side later collected (c.in_ok-polled.ensures.log side log collected f r o) reached in_log)

@@ -17,7 +17,7 @@ overflow_sub-self-in-Ok-Stops g c =
 
 pub returns-in-Ok-Goes-clause-advances : goal.returns-in-Ok-Goes-clause-advances
 returns-in-Ok-Goes-clause-advances g c = λ later. rw (← c.self.view_is)
-    (kept-goes g.G.Grammar.decides c.self.invariant.steady c.self.inside.state c.in-Ok-Goes.next c.self.inside.stop c.self.inside.skip c.self.inside.kept.items c.as_slice.result.now c.clear.new.self.items c.args.byte c.in-Ok-Goes.size (length c.as_slice-in-Ok-Goes.result.now)
+    (kept-goes g.G.Grammar.decides c.self.invariant.steady c.self.inside.state c.in-Ok-Goes.moved c.self.inside.stop c.self.inside.skip c.self.inside.kept.items c.as_slice.result.now c.clear.new.self.items c.args.byte c.in-Ok-Goes.size (length c.as_slice-in-Ok-Goes.result.now)
     c.self.invariant.proper (ap (λ p. p.skip) c.self.view_is ∙ c.requires.bare) (ap (λ p. is_some p.stop) c.self.view_is ∙ c.requires.goes)
     (c.as_slice.ensures.value ∙ c.in_ok-push.ensures.items) (sym c.in-Ok-Goes.ensures ∙ c.in-Ok-Goes.field-0-is)
     (ap length (c.as_slice-in-Ok-Goes.ensures.value ∙ sym c.as_slice.ensures.value)) c.clear.ensures.items later)

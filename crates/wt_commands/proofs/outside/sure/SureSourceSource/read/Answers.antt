@@ -5,10 +5,10 @@ use Rattle.wt_commands.proofs.outside.sure.SureSourceSource.read.Goals as goal
 pub returns-clause-bytes : goal.returns-clause-bytes
 returns-clause-bytes c =
     let bytes = c.self.inside.bytes.items in
-    let at = c.self.inside.offset in
+    let offset = c.self.inside.offset in
     let count = c.min-count.result in
-    let e : count ≡ min (length c.args.buf.now) (length bytes - at) = search rules in
-    let p : c.copy_from_slice.new.self ≡ take (at + count - at) (drop at bytes) = search rules in (
-      sym c.self.view_is ∙ read_part bytes c.args.buf.now c.copy_from_slice.new.self at count c.self.invariant e p,
-      read_none bytes c.args.buf.now c.copy_from_slice.new.self at count c.self.invariant e p,
+    let e : count ≡ min (length c.args.buf.now) (length bytes - offset) = search rules in
+    let p : c.copy_from_slice.new.self ≡ take (offset + count - offset) (drop offset bytes) = search rules in (
+      sym c.self.view_is ∙ read_part bytes c.args.buf.now c.copy_from_slice.new.self offset count c.self.invariant e p,
+      read_none bytes c.args.buf.now c.copy_from_slice.new.self offset count c.self.invariant e p,
     )

@@ -15,7 +15,7 @@ use Rattle.wt_turn.specs.declared.turn.Turn.{Turn}
 use Rattle.wt_wire.specs.declared.addr.Addr.{Addr}
 use Rattle.wt_wire.specs.declared.side.Side.{Side}
 use Rattle.wt_laws.specs.Causes.{DialCause, opened_kind}
-use Rattle.wt_laws.specs.Laws.{GoesOut, TakenGoesOut}
+use Rattle.wt_laws.specs.Laws.{GoesOut, WrittenGoesOut}
 use Rattle.wt_spec.specs.Answers.{answer_to, call_effect, in_session, log_after}
 use Rattle.wt_spec.specs.Connect.{address_of, authority_of, connect_to, dial, path_of, port_of, request_head, reserved_name, unless_stopped, with_address}
 use Rattle.wt_spec.specs.Connection.{close_connection, datagram_allowed, datagram_within, open_stream, send_datagram}
@@ -53,7 +53,7 @@ out-datagram side log payload s =
     by-test (ActsOnce side log replies.Done (actions.DatagramOut (datagram_bytes (s / 4) payload)) Polled) (is_open log) _ _ (λ o. out-allowed side log (datagram_bytes (s / 4) payload) (datagram_fact (events_of log))) (λ o e. absurd (cc))
 
 in-datagram : (side : Side) (log : Log) (payload : List ℕ) (o : Option (ℕ × ℕ)) → established_session (calls_of log) ≡ o → (in_session side log (send_datagram side log payload) o).reply ≡ replies.Done
-    → (s : ℕ) × (at : ℕ) × (established_session (calls_of log) ≡ Some (s, at)) × ((in_session side log (send_datagram side log payload) o).log ≡ log_call side log (actions.DatagramOut (datagram_bytes (s / 4) payload) ∷ []) Polled)
+    → (s : ℕ) × (offset : ℕ) × (established_session (calls_of log) ≡ Some (s, offset)) × ((in_session side log (send_datagram side log payload) o).log ≡ log_call side log (actions.DatagramOut (datagram_bytes (s / 4) payload) ∷ []) Polled)
 in-datagram side log payload None d e = absurd (cc)
 in-datagram side log payload (Some s) d e = (s.0, s.1, d, out-datagram side log payload s.0 e)
 
@@ -108,7 +108,7 @@ out-open side log kind k s =
 
 -- an opening of this kind that a reply names
 abbrev Opens : Side → Log → ℕ → Log → Type 0
-Opens side log k later = (s : ℕ) × (at : ℕ) × (established_session (calls_of log) ≡ Some (s, at)) × (later ≡ log_call side log (actions.Opened k ∷ []) (OpeningStarted k s))
+Opens side log k later = (s : ℕ) × (offset : ℕ) × (established_session (calls_of log) ≡ Some (s, offset)) × (later ≡ log_call side log (actions.Opened k ∷ []) (OpeningStarted k s))
 
 in-open : (side : Side) (log : Log) (kind k : ℕ) (o : Option (ℕ × ℕ)) → established_session (calls_of log) ≡ o → (in_session side log (open_stream side log kind) o).reply ≡ replies.Opening k → Opens side log k (in_session side log (open_stream side log kind) o).log
 in-open side log kind k None d e = absurd (cc)
@@ -133,9 +133,9 @@ dials-out side log turn address name d =
     ∙ ap (λ o. (unless_stopped side log d.to.url d.to.headers o address).log) d.proceeds
     ∙ ap (λ n. (dial side log n (authority_of d.to.url) (path_of d.to.url) d.to.headers address).log) (sym d.named)
 
-pub taken-goes-out : (side : Side) (log : Log) → TakenGoesOut side log
+pub written-goes-out : (side : Side) (log : Log) → WrittenGoesOut side log
 unfolding call_effect
-taken-goes-out side log = record {
+written-goes-out side log = record {
   datagram = λ payload e. in-datagram side log payload (established_session (calls_of log)) refl e;
   close = λ code reason o e. in-close side log code reason (established_session (calls_of log)) o e;
   endpoint_close = λ code reason o. out-close side log code reason o;

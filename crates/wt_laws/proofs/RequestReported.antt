@@ -12,12 +12,12 @@ use Rattle.wt_laws.proofs.Calls.{caused}
 use Rattle.wt_laws.proofs.During.{decided-during, why-reply}
 use Rattle.wt_laws.proofs.Facts.{facts-hold}
 use Rattle.wt_laws.proofs.RequestLaws.{carries}
-use Rattle.wt_laws.proofs.RunLaws.{stays-behind}
+use Rattle.wt_laws.proofs.RunLaws.{stays-after}
 use Rattle.wt_laws.proofs.SessionLaws.{first-queued}
-use Rattle.wt_laws.specs.Laws.{GoesOnFrom, RequestTold}
+use Rattle.wt_laws.specs.Laws.{GoesOnFrom, RequestReported}
 use Rattle.wt_laws.specs.Reachable.{AfterTurn, IsReachable}
 use Rattle.wt_laws.specs.Runs.{StaysSo}
-use Rattle.wt_laws.specs.ReplyTells.{Logged, NoRecord, OneRecord, TellsOf, ThenPolled, datagram_told, given_stream, is_quiet, read_piece, request_told, session_told}
+use Rattle.wt_laws.specs.ReplyTells.{Logged, NoRecord, OneRecord, TellsOf, ThenPolled, datagram_reported, given_stream, is_quiet, read_piece, request_reported, session_reported}
 use Rattle.wt_spec.specs.Answers.{is_lawful, log_after}
 use Rattle.wt_spec.specs.Driver.{delivers, stream_table}
 use Rattle.wt_spec.specs.StreamTable.{verdict_of}
@@ -27,11 +27,11 @@ use Rattle.wt_reply.specs.declared.reply.Reply.TheVariants as replies
 -- ---- its record
 
 tells-request : (turn : Turn) (k : ℕ) (headers : Fields) (reply : Reply) → reply ≡ replies.Request k headers → (r : CallRecord) → TellsOf turn r reply → delivers k r ≡ true
-tells-request turn k headers reply e (RequestDelivered id) t = let y = ap request_told e in let x : id ≡ k = cc in eq-eqb id k x
-tells-request turn k headers reply e (SessionEstablished i a) t = absurd (let y = ap session_told e in cc)
+tells-request turn k headers reply e (RequestDelivered id) t = let y = ap request_reported e in let x : id ≡ k = cc in eq-eqb id k x
+tells-request turn k headers reply e (SessionEstablished i a) t = absurd (let y = ap session_reported e in cc)
 tells-request turn k headers reply e (BytesRead j n) t = absurd (let y = ap read_piece e in let z = t.1 in cc)
 tells-request turn k headers reply e (StreamAccepted j) t = absurd (let y = ap given_stream e in cc)
-tells-request turn k headers reply e DatagramReceived t = absurd (let y = ap datagram_told e in let z = t.1 in cc)
+tells-request turn k headers reply e DatagramReceived t = absurd (let y = ap datagram_reported e in let z = t.1 in cc)
 tells-request turn k headers reply e _ t = absurd (let y = ap is_quiet e in cc)
 
 delivered-by : (turn : Turn) (k : ℕ) (headers : Fields) (before after : List CallRecord) (reply : Reply) → reply ≡ replies.Request k headers → Logged turn before after reply → list_any (delivers k) after ≡ true
@@ -42,14 +42,14 @@ delivered-by turn k headers before after reply e (ThenPolled r c t) = ap (list_a
 -- ---- the law
 
 stays : (side : Side) {earlier later : Log} → GoesOnFrom earlier later → StaysSo side earlier later
-stays side {earlier} x = subst (λ z. StaysSo side earlier z) (sym x.1) (stays-behind side x.0 earlier)
+stays side {earlier} x = subst (λ z. StaysSo side earlier z) (sym x.1) (stays-after side x.0 earlier)
 
 not-yet : (b c : Bool) → (b ≡ true → c ≡ true) → c ≡ false → b ≡ false
 not-yet true c f e = absurd (let x = f refl in cc)
 not-yet false c f e = refl
 
-pub request-told : (side : Side) (log : Log) (turn : Turn) → IsReachable side log → is_lawful side log turn ≡ true → RequestTold side log turn
-request-told side log turn r l k headers e =
+pub request-reported : (side : Side) (log : Log) (turn : Turn) → IsReachable side log → is_lawful side log turn ≡ true → RequestReported side log turn
+request-reported side log turn r l k headers e =
     let c = caused side turn log l in
     let d = decided-during side log turn l in
     let w = why-reply side log turn l (replies.Request k headers) e in
@@ -73,5 +73,5 @@ request-told side log turn r l k headers e =
       fields = sym (w.5 ∙ q.same);
     }
 
-pub request_told_theorem : (side : Side) (log : Log) (turn : Turn) → IsReachable side log → is_lawful side log turn ≡ true → RequestTold side log turn
-request_told_theorem = request-told
+pub request_reported_theorem : (side : Side) (log : Log) (turn : Turn) → IsReachable side log → is_lawful side log turn ≡ true → RequestReported side log turn
+request_reported_theorem = request-reported

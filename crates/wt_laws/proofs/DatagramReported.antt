@@ -8,17 +8,17 @@ use Rattle.wt_reply.specs.declared.reply.Reply.{Reply}
 use Rattle.wt_turn.specs.declared.turn.Turn.{Turn}
 use Rattle.wt_wire.specs.declared.side.Side.{Side}
 use Rattle.wt_laws.proofs.Calls.{caused}
-use Rattle.wt_laws.proofs.DatagramLaws.{DatagramsSoFar, arrived-more, datagrams-first, dequeued-stay, keeps-arrivals, keeps-datagrams, next-is, passed-same, receive-brings, received, settled-more}
+use Rattle.wt_laws.proofs.DatagramLaws.{DatagramsSoFar, arrived-more, datagrams-first, dequeued-stay, keeps-arrivals, keeps-datagrams, next-is, passed-same, receive-reports, received, released-more}
 use Rattle.wt_laws.proofs.During.{decided-during, why-reply}
 use Rattle.wt_laws.proofs.Reached.{keeps-decided, reached}
 use Rattle.wt_laws.proofs.Steps.{keeps-steps}
-use Rattle.wt_laws.specs.Datagrams.{DatagramTold, DatagramsStay, received_indices}
+use Rattle.wt_laws.specs.Datagrams.{DatagramReported, DatagramsStay, received_indices}
 use Rattle.wt_laws.specs.Laws.{payload_for, payloads_for}
 use Rattle.wt_laws.specs.Reachable.{IsReachable}
 use Rattle.wt_laws.specs.ReplyTells.{Logged, NoRecord, NonePassed, OnePassed, OneRecord, HasPassed, TellsOf, ThenPolled, is_pass, is_quiet}
 use Rattle.wt_spec.specs.Answers.{answer_to, is_lawful, log_after}
 use Rattle.wt_spec.specs.Connection.{well_formed}
-use Rattle.wt_spec.specs.Driver.{established_session, settled_datagrams}
+use Rattle.wt_spec.specs.Driver.{established_session, released_datagrams}
 use Rattle.wt_reply.specs.declared.reply.Reply.TheVariants as replies
 
 -- ---- between two places
@@ -60,19 +60,19 @@ passed-indices : (after before : List CallRecord) → HasPassed after before →
 passed-indices after before NonePassed = refl
 passed-indices after before (OnePassed r p s) = passed-indices after (r ∷ before) s ∙ pass-indices r before p
 
-passed-settled : (after before : List CallRecord) → HasPassed after before → settled_datagrams before ≤ settled_datagrams after
-passed-settled after before NonePassed = omega arith
-passed-settled after before (OnePassed r p s) = let l = passed-settled after (r ∷ before) s in let m = settled-more r before in omega arith
+passed-released : (after before : List CallRecord) → HasPassed after before → released_datagrams before ≤ released_datagrams after
+passed-released after before NonePassed = omega arith
+passed-released after before (OnePassed r p s) = let l = passed-released after (r ∷ before) s in let m = released-more r before in omega arith
 
 -- ---- what is recorded
 
 record OneMore (before after : List CallRecord) : Type 0 where
-  pub settled_then : settled_datagrams after ≡ suc (settled_datagrams before)
-  pub received : received_indices after ≡ received_indices before ++ settled_datagrams before ∷ []
+  pub released_then : released_datagrams after ≡ suc (released_datagrams before)
+  pub received : received_indices after ≡ received_indices before ++ released_datagrams before ∷ []
 
 one-received : (turn : Turn) (r : CallRecord) (before : List CallRecord) (payload : List ℕ) → TellsOf turn r (replies.Datagram payload) → OneMore before (r ∷ before)
 one-received turn (BytesRead k n) before payload t = absurd (let z = t.1 in cc)
-one-received turn DatagramReceived before payload t = record { settled_then = omega arith; received = refl }
+one-received turn DatagramReceived before payload t = record { released_then = omega arith; received = refl }
 one-received turn _ before payload t = absurd (cc)
 
 one-more : (turn : Turn) (before after : List CallRecord) (reply : Reply) (payload : List ℕ) → reply ≡ replies.Datagram payload → Logged turn before after reply → OneMore before after
@@ -80,27 +80,27 @@ one-more turn before after reply payload e (NoRecord a q) = absurd (let z = subs
 one-more turn before after reply payload e (OneRecord r a t) = subst (OneMore before) (sym a) (one-received turn r before payload (subst (TellsOf turn r) e t))
 one-more turn before after reply payload e (ThenPolled r a t) =
     let m = one-received turn r before payload (subst (TellsOf turn r) e t) in
-    subst (OneMore before) (sym a) (record { settled_then = m.settled_then; received = m.received })
+    subst (OneMore before) (sym a) (record { released_then = m.released_then; received = m.received })
 
 -- ---- the datagram that is given
 
 payload-named : (s : ℕ) (d : ℕ × List ℕ) (payload : List ℕ) → (4 * d.0 == s) ≡ true → payload ≡ d.1 → payload_for s (Some d) ≡ payload ∷ []
 payload-named s d payload n e = rw n (ap (λ p. p ∷ []) (sym e))
 
-pub datagram-told : (side : Side) (log : Log) (turn : Turn) → IsReachable side log → is_lawful side log turn ≡ true → DatagramTold side log turn
-datagram-told side log turn r l payload e =
+pub datagram-reported : (side : Side) (log : Log) (turn : Turn) → IsReachable side log → is_lawful side log turn ≡ true → DatagramReported side log turn
+datagram-reported side log turn r l payload e =
     let c = caused side turn log l in
     let w = why-reply side log turn l (replies.Datagram payload) e in
     let f = w.0 in
-    let x = next-is side c.decided f.datagram f.next in
-    let n = settled_datagrams (calls_of log) in
-    let index = settled_datagrams (calls_of c.decided) in
+    let x = next-is side c.decided f.datagram f.is_next in
+    let n = released_datagrams (calls_of log) in
+    let index = released_datagrams (calls_of c.decided) in
     let ds = datagrams_of (events_of log) in
-    let same : datagrams_of (events_of c.decided) ≡ ds = keeps-steps (keeps-arrivals side turn ds (receive-brings turn f.receives)) c.before refl in
+    let same : datagrams_of (events_of c.decided) ≡ ds = keeps-steps (keeps-arrivals side turn ds (receive-reports turn f.receives)) c.before refl in
     let p = reached (DatagramsSoFar side) (datagrams-first side) (keeps-datagrams side) log r in
     let q = keeps-decided (keeps-datagrams side turn) log l p in
     let established : established_session (calls_of log) ≡ Some (f.session, f.offset) = sym (passed-established (calls_of c.decided) (calls_of log) c.passed) ∙ f.is_established in
-    let most : n ≤ index = passed-settled (calls_of c.decided) (calls_of log) c.passed in
+    let most : n ≤ index = passed-released (calls_of c.decided) (calls_of log) c.passed in
     let all : payloads_for f.session (take index ds) ≡ payloads_for f.session (take n ds) =
     ap (λ ys. payloads_for f.session (take index ys)) (sym same) ∙ sym (q.prefix f.session f.offset f.is_established) ∙ ap (λ ys. received ys (calls_of c.decided)) same ∙ passed-same ds (calls_of c.decided) (calls_of log) c.passed ∙ p.prefix f.session f.offset established in
     let m = one-more turn (calls_of c.decided) (calls_of (log_after side log turn)) (answer_to side log turn).reply payload e c.logged in
@@ -118,39 +118,39 @@ datagram-told side log turn r l payload e =
       decided = c.decided;
       during = decided-during side log turn l;
       dequeued = x.1;
-      settled_then = m.settled_then;
+      released_then = m.released_then;
       received = m.received ∙ ap (λ zs. zs ++ index ∷ []) (passed-indices (calls_of c.decided) (calls_of log) c.passed);
     }
 
 -- ---- what stays
 
 indices-more : (r : CallRecord) (cs : List CallRecord) → (more : List ℕ) × (received_indices (r ∷ cs) ≡ received_indices cs ++ more)
-indices-more DatagramReceived cs = (settled_datagrams cs ∷ [], refl)
+indices-more DatagramReceived cs = (released_datagrams cs ∷ [], refl)
 indices-more _ cs = ([], sym (append-nil (received_indices cs)))
 
 pub datagrams-same : (side : Side) (log : Log) → DatagramsStay side log log
 datagrams-same side log = record {
   arrived = ([], sym (append-nil (datagrams_of (events_of log))));
   dequeued = omega arith;
-  settled_then = omega arith;
+  released_then = omega arith;
   received = ([], sym (append-nil (received_indices (calls_of log))));
 }
 
--- what an entry does to what calls settled and received
+-- what an entry does to what calls released and received
 record CallsMore (base : List CallRecord) (cs : List CallRecord) : Type 0 where
-  pub settled_then : settled_datagrams base ≤ settled_datagrams cs
+  pub released_then : released_datagrams base ≤ released_datagrams cs
   pub received : (more : List ℕ) × (received_indices cs ≡ received_indices base ++ more)
 
 calls-more : (base : List CallRecord) (e : Entry) (log : Log) → CallsMore base (calls_of log) → CallsMore base (calls_of (e ∷ log))
 calls-more base (Called r) log p =
     let g = indices-more r (calls_of log) in
     record {
-      settled_then = let l = p.settled_then in let m = settled-more r (calls_of log) in omega arith;
+      released_then = let l = p.released_then in let m = released-more r (calls_of log) in omega arith;
       received = (p.received.0 ++ g.0, g.1 ∙ ap (λ zs. zs ++ g.0) p.received.1 ∙ append_assoc (received_indices base) p.received.0 g.0);
     }
 calls-more base _ log p = p
 
 pub datagrams-stay : (side : Side) (earlier : Log) (e : Entry) (log : Log) → DatagramsStay side earlier log → DatagramsStay side earlier (e ∷ log)
 datagrams-stay side earlier e log p =
-    let c = calls-more (calls_of earlier) e log (record { settled_then = p.settled_then; received = p.received }) in
-    record { arrived = arrived-more (datagrams_of (events_of earlier)) e log p.arrived; dequeued = dequeued-stay side _ e log p.dequeued; settled_then = c.settled_then; received = c.received }
+    let c = calls-more (calls_of earlier) e log (record { released_then = p.released_then; received = p.received }) in
+    record { arrived = arrived-more (datagrams_of (events_of earlier)) e log p.arrived; dequeued = dequeued-stay side _ e log p.dequeued; released_then = c.released_then; received = c.received }

@@ -9,25 +9,25 @@ use Rattle.wt_turn.specs.declared.action.Action.{Action}
 use Rattle.wt_wire.specs.declared.side.Side.{Side}
 
 -- what is classified stays the same
-pub table-behind : (side : Side) (own : List Action) (log : Log) → stream_table side (with_actions own log) ≡ stream_table side log
+pub table-after : (side : Side) (own : List Action) (log : Log) → stream_table side (with_actions own log) ≡ stream_table side log
 unfolding stream_table
-table-behind side [] log = refl
-table-behind side (a ∷ own) log = table-behind side own (Sent a ∷ log)
+table-after side [] log = refl
+table-after side (a ∷ own) log = table-after side own (Sent a ∷ log)
 
 -- so do the calls
-pub calls-behind : (own : List Action) (log : Log) → calls_of (with_actions own log) ≡ calls_of log
-calls-behind [] log = refl
-calls-behind (a ∷ own) log = calls-behind own (Sent a ∷ log)
+pub calls-after : (own : List Action) (log : Log) → calls_of (with_actions own log) ≡ calls_of log
+calls-after [] log = refl
+calls-after (a ∷ own) log = calls-after own (Sent a ∷ log)
 
 -- so do the events
-pub events-behind : (own : List Action) (log : Log) → events_of (with_actions own log) ≡ events_of log
-events-behind [] log = refl
-events-behind (a ∷ own) log = events-behind own (Sent a ∷ log)
+pub events-after : (own : List Action) (log : Log) → events_of (with_actions own log) ≡ events_of log
+events-after [] log = refl
+events-after (a ∷ own) log = events-after own (Sent a ∷ log)
 
 -- so do the bytes that came
-pub contents-behind : (own : List Action) (log : Log) (k : ℕ) → contents (with_actions own log) k ≡ contents log k
-contents-behind [] log k = refl
-contents-behind (a ∷ own) log k = contents-behind own (Sent a ∷ log) k
+pub contents-after : (own : List Action) (log : Log) (k : ℕ) → contents (with_actions own log) k ≡ contents log k
+contents-after [] log k = refl
+contents-after (a ∷ own) log k = contents-after own (Sent a ∷ log) k
 
 -- two lists of actions go out one after the other
 pub with-both : (xs ys : List Action) (log : Log) → with_actions (xs ++ ys) log ≡ with_actions ys (with_actions xs log)
@@ -45,10 +45,10 @@ still-counted false n e = e
 still-counted true n e = more-counted true n refl
 
 -- it stays so after more actions
-pub counted-behind : (kind : ℕ) (own : List Action) (log : Log) → (local_count (actions_of log) kind == 0) ≡ false → (local_count (actions_of (with_actions own log)) kind == 0) ≡ false
-counted-behind kind [] log e = e
-counted-behind kind (a ∷ own) log e = counted-behind kind own (Sent a ∷ log) (still-counted (opens kind a) (local_count (actions_of log) kind) e)
+pub counted-after : (kind : ℕ) (own : List Action) (log : Log) → (local_count (actions_of log) kind == 0) ≡ false → (local_count (actions_of (with_actions own log)) kind == 0) ≡ false
+counted-after kind [] log e = e
+counted-after kind (a ∷ own) log e = counted-after kind own (Sent a ∷ log) (still-counted (opens kind a) (local_count (actions_of log) kind) e)
 
 -- and after the first of two lists it is so after both
 pub counted-both : (kind : ℕ) (xs ys : List Action) (log : Log) → (local_count (actions_of (with_actions xs log)) kind == 0) ≡ false → (local_count (actions_of (with_actions (xs ++ ys) log)) kind == 0) ≡ false
-counted-both kind xs ys log e = rw (with-both xs ys log) (counted-behind kind ys (with_actions xs log) e)
+counted-both kind xs ys log e = rw (with-both xs ys log) (counted-after kind ys (with_actions xs log) e)
