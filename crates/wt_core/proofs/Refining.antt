@@ -78,9 +78,9 @@ pub answer_is : (side : Side) (log : Log) (turn : Turn) (reply : Reply) (actions
 answer_is side log turn reply actions e f = rw (e, f) refl
 
 -- a core whose driver's actions were collected refines the log
-pub taken_refines : (m k : CoreState) (side : Side) (d : DriverValue) (log : Log) → m ≡ k → k.failed ≡ false → k.side ≡ side → Follows side d log (length (actions_of log)) → Keeps side k.session log
+pub collected_refines : (m k : CoreState) (side : Side) (d : DriverValue) (log : Log) → m ≡ k → k.failed ≡ false → k.side ≡ side → Follows side d log (length (actions_of log)) → Keeps side k.session log
     → IsReachable side log → Refines (record m { driver = d }) log
-taken_refines m k side d log e works s follows keeps reached =
+collected_refines m k side d log e works s follows keeps reached =
     let offset : m.side ≡ side = ap (λ (x : CoreState). x.side) e ∙ s in
     record {
       works = ap (λ (x : CoreState). x.failed) e ∙ works;

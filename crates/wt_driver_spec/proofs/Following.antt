@@ -332,11 +332,11 @@ called-in side log (StreamPassed id) may = state-releasing (transport_view side 
 called-in side log (RequestDelivered id) may = state-delivering (transport_view side log) (call_view log) (control_sent side log) (is_open log) (stream_table side log) id
 called-in side log _ may = refl
 
-pub taken-in : (side : Side) (log : Log) (m : Entry) → MayFollow side log m → Sound side log → before_scan side log m ≡ after_entry (transport_view side log) m (held side log)
-taken-in side log (Reported e) may s = reported-in side log e s
-taken-in side log (Called d) may s = called-in side log d may
-taken-in side log (Sent a) may s = λ i. state_by (transport_view side log) (call_view log) (sent-control side log a i) (open-more (Sent a) log i) (stream_table side log)
-taken-in side log _ may s = refl
+pub entry-noted : (side : Side) (log : Log) (m : Entry) → MayFollow side log m → Sound side log → before_scan side log m ≡ after_entry (transport_view side log) m (held side log)
+entry-noted side log (Reported e) may s = reported-in side log e s
+entry-noted side log (Called d) may s = called-in side log d may
+entry-noted side log (Sent a) may s = λ i. state_by (transport_view side log) (call_view log) (sent-control side log a i) (open-more (Sent a) log i) (stream_table side log)
+entry-noted side log _ may s = refl
 
 -- what is kept after one more entry, but for what goes out then
 scanned-where : (b : Bool) (side : Side) (log : Log) (m : Entry) → Untouched (has_local_kind side) (call_view (m ∷ log)) (stream_table side log)
@@ -350,7 +350,7 @@ pub entry-followed : (side : Side) (log : Log) (m : Entry) → MayFollow side lo
 unfolding state_of stream_table
 entry-followed side log m may s =
     scanned-where ((is_moment m && is_open (m ∷ log))) side log m (untouched-entry side log m may s.untouched)
-    ∙ ap (apply_if ((is_moment m && is_open (m ∷ log))) (scan_state (transport_view side (m ∷ log)))) (taken-in side log m may s)
+    ∙ ap (apply_if ((is_moment m && is_open (m ∷ log))) (scan_state (transport_view side (m ∷ log)))) (entry-noted side log m may s)
 
 -- ---- each moment
 

@@ -3,14 +3,14 @@ use Rattle.std.proofs.Common.{arith, ◌≡◌, ◌<◌, ℕ, suc, Bool, true, f
 use Rattle.std.specs.Prelude.{◌==◌, ◌%◌, ◌&&◌, ◌||◌, Option, Some, None, if◌then◌else◌, nat_lt}
 use Rattle.std.proofs.lemmas.Bool.{and_parts, true≢false}
 use Rattle.wt_driver_state.proofs.Acting.{acted-sends}
-use Rattle.wt_driver_state.proofs.Calling.{received-taken, skipped-taken}
+use Rattle.wt_driver_state.proofs.Calling.{received-noted, skipped-noted}
 use Rattle.wt_driver_state.proofs.Receives.{named-receives}
 use Rattle.wt_driver_state.proofs.StageUses.{due-uses, table-with}
 use Rattle.wt_driver_state.proofs.StageWork.{passed-waits, slice-front, unreleased-with}
 use Rattle.wt_driver_state.specs.DriverValue.{DriverValue, without_first}
 use Rattle.wt_driver_state.specs.PollResults.{next_datagram_now}
 use Rattle.wt_driver_state.specs.Moving.{front_of}
-use Rattle.wt_driver_state.specs.Tie.{Follows, TakenIn, unreleased_datagrams}
+use Rattle.wt_driver_state.specs.Tie.{EntryNoted, Follows, unreleased_datagrams}
 use Rattle.wt_driver_spec.proofs.Accepting.{due-named, may-release}
 use Rattle.wt_driver_spec.proofs.Following.{sound}
 use Rattle.wt_driver_spec.specs.Asking.{MayBeCalled, SendsWhileOpen, SparesControl}
@@ -165,12 +165,12 @@ may-release-datagram side log collected d f session x e r is = by r is
     by _ i = absurd (true≢false (sym i))
 
 -- a datagram is released
-pub released-taken : (side : Side) (log : Log) (collected : ℕ) (d : DriverValue) (f : Follows side d log collected) (new : DriverValue)
+pub released-noted : (side : Side) (log : Log) (collected : ℕ) (d : DriverValue) (f : Follows side d log collected) (new : DriverValue)
     → new ≡ record d { state = record d.state { datagrams = suc d.state.datagrams }; queue = without_first d.queue }
-    → (r : CallRecord) → releases_datagram r ≡ true → MayBeCalled side log r → TakenIn side log (Called r) new collected
-released-taken side log collected d f new e DatagramReceived is a = received-taken side log collected d f new e a
-released-taken side log collected d f new e DatagramPassed is a = skipped-taken side log collected d f new e a
-released-taken side log collected d f new e _ is a = absurd (true≢false (sym is))
+    → (r : CallRecord) → releases_datagram r ≡ true → MayBeCalled side log r → EntryNoted side log (Called r) new collected
+released-noted side log collected d f new e DatagramReceived is a = received-noted side log collected d f new e a
+released-noted side log collected d f new e DatagramPassed is a = skipped-noted side log collected d f new e a
+released-noted side log collected d f new e _ is a = absurd (true≢false (sym is))
 
 -- the work of the moment releases no other one
 released-once : (side : Side) (log : Log) → unreleased_datagrams (log_and_flush side log (Called DatagramPassed)) ≡ unreleased_datagrams (Called DatagramPassed ∷ log)

@@ -5,7 +5,7 @@ use Rattle.wt_driver_state.specs.Calling.{leaves_at_rest}
 use Rattle.wt_driver_state.specs.DriverValue.{DriverValue, with_state}
 use Rattle.wt_driver_state.specs.PeerSettings.{KeepsSettings, settings_read}
 use Rattle.wt_driver_state.specs.Stages.{StageSays, StagesFit, call_use}
-use Rattle.wt_driver_state.specs.Tie.{Follows, TakenIn}
+use Rattle.wt_driver_state.specs.Tie.{EntryNoted, Follows}
 use Rattle.wt_driver_spec.proofs.RestMoments.{open-says, quiet-call, quiet-call-rests, quiet-call-state}
 use Rattle.wt_driver_spec.proofs.ScanSlots.{slots-same}
 use Rattle.wt_driver_spec.specs.DriverState.{Arrived, Dequeued, DriverState, Held, slot_by, slots, state_of}
@@ -75,7 +75,7 @@ plain log (PrioritySet id priority) s e = record { same = refl; view = refl }
 plain log Polled s e = record { same = refl; view = refl }
 plain log _ s e = absurd cc
 
-module _ (side : Side) (log : Log) (r : CallRecord) (collected : ℕ) (d : DriverValue) (leaves : leaves_at_rest r ≡ true) (in_ : TakenIn side log (Called r) d collected) (o : is_open log ≡ true) where
+module _ (side : Side) (log : Log) (r : CallRecord) (collected : ℕ) (d : DriverValue) (leaves : leaves_at_rest r ≡ true) (in_ : EntryNoted side log (Called r) d collected) (o : is_open log ≡ true) where
   abbrev t : TransportView
   t = transport_view side log
 

@@ -1,4 +1,4 @@
--- A call's record taken in, from what the driver's parts ensure.
+-- A call's record noted, from what the driver's parts ensure.
 use Rattle.std.proofs.Common.{◌≡◌, ◌≤◌, ◌+◌, ℕ, suc, Bool, true, List, ◌∷◌, length, drop, refl, sym, ap, subst, ◌∙◌, add-one}
 use Rattle.std.specs.Prelude.{Some, ℤ}
 use Rattle.wt_driver_state.proofs.Early.{early}
@@ -17,7 +17,7 @@ use Rattle.wt_turn.specs.declared.record.Record.{Record}
 use Rattle.wt_turn.specs.declared.record.Record.TheVariants as records
 use Rattle.wt_scan.specs.Scanning.{unless_given_up}
 use Rattle.wt_driver_state.specs.Stages.{called_stages, established_stages, is_there}
-use Rattle.wt_driver_state.specs.Tie.{Follows, TakenIn, unreleased_datagrams, uncollected_since}
+use Rattle.wt_driver_state.specs.Tie.{EntryNoted, Follows, uncollected_since, unreleased_datagrams}
 use Rattle.wt_driver_spec.proofs.RestMoments.{open-says}
 use Rattle.wt_driver_spec.specs.DriverState.{DriverState, state_of}
 use Rattle.wt_driver_spec.specs.Moment.{may_release}
@@ -77,7 +77,7 @@ module _ (side : Side) (t : seam.TransportState) (log : Log) (position : ℕ →
 pub inbox-kept : (side : Side) (x : InboxState) (log : Log) (stage : ℕ → Stage) (uncollected : List Action) (r : CallRecord) → TellsNothing r → inboxes.Refines side x log stage uncollected → inboxes.Refines side x (Called r ∷ log) stage uncollected
 inbox-kept side x log stage uncollected r n s = passes side x log stage uncollected s x.transport (Called r ∷ log) uncollected (goes-called side log r) (transport-kept side x.transport log s.position uncollected r n s.transport)
 
--- ---- a record taken in
+-- ---- a record noted
 
 queue-so : (r : CallRecord) (log : Log) → unreleased_datagrams (Called r ∷ log) ≡ called_queue r (unreleased_datagrams log)
 queue-so DatagramReceived log = received-waits log
@@ -103,9 +103,9 @@ module _ (side : Side) (log : Log) (collected : ℕ) (d : DriverValue) (f : Foll
   open-before = ap (λ (s : DriverState). s.is_open) f.refines.state_is
 
   -- the record, with what it did
-  pub call-taken : (new : DriverValue) (b : Bool) → inboxes.Refines side new.inbox (Called r ∷ log) (called_stages side log r f.refines.stage) (uncollected_since collected log) → new.state ≡ record (after_call r d.state) { is_open = b }
-      → b ≡ (state_of side log).is_open → new.queue ≡ called_queue r d.queue → new.settings ≡ d.settings → TakenIn side log (Called r) new collected
-  call-taken new b x s o q k = record {
+  pub call-noted : (new : DriverValue) (b : Bool) → inboxes.Refines side new.inbox (Called r ∷ log) (called_stages side log r f.refines.stage) (uncollected_since collected log) → new.state ≡ record (after_call r d.state) { is_open = b }
+      → b ≡ (state_of side log).is_open → new.queue ≡ called_queue r d.queue → new.settings ≡ d.settings → EntryNoted side log (Called r) new collected
+  call-noted new b x s o q k = record {
     stage = called_stages side log r f.refines.stage;
     inbox = x;
     fit = called-fits side log f.refines.stage r (is-own side log f.refines.fits) a.can f.refines.staged;
@@ -151,82 +151,82 @@ module _ (side : Side) (log : Log) (collected : ℕ) (d : DriverValue) (f : Foll
   kept : (r : CallRecord) → TellsNothing r → inboxes.Refines side d.inbox (Called r ∷ log) f.refines.stage (uncollected_since collected log)
   kept r n = inbox-kept side d.inbox log f.refines.stage (uncollected_since collected log) r n f.refines.inbox
 
-  pub nothing-taken : (r : CallRecord) → ChangesNothing r → Asks r → TakenIn side log (Called r) d collected
-  nothing-taken (ConnectStarted reserved head) n a = call-taken side log collected d f (ConnectStarted reserved head) a d d.state.is_open (kept (ConnectStarted reserved head) tt) refl opened refl refl
-  nothing-taken (ResponseStarted accepts head) n a = call-taken side log collected d f (ResponseStarted accepts head) a d d.state.is_open (kept (ResponseStarted accepts head) tt) refl opened refl refl
-  nothing-taken HandshakeOver n a = call-taken side log collected d f HandshakeOver a d d.state.is_open (kept HandshakeOver tt) refl opened refl refl
-  nothing-taken (OpeningStarted id session) n a = call-taken side log collected d f (OpeningStarted id session) a d d.state.is_open (kept (OpeningStarted id session) tt) refl opened refl refl
-  nothing-taken (OpeningFailed id) n a = call-taken side log collected d f (OpeningFailed id) a d d.state.is_open (kept (OpeningFailed id) tt) refl opened refl refl
-  nothing-taken Polled n a = call-taken side log collected d f Polled a d d.state.is_open (kept Polled tt) refl opened refl refl
-  nothing-taken _ n a = absurd n
+  pub nothing-noted : (r : CallRecord) → ChangesNothing r → Asks r → EntryNoted side log (Called r) d collected
+  nothing-noted (ConnectStarted reserved head) n a = call-noted side log collected d f (ConnectStarted reserved head) a d d.state.is_open (kept (ConnectStarted reserved head) tt) refl opened refl refl
+  nothing-noted (ResponseStarted accepts head) n a = call-noted side log collected d f (ResponseStarted accepts head) a d d.state.is_open (kept (ResponseStarted accepts head) tt) refl opened refl refl
+  nothing-noted HandshakeOver n a = call-noted side log collected d f HandshakeOver a d d.state.is_open (kept HandshakeOver tt) refl opened refl refl
+  nothing-noted (OpeningStarted id session) n a = call-noted side log collected d f (OpeningStarted id session) a d d.state.is_open (kept (OpeningStarted id session) tt) refl opened refl refl
+  nothing-noted (OpeningFailed id) n a = call-noted side log collected d f (OpeningFailed id) a d d.state.is_open (kept (OpeningFailed id) tt) refl opened refl refl
+  nothing-noted Polled n a = call-noted side log collected d f Polled a d d.state.is_open (kept Polled tt) refl opened refl refl
+  nothing-noted _ n a = absurd n
 
   first : (id : ℕ) → may_release side (stream_table side log).classified id ≡ true → IsEarly d id
   first id may = early side log id f.refines.fits may d f.refines.state_is
 
   module _ (new : DriverValue) where
-    pub delivered-taken : (id : ℕ) → new ≡ with_state d (remove_request id d.state) → Asks (RequestDelivered id) → TakenIn side log (Called (RequestDelivered id)) new collected
-    delivered-taken id e a = subst (λ (v : DriverValue). TakenIn side log (Called (RequestDelivered id)) v collected) (sym e)
-        (call-taken side log collected d f (RequestDelivered id) a (with_state d (remove_request id d.state)) d.state.is_open (kept (RequestDelivered id) tt) refl opened refl refl)
+    pub delivered-noted : (id : ℕ) → new ≡ with_state d (remove_request id d.state) → Asks (RequestDelivered id) → EntryNoted side log (Called (RequestDelivered id)) new collected
+    delivered-noted id e a = subst (λ (v : DriverValue). EntryNoted side log (Called (RequestDelivered id)) v collected) (sym e)
+        (call-noted side log collected d f (RequestDelivered id) a (with_state d (remove_request id d.state)) d.state.is_open (kept (RequestDelivered id) tt) refl opened refl refl)
 
-    pub established-taken : (id start : ℕ) → ReleasesResponse d new id start → KeepsStages d new → new.state ≡ record d.state { session = Some (id, start); is_open = new.inbox.transport.is_open } → new.queue ≡ d.queue → new.settings ≡ d.settings
-        → Asks (SessionEstablished id start) → TakenIn side log (Called (SessionEstablished id start)) new collected
-    established-taken id start client server s q k a =
+    pub established-noted : (id start : ℕ) → ReleasesResponse d new id start → KeepsStages d new → new.state ≡ record d.state { session = Some (id, start); is_open = new.inbox.transport.is_open } → new.queue ≡ d.queue → new.settings ≡ d.settings
+        → Asks (SessionEstablished id start) → EntryNoted side log (Called (SessionEstablished id start)) new collected
+    established-noted id start client server s q k a =
         let stage = established_stages side id start f.refines.stage in
         let x = established-inbox side log collected d new id start f client server a.half in
         let y = inbox-kept side new.inbox log stage (uncollected_since collected log) (SessionEstablished id start) tt x in
-        call-taken side log collected d f (SessionEstablished id start) a new new.inbox.transport.is_open y s (open-stays (SessionEstablished id start) new.inbox stage y) q k
+        call-noted side log collected d f (SessionEstablished id start) a new new.inbox.transport.is_open y s (open-stays (SessionEstablished id start) new.inbox stage y) q k
 
-    pub accepted-taken : (id : ℕ) → (IsAmong 4 id d.state.unis → IsAmong 1 id d.state.bis → new ≡ with_state d (release id d.state)) → Asks (StreamAccepted id) → TakenIn side log (Called (StreamAccepted id)) new collected
-    accepted-taken id e a = subst (λ (v : DriverValue). TakenIn side log (Called (StreamAccepted id)) v collected) (sym (e (first id a.may).unis (first id a.may).bis))
-        (call-taken side log collected d f (StreamAccepted id) a (with_state d (release id d.state)) d.state.is_open (kept (StreamAccepted id) tt) refl opened refl refl)
+    pub accepted-noted : (id : ℕ) → (IsAmong 4 id d.state.unis → IsAmong 1 id d.state.bis → new ≡ with_state d (release id d.state)) → Asks (StreamAccepted id) → EntryNoted side log (Called (StreamAccepted id)) new collected
+    accepted-noted id e a = subst (λ (v : DriverValue). EntryNoted side log (Called (StreamAccepted id)) v collected) (sym (e (first id a.may).unis (first id a.may).bis))
+        (call-noted side log collected d f (StreamAccepted id) a (with_state d (release id d.state)) d.state.is_open (kept (StreamAccepted id) tt) refl opened refl refl)
 
     abbrev released_value : DriverValue
     released_value = record d { state = record d.state { datagrams = suc d.state.datagrams }; queue = without_first d.queue }
 
-    pub received-taken : new ≡ record d { state = record d.state { datagrams = suc d.state.datagrams }; queue = without_first d.queue } → Asks DatagramReceived → TakenIn side log (Called DatagramReceived) new collected
-    received-taken e a = subst (λ (v : DriverValue). TakenIn side log (Called DatagramReceived) v collected) (sym e)
-        (call-taken side log collected d f DatagramReceived a released_value d.state.is_open (kept DatagramReceived tt) (λ i. record d.state { datagrams = sym (add-one d.state.datagrams) i }) opened refl refl)
+    pub received-noted : new ≡ record d { state = record d.state { datagrams = suc d.state.datagrams }; queue = without_first d.queue } → Asks DatagramReceived → EntryNoted side log (Called DatagramReceived) new collected
+    received-noted e a = subst (λ (v : DriverValue). EntryNoted side log (Called DatagramReceived) v collected) (sym e)
+        (call-noted side log collected d f DatagramReceived a released_value d.state.is_open (kept DatagramReceived tt) (λ i. record d.state { datagrams = sym (add-one d.state.datagrams) i }) opened refl refl)
 
-    pub skipped-taken : new ≡ record d { state = record d.state { datagrams = suc d.state.datagrams }; queue = without_first d.queue } → Asks DatagramPassed → TakenIn side log (Called DatagramPassed) new collected
-    skipped-taken e a = subst (λ (v : DriverValue). TakenIn side log (Called DatagramPassed) v collected) (sym e)
-        (call-taken side log collected d f DatagramPassed a released_value d.state.is_open (kept DatagramPassed tt) (λ i. record d.state { datagrams = sym (add-one d.state.datagrams) i }) opened refl refl)
+    pub skipped-noted : new ≡ record d { state = record d.state { datagrams = suc d.state.datagrams }; queue = without_first d.queue } → Asks DatagramPassed → EntryNoted side log (Called DatagramPassed) new collected
+    skipped-noted e a = subst (λ (v : DriverValue). EntryNoted side log (Called DatagramPassed) v collected) (sym e)
+        (call-noted side log collected d f DatagramPassed a released_value d.state.is_open (kept DatagramPassed tt) (λ i. record d.state { datagrams = sym (add-one d.state.datagrams) i }) opened refl refl)
 
     -- a stream that is passed is one of the peer's, so it was given up
-    pub passed-taken : (id : ℕ) → inboxes.Refines side new.inbox log (with_stage f.refines.stage id (unless_given_up (can_receive side log id) (f.refines.stage id))) (uncollected_since collected log)
-        → (IsAmong 4 id d.state.unis → IsAmong 1 id d.state.bis → new.state ≡ record (release id d.state) { is_open = new.inbox.transport.is_open }) → new.queue ≡ d.queue → new.settings ≡ d.settings → Asks (StreamPassed id) → TakenIn side log (Called (StreamPassed id)) new collected
-    passed-taken id x s q k a =
+    pub passed-noted : (id : ℕ) → inboxes.Refines side new.inbox log (with_stage f.refines.stage id (unless_given_up (can_receive side log id) (f.refines.stage id))) (uncollected_since collected log)
+        → (IsAmong 4 id d.state.unis → IsAmong 1 id d.state.bis → new.state ≡ record (release id d.state) { is_open = new.inbox.transport.is_open }) → new.queue ≡ d.queue → new.settings ≡ d.settings → Asks (StreamPassed id) → EntryNoted side log (Called (StreamPassed id)) new collected
+    passed-noted id x s q k a =
         let can : can_receive side log id ≡ true = sessions-receive side log id f.refines.fits a.can.0 in
         let z : inboxes.Refines side new.inbox log (with_stage f.refines.stage id GivenUp) (uncollected_since collected log) =
         subst (λ (b : Bool). inboxes.Refines side new.inbox log (with_stage f.refines.stage id (unless_given_up b (f.refines.stage id))) (uncollected_since collected log)) can x in
         let y = inbox-kept side new.inbox log (with_stage f.refines.stage id GivenUp) (uncollected_since collected log) (StreamPassed id) tt z in
-        call-taken side log collected d f (StreamPassed id) a new new.inbox.transport.is_open y (s (first id a.may).unis (first id a.may).bis) (open-stays (StreamPassed id) new.inbox (with_stage f.refines.stage id GivenUp) y) q k
+        call-noted side log collected d f (StreamPassed id) a new new.inbox.transport.is_open y (s (first id a.may).unis (first id a.may).bis) (open-stays (StreamPassed id) new.inbox (with_stage f.refines.stage id GivenUp) y) q k
 
     -- a stream that is given up was let go where it was there
-    pub given-up-taken : (id : ℕ) → inboxes.Refines side new.inbox log (with_stage f.refines.stage id (unless_given_up (can_receive side log id) (f.refines.stage id))) (uncollected_since collected log)
-        → new.state ≡ record d.state { is_open = new.inbox.transport.is_open } → new.queue ≡ d.queue → new.settings ≡ d.settings → Asks (StreamGivenUp id) → TakenIn side log (Called (StreamGivenUp id)) new collected
-    given-up-taken id x s q k a =
+    pub given-up-noted : (id : ℕ) → inboxes.Refines side new.inbox log (with_stage f.refines.stage id (unless_given_up (can_receive side log id) (f.refines.stage id))) (uncollected_since collected log)
+        → new.state ≡ record d.state { is_open = new.inbox.transport.is_open } → new.queue ≡ d.queue → new.settings ≡ d.settings → Asks (StreamGivenUp id) → EntryNoted side log (Called (StreamGivenUp id)) new collected
+    given-up-noted id x s q k a =
         let later = called_stages side log (StreamGivenUp id) f.refines.stage in
         let same : can_receive side log id ≡ is_there side log id = there-is side log id f.refines.fits a.can in
         let z : inboxes.Refines side new.inbox log later (uncollected_since collected log) =
         subst (λ (b : Bool). inboxes.Refines side new.inbox log (with_stage f.refines.stage id (unless_given_up b (f.refines.stage id))) (uncollected_since collected log)) same x in
         let y = inbox-kept side new.inbox log later (uncollected_since collected log) (StreamGivenUp id) tt z in
-        call-taken side log collected d f (StreamGivenUp id) a new new.inbox.transport.is_open y s (open-stays (StreamGivenUp id) new.inbox later y) q k
+        call-noted side log collected d f (StreamGivenUp id) a new new.inbox.transport.is_open y s (open-stays (StreamGivenUp id) new.inbox later y) q k
 
-    pub read-taken : (id count : ℕ)
+    pub read-noted : (id count : ℕ)
         → ((offset : ℕ) → body_offset (f.refines.stage id) ≡ Some offset → count ≤ length (drop offset (contents log id)) → inboxes.Refines side new.inbox log (with_stage f.refines.stage id (Body (offset + count))) (uncollected_since collected log))
-        → new.state ≡ record d.state { is_open = new.inbox.transport.is_open } → new.queue ≡ d.queue → new.settings ≡ d.settings → Asks (BytesRead id count) → TakenIn side log (Called (BytesRead id count)) new collected
-    read-taken id count x s q k a =
+        → new.state ≡ record d.state { is_open = new.inbox.transport.is_open } → new.queue ≡ d.queue → new.settings ≡ d.settings → Asks (BytesRead id count) → EntryNoted side log (Called (BytesRead id count)) new collected
+    read-noted id count x s q k a =
         let start = halves.body_start (verdict_of id (stream_table side log).classified) + halves.total_read id (calls_of log) in
         let e : body_offset (f.refines.stage id) ≡ Some start = read-staged side log f.refines.stage id f.refines.fits f.refines.uses f.refines.staged a.half in
         let z = x start e a.can.1 in
         let w = subst (λ (to : Stage). inboxes.Refines side new.inbox log (with_stage f.refines.stage id to) (uncollected_since collected log)) (sym (read-so count start (f.refines.stage id) e)) z in
         let y = inbox-kept side new.inbox log (called_stages side log (BytesRead id count) f.refines.stage) (uncollected_since collected log) (BytesRead id count) tt w in
-        call-taken side log collected d f (BytesRead id count) a new new.inbox.transport.is_open y s (open-stays (BytesRead id count) new.inbox (called_stages side log (BytesRead id count) f.refines.stage) y) q k
+        call-noted side log collected d f (BytesRead id count) a new new.inbox.transport.is_open y s (open-stays (BytesRead id count) new.inbox (called_stages side log (BytesRead id count) f.refines.stage) y) q k
 
-    pub reported-taken : (r : CallRecord) → after_call r d.state ≡ d.state → called_queue r d.queue ≡ d.queue → called_stages side log r f.refines.stage ≡ f.refines.stage → inboxes.Refines side new.inbox (Called r ∷ log) f.refines.stage (uncollected_since collected log)
-        → new.state ≡ record d.state { is_open = new.inbox.transport.is_open } → new.queue ≡ d.queue → new.settings ≡ d.settings → Asks r → TakenIn side log (Called r) new collected
-    reported-taken r same same_queue same_stages x s q k a =
-        call-taken side log collected d f r a new new.inbox.transport.is_open (subst (λ (z : ℕ → Stage). inboxes.Refines side new.inbox (Called r ∷ log) z (uncollected_since collected log)) (sym same_stages) x)
+    pub reported-noted : (r : CallRecord) → after_call r d.state ≡ d.state → called_queue r d.queue ≡ d.queue → called_stages side log r f.refines.stage ≡ f.refines.stage → inboxes.Refines side new.inbox (Called r ∷ log) f.refines.stage (uncollected_since collected log)
+        → new.state ≡ record d.state { is_open = new.inbox.transport.is_open } → new.queue ≡ d.queue → new.settings ≡ d.settings → Asks r → EntryNoted side log (Called r) new collected
+    reported-noted r same same_queue same_stages x s q k a =
+        call-noted side log collected d f r a new new.inbox.transport.is_open (subst (λ (z : ℕ → Stage). inboxes.Refines side new.inbox (Called r ∷ log) z (uncollected_since collected log)) (sym same_stages) x)
         (s ∙ (λ i. record (sym same i) { is_open = new.inbox.transport.is_open })) (open-stays r new.inbox f.refines.stage x) (q ∙ sym same_queue) k
 
 -- a call that isn't one of these leaves a driver at rest
@@ -258,5 +258,5 @@ keeps-nothing _ a b e = absurd cc
 
 -- what is shown of a record's shape holds of the record
 pub of-shape : (side : Side) (log : Log) (collected : ℕ) (d : DriverValue) (stage : ℕ → Stage) (new : DriverValue) (call shape : Record) → call ≡ shape
-    → (MayBeCalled side log (record_of shape) → TakenIn side log (Called (record_of shape)) new collected) → MayBeCalled side log (record_of call) → TakenIn side log (Called (record_of call)) new collected
-of-shape side log collected d stage new call shape e g = subst (λ (x : Record). MayBeCalled side log (record_of x) → TakenIn side log (Called (record_of x)) new collected) (sym e) g
+    → (MayBeCalled side log (record_of shape) → EntryNoted side log (Called (record_of shape)) new collected) → MayBeCalled side log (record_of call) → EntryNoted side log (Called (record_of call)) new collected
+of-shape side log collected d stage new call shape e g = subst (λ (x : Record). MayBeCalled side log (record_of x) → EntryNoted side log (Called (record_of x)) new collected) (sym e) g

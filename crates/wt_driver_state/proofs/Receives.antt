@@ -7,7 +7,7 @@ use Rattle.wt_driver_state.proofs.StageScans.{verdict-found, verdict_in}
 use Rattle.wt_driver_state.specs.Moving.{CanGiveUp}
 use Rattle.wt_scan.specs.Scanning.{SlotsReceive}
 use Rattle.wt_driver_state.specs.Stages.{is_there}
-use Rattle.wt_driver_spec.proofs.Following.{before_scan, sound, taken-in}
+use Rattle.wt_driver_spec.proofs.Following.{before_scan, entry-noted, sound}
 use Rattle.wt_driver_spec.proofs.StreamIds.{bi-low, uni-low}
 use Rattle.wt_driver_spec.specs.DriverState.{DriverState, Held, Slot, slot_by, slots, state_of}
 use Rattle.wt_driver_spec.specs.Moment.{Fits, MayFollow, has_local_kind, names_session}
@@ -48,7 +48,7 @@ module _ (side : Side) (log : Log) where
 -- each stream that has a slot as a scan begins
 pub entry-receives : (side : Side) (log : Log) (m : Entry) → MayFollow side log m → Fits side log → CanGiveUp side (m ∷ log) (after_entry (transport_view side log) m (state_of side log))
 unfolding state_of
-entry-receives side log m may fits = subst (λ (s : DriverState). CanGiveUp side (m ∷ log) s) (taken-in side log m may (sound side log fits)) before
+entry-receives side log m may fits = subst (λ (s : DriverState). CanGiveUp side (m ∷ log) s) (entry-noted side log m may (sound side log fits)) before
   where
     before : CanGiveUp side (m ∷ log) (before_scan side log m)
     before = record {

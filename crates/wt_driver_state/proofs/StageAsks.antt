@@ -13,7 +13,7 @@ use Rattle.wt_dispatch.specs.declared.slot.Half.TheVariants.{Bi, Uni}
 use Rattle.wt_driver_state.proofs.StageTables.{is-own, session-is, use-session}
 use Rattle.wt_driver_spec.proofs.Bounded.{log-bounded, takes-bounded}
 use Rattle.wt_driver_spec.proofs.DistinctSlots.{state-distinct}
-use Rattle.wt_driver_spec.proofs.Following.{before_scan, sound, taken-in, untouched-entry}
+use Rattle.wt_driver_spec.proofs.Following.{before_scan, entry-noted, sound, untouched-entry}
 use Rattle.wt_driver_spec.proofs.ScanSlots.{Untouched, scan-same, slots-same}
 use Rattle.wt_driver_spec.proofs.StreamIds.{apart-ids}
 use Rattle.wt_driver_spec.specs.Bounds.{Bounded, HasDistinctSlots}
@@ -124,7 +124,7 @@ pub scan-asked : (side : Side) (log : Log) (m : Entry) (stage : ℕ → Stage) �
     → TableFits side (call_use side (m ∷ log)) (stream_table side log) stage → ScanAsks (transport_view side (m ∷ log)) (begin_scan (after_entry (transport_view side log) m (state_of side log))) stage
 unfolding state_of stream_table
 scan-asked side log m stage may can fits uses at_moment f =
-    let same = taken-in side log m may (sound side log fits) in
+    let same = entry-noted side log m may (sound side log fits) in
     let bounded : Bounded (after_entry (transport_view side log) m (state_of side log)) = takes-bounded (transport_view side log) m (state_of side log) (log-bounded side log fits) in
     subst (λ (x : DriverState). ScanAsks (transport_view side (m ∷ log)) (begin_scan x) stage) same
     (asked-where (is_moment m && is_open (m ∷ log)) side log m stage at_moment (untouched-entry side log m may (sound side log fits).untouched)

@@ -8,7 +8,7 @@ use Rattle.wt_driver_state.proofs.StageTables.{is-own, session-is, use-session}
 use Rattle.wt_driver_state.specs.Stages.{StageSays, StagesFit, TableFits, bi_stages, check_stages, entry_stages, moment_stages, scanned_stages, call_use, uni_stages}
 use Rattle.wt_driver_spec.specs.Uses.{CallUse, ForRequest, MayUseBy, OfLocalBi, OfLocalUni, OfPeerBi, OfPeerUni, StreamRole, no_use, Uses, role_of, session_at, classified_of}
 use Rattle.wt_dispatch.specs.declared.slot.Half.TheVariants.{Bi, Uni}
-use Rattle.wt_driver_spec.proofs.Following.{Sound, before_scan, open-more, sound, taken-in, untouched-entry}
+use Rattle.wt_driver_spec.proofs.Following.{Sound, before_scan, entry-noted, open-more, sound, untouched-entry}
 use Rattle.wt_driver_spec.proofs.ScanSlots.{Untouched, scan-later, scan-same, scan-slots, slots-same, untouched-later}
 use Rattle.wt_driver_spec.proofs.StreamIds.{apart-ids, bi-low, uni-low}
 use Rattle.wt_driver_spec.specs.Claims.{IsOnce}
@@ -125,7 +125,7 @@ pub same-stages : (side : Side) (log : Log) (m : Entry) (stage : ℕ → Stage) 
     → apply_if (is_moment m && is_open (m ∷ log)) (scanned_stages (transport_view side (m ∷ log)) (before_scan side log m)) stage
     ≡ apply_if (scans m (after_entry (transport_view side log) m (state_of side log))) (scanned_stages (transport_view side (m ∷ log)) (after_entry (transport_view side log) m (state_of side log))) stage
 unfolding state_of
-same-stages side log m stage may s = λ i. apply_if (is_moment m && open-more m log i) (scanned_stages (transport_view side (m ∷ log)) (taken-in side log m may s i)) stage
+same-stages side log m stage may s = λ i. apply_if (is_moment m && open-more m log i) (scanned_stages (transport_view side (m ∷ log)) (entry-noted side log m may s i)) stage
 
 -- where the stages fit after the entry, they do after its scan
 pub scan-staged : (side : Side) (log : Log) (m : Entry) (stage : ℕ → Stage) → MayFollow side log m → MayUseBy side log m → Fits side log → Uses side log → TableFits side (call_use side (m ∷ log)) (stream_table side log) stage

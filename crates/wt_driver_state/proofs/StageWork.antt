@@ -12,7 +12,7 @@ use Rattle.wt_driver_state.specs.PeerSettings.{KeepsSettings, settings_scanned}
 use Rattle.wt_driver_state.specs.Stages.{StagesFit, TableFits, scanned_stages, call_use}
 use Rattle.wt_driver_spec.specs.Uses.{MayUseBy, Uses}
 use Rattle.wt_driver_state.specs.Tie.{Refines, unreleased_datagrams}
-use Rattle.wt_driver_spec.proofs.Following.{actions-fit, entry-followed, events-with, open-more, scanned-out, sound, taken-in}
+use Rattle.wt_driver_spec.proofs.Following.{actions-fit, entry-followed, entry-noted, events-with, open-more, scanned-out, sound}
 use Rattle.wt_driver_spec.proofs.RestMoments.{flushed-state}
 use Rattle.wt_driver_spec.proofs.Sending.{sent_at_once}
 use Rattle.wt_driver_spec.specs.AtOnce.{state_after_flush}
@@ -85,7 +85,7 @@ module _ (side : Side) (log : Log) (m : Entry) (stage : ℕ → Stage) (may : Ma
   -- so many datagrams are released
   datagrams-are : d.state.datagrams ≡ released_datagrams (calls_of (m ∷ log))
   unfolding state_of
-  datagrams-are = ap (λ (s : DriverState). s.datagrams) (here ∙ sym (taken-in side log m may (sound side log fits)))
+  datagrams-are = ap (λ (s : DriverState). s.datagrams) (here ∙ sym (entry-noted side log m may (sound side log fits)))
 
   -- the datagram that is due waits in front
   pub work-datagram : HasDatagram side (m ∷ log) d

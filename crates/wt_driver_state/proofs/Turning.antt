@@ -9,13 +9,13 @@ use Rattle.wt_driver_state.proofs.Moved.{open-is}
 use Rattle.wt_driver_state.proofs.SettingsKept.{idle-keeps}
 use Rattle.wt_driver_state.proofs.StageMoments.{late-staged}
 use Rattle.wt_driver_state.proofs.StageWork.{datagram-waits}
-use Rattle.wt_driver_state.specs.Arriving.{EventTaken, after_arrival}
+use Rattle.wt_driver_state.specs.Arriving.{EventNoted, after_arrival}
 use Rattle.wt_turn.specs.Turns.{event_of, is_call}
 use Rattle.wt_driver_state.specs.DriverValue.{DriverValue, with_state}
 use Rattle.wt_driver_state.specs.PeerSettings.{KeepsSettings}
 use Rattle.wt_driver_spec.specs.Asking.{SendFacts}
 use Rattle.wt_driver_spec.specs.Uses.{Uses}
-use Rattle.wt_driver_state.specs.Tie.{Follows, TakenIn, unreleased_datagrams, uncollected_since}
+use Rattle.wt_driver_state.specs.Tie.{EntryNoted, Follows, uncollected_since, unreleased_datagrams}
 use Rattle.wt_driver_spec.proofs.Following.{open-more}
 use Rattle.wt_driver_spec.proofs.RestMoments.{late-followed, open-says}
 use Rattle.wt_driver_spec.specs.DriverState.{DriverState, state_of}
@@ -66,10 +66,10 @@ open-after : (side : Side) (log : Log) (m : Entry) (x : InboxState) (stage : ℕ
 open-after side log m x stage uncollected r = open-is side (m ∷ log) uncollected x stage r ∙ open-more m log ∙ ap (λ b. not (ends_by m) && b) (open-says side log)
 
 module _ (side : Side) (log : Log) (collected : ℕ) (d : DriverValue) (f : Follows side d log collected) where
-  -- an event was taken in
-  pub event-taken : (e : Event) (new : DriverValue) → is_open log ≡ true → inboxes.Refines side new.inbox (Reported e ∷ log) f.refines.stage (uncollected_since collected log)
-      → new.state ≡ record (with_arrival (transport_view side log) e d.state) { is_open = new.inbox.transport.is_open } → new.queue ≡ with_datagram e d.queue → new.settings ≡ d.settings → TakenIn side log (Reported e) new collected
-  event-taken e new o r s q k = record {
+  -- an event was noted
+  pub event-noted : (e : Event) (new : DriverValue) → is_open log ≡ true → inboxes.Refines side new.inbox (Reported e ∷ log) f.refines.stage (uncollected_since collected log)
+      → new.state ≡ record (with_arrival (transport_view side log) e d.state) { is_open = new.inbox.transport.is_open } → new.queue ≡ with_datagram e d.queue → new.settings ≡ d.settings → EntryNoted side log (Reported e) new collected
+  event-noted e new o r s q k = record {
     stage = f.refines.stage;
     inbox = r;
     fit = f.refines.staged;
@@ -112,10 +112,10 @@ module _ (side : Side) (log : Log) (collected : ℕ) (d : DriverValue) (f : Foll
       closed : is_open (ReportedLate e ∷ log) ≡ true → ⊥
       closed later = none (sym o ∙ sym (open-more (ReportedLate e) log) ∙ later)
 
-  -- a byte was taken in
-  pub byte-taken : (id byte : ℕ) (new : DriverValue) → is_open log ≡ true → inboxes.Refines side new.inbox (Received id byte ∷ log) f.refines.stage (uncollected_since collected log)
-      → new.state ≡ record d.state { is_open = new.inbox.transport.is_open } → new.queue ≡ d.queue → new.settings ≡ d.settings → TakenIn side log (Received id byte) new collected
-  byte-taken id byte new o r s q k = record {
+  -- a byte was noted
+  pub byte-noted : (id byte : ℕ) (new : DriverValue) → is_open log ≡ true → inboxes.Refines side new.inbox (Received id byte ∷ log) f.refines.stage (uncollected_since collected log)
+      → new.state ≡ record d.state { is_open = new.inbox.transport.is_open } → new.queue ≡ d.queue → new.settings ≡ d.settings → EntryNoted side log (Received id byte) new collected
+  byte-noted id byte new o r s q k = record {
     stage = f.refines.stage;
     inbox = r;
     fit = f.refines.staged;
@@ -215,8 +215,8 @@ after-event-turn side log (turns.Call call) e is = absurd cc
 after-event-turn side log _ e is = ap (λ (x : Event). flush side (event_entry (is_open log) x ∷ log)) (same-some _ e is)
 
 -- an event's moment, by whether the connection is open
-pub event-follows : (side : Side) (log : Log) (collected : ℕ) (turn : Turn) (e : Event) (d new : DriverValue) (r : Result (Unit {0}) OutOfMemory) → event_of turn ≡ Some e → EventTaken side log e d collected
-    → ((m : Entry) → TakenIn side log m d collected → OnOk r (Follows side new (log_and_flush side log m) collected)) → OnOk r (d.state.is_open ≡ false → new ≡ d) → OnOk r (Follows side new (log_after side log turn) collected)
+pub event-follows : (side : Side) (log : Log) (collected : ℕ) (turn : Turn) (e : Event) (d new : DriverValue) (r : Result (Unit {0}) OutOfMemory) → event_of turn ≡ Some e → EventNoted side log e d collected
+    → ((m : Entry) → EntryNoted side log m d collected → OnOk r (Follows side new (log_and_flush side log m) collected)) → OnOk r (d.state.is_open ≡ false → new ≡ d) → OnOk r (Follows side new (log_after side log turn) collected)
 event-follows side log collected turn e d new r is t flushed same = subst (λ (l : Log). OnOk r (Follows side new l collected)) (sym (after-event-turn side log turn e is)) (by (is_open log) refl)
   where
     by : (o : Bool) → is_open log ≡ o → OnOk r (Follows side new (flush side (event_entry o e ∷ log)) collected)
@@ -226,12 +226,12 @@ event-follows side log collected turn e d new r is t flushed same = subst (λ (l
 -- a byte's moment
 pub byte-follows : (side : Side) (log : Log) (collected : ℕ) (d : DriverValue) (f : Follows side d log collected) (id byte : ℕ) (mid new : DriverValue) (r : Result (Unit {0}) OutOfMemory)
     → inboxes.Refines side mid.inbox (log_turn log (turns.Bytes id (byte ∷ []))) f.refines.stage (uncollected_since collected log) → mid.state ≡ record d.state { is_open = mid.inbox.transport.is_open } → mid.queue ≡ d.queue → mid.settings ≡ d.settings
-    → ((m : Entry) → TakenIn side log m mid collected → OnOk r (Follows side new (log_and_flush side log m) collected)) → OnOk r (mid.state.is_open ≡ false → new ≡ mid) → OnOk r (Follows side new (receive side log id (byte ∷ [])) collected)
+    → ((m : Entry) → EntryNoted side log m mid collected → OnOk r (Follows side new (log_and_flush side log m) collected)) → OnOk r (mid.state.is_open ≡ false → new ≡ mid) → OnOk r (Follows side new (receive side log id (byte ∷ [])) collected)
 byte-follows side log collected d f id byte mid new r x s q k flushed same = by (is_open log) refl x
   where
     by : (o : Bool) → is_open log ≡ o → inboxes.Refines side mid.inbox (log_bytes_if o log id (byte ∷ [])) f.refines.stage (uncollected_since collected log)
         → OnOk r (Follows side new (if o then log_and_flush side log (Received id byte) else log) collected)
-    by true o y = flushed (Received id byte) (byte-taken side log collected d f id byte mid o y s q k)
+    by true o y = flushed (Received id byte) (byte-noted side log collected d f id byte mid o y s q k)
     by false o y =
         on_ok_weaker r
         (λ (g : mid.state.is_open ≡ false → new ≡ mid).
@@ -248,11 +248,11 @@ event-turn-log log _ e is = ap (λ (x : Event). event_entry (is_open log) x ∷ 
 -- an event was noted, then recorded
 pub event-noted : (side : Side) (log : Log) (collected : ℕ) (d : DriverValue) (f : Follows side d log collected) (turn : Turn) (e : Event) (mid new : DriverValue) → event_of turn ≡ Some e
     → (is_open log ≡ true → mid ≡ after_arrival (transport_view side log) (event_of turn) d) → (d.state.is_open ≡ false → mid ≡ d)
-    → inboxes.Refines side new.inbox (log_turn log turn) f.refines.stage (uncollected_since collected log) → new.state ≡ record mid.state { is_open = new.inbox.transport.is_open } → new.queue ≡ mid.queue → new.settings ≡ mid.settings → EventTaken side log e new collected
+    → inboxes.Refines side new.inbox (log_turn log turn) f.refines.stage (uncollected_since collected log) → new.state ≡ record mid.state { is_open = new.inbox.transport.is_open } → new.queue ≡ mid.queue → new.settings ≡ mid.settings → EventNoted side log e new collected
 event-noted side log collected d f turn e mid new is here shut r s q k = record {
   count_is = λ o.
       let m : mid ≡ after_arrival (transport_view side log) (Some e) d = here o ∙ ap (λ (x : Option Event). after_arrival (transport_view side log) x d) is in
-      event-taken side log collected d f e new o (entered true o)
+      event-noted side log collected d f e new o (entered true o)
       (s ∙ (λ i. record (m i).state { is_open = new.inbox.transport.is_open }))
       (q ∙ ap (λ (v : DriverValue). v.queue) m) (k ∙ ap (λ (v : DriverValue). v.settings) m);
   late = λ o.

@@ -12,7 +12,7 @@ use Rattle.wt_driver_spec.specs.Asking.{SendFacts}
 use Rattle.wt_driver_state.specs.Moving.{CanGiveUp, HasDatagram, MayScan, Moves}
 use Rattle.wt_driver_state.specs.PeerSettings.{settings_scanned}
 use Rattle.wt_driver_state.specs.Stages.{scanned_stages}
-use Rattle.wt_driver_state.specs.Tie.{Follows, Refines, TakenIn, uncollected_since}
+use Rattle.wt_driver_state.specs.Tie.{EntryNoted, Follows, Refines, uncollected_since}
 use Rattle.wt_driver_spec.specs.Asking.{SendsWhileOpen}
 use Rattle.wt_driver_spec.proofs.Following.{entry-followed, scanned-out, sound}
 use Rattle.wt_driver_spec.proofs.RestMoments.{flushed-state, moment-rests-open, open-says, still-open}
@@ -123,7 +123,7 @@ sends-flush side log m at_moment sends o = by (still-open side log m at_moment o
 
 -- ---- the work
 
-module _ (side : Side) (log : Log) (m : Entry) (collected : ℕ) (d : DriverValue) (in_ : TakenIn side log m d collected) where
+module _ (side : Side) (log : Log) (m : Entry) (collected : ℕ) (d : DriverValue) (in_ : EntryNoted side log m d collected) where
   abbrev u : TransportView
   u = transport_view side (m ∷ log)
 

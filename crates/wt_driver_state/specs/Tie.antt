@@ -45,8 +45,8 @@ pub record Follows (side : Side) (d : DriverValue) (log : Log) (collected : ℕ)
   pub rests : RestsWhileOpen side log
   pub sends : SendsWhileOpen side log
 
--- A driver has taken in a moment's entry, and the moment's work is still to be done.
-pub record TakenIn (side : Side) (log : Log) (m : Entry) (d : DriverValue) (collected : ℕ) : Type 0 where
+-- A driver has noted a moment's entry, and the moment's work is still to be done.
+pub record EntryNoted (side : Side) (log : Log) (m : Entry) (d : DriverValue) (collected : ℕ) : Type 0 where
   pub stage : ℕ → Stage
   pub inbox : inboxes.Refines side d.inbox (m ∷ log) stage (uncollected_since collected (m ∷ log))
   pub fit : TableFits side (call_use side (m ∷ log)) (stream_table side log) stage

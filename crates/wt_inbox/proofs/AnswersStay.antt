@@ -23,7 +23,7 @@ use Rattle.wt_seam.specs.Step.{end_now, unread_now}
 use Rattle.wt_inbox.specs.Quiet.{quiet}
 use Rattle.wt_inbox.specs.KeptReaders.{KeptReader, outcome_after, outcome_now, reading_of}
 use Rattle.wt_inbox.specs.State.{InboxState, SameAt, bi_verdict_now, control_now, is_over_by_bytes, response_now, session_now, uni_verdict_now, with_transport}
-use Rattle.wt_inbox.specs.Moves.{BiPulled, BiRemoved, ControlPulled, PulledIn, ResponsePulled, ResponseRemoved, SameReaders, SessionPulled, SessionRemoved, TakenIn, UniPulled, UniRemoved}
+use Rattle.wt_inbox.specs.Moves.{BiPulled, BiRemoved, ControlPulled, PulledIn, RemovedIn, ResponsePulled, ResponseRemoved, SameReaders, SessionPulled, SessionRemoved, UniPulled, UniRemoved}
 use Rattle.wt_inbox.proofs.QuietLaws.{same_end}
 use Rattle.wt_inbox.proofs.Reaching.{answered, asked-by, asked-read, asked-same}
 
@@ -103,7 +103,7 @@ module _ {S O : Type 0} {start : S} {decide : S → List ℕ → Step S O} {want
   pulled-read : ((s : S) (b : Bool) → final (unfinished Running s b) ≡ false) → final (outcome_now decide start unfinished (kept x) x.transport id) ≡ false → unread_now y.transport id ≡ []
   pulled-read goes-on = asked-read start decide law.steady unfinished final outcome_of law.reaches goes-on (kept x) (kept y) x.transport y.transport id p.pulled (end_now x.transport id)
 
-  module _ {z : InboxState} (q : TakenIn start kept with_kept y z id) where
+  module _ {z : InboxState} (q : RemovedIn start kept with_kept y z id) where
     -- it was let go then: the transport stays, and so do the readers of the other streams
     pub released-rest : z ≡ with_transport (with_kept y (kept z)) y.transport
     released-rest = q.rest ∙ kind.stays y (kept z)

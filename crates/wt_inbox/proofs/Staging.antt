@@ -29,7 +29,7 @@ use Rattle.wt_seam.specs.Step.{unread_now}
 use Rattle.wt_seam.proofs.Refining.{refined_end, refined_unread}
 use Rattle.wt_inbox.specs.KeptReaders.{KeptReader, no_reading, outcome_by, outcome_now, reading_of}
 use Rattle.wt_inbox.specs.State.{InboxState, bi_verdict_now, control_now, response_now, session_now, uni_verdict_now, with_transport}
-use Rattle.wt_inbox.specs.Moves.{BiPulled, BiRemoved, ControlPulled, PulledIn, ResponsePulled, ResponseRemoved, SameReaders, SessionPulled, SessionRemoved, TakenIn, UniPulled, UniRemoved}
+use Rattle.wt_inbox.specs.Moves.{BiPulled, BiRemoved, ControlPulled, PulledIn, RemovedIn, ResponsePulled, ResponseRemoved, SameReaders, SessionPulled, SessionRemoved, UniPulled, UniRemoved}
 use Rattle.wt_inbox.specs.Stage.{Stage, Untouched, UniHeader, BiHeader, ResponseHead, Body, ControlBody, SessionBody, GivenUp, Anywhere, HasNoWalk, HasReached, IsAt, Refines, awaits_bi, awaits_response, awaits_uni, control_offset, session_offset, stage_from, verdict_offset, with_stage}
 use Rattle.wt_inbox.proofs.Offsets.{IsOffset, bi_offset, response_offset_is, uni_offset}
 use Rattle.wt_inbox.proofs.AnswersStay.{IsKind, bi-kind, control-kind, pulled-readers, released-readers, released-rest, response-kind, session-kind, uni-kind}
@@ -169,7 +169,7 @@ module _ {S O : Type 0} {start : S} {decide : S → List ℕ → Step S O} {want
       kept-read = refines-then y refl (pulled-readers law kind p)
 
       -- with it let go
-      kept-released : {z : InboxState} → TakenIn start kept with_kept y z id → (to : Stage) → IsAt z id (contents log id) (position_after r.position id p.pulled.pulls.count id) to → Refines side z log (with_stage stage id to) uncollected
+      kept-released : {z : InboxState} → RemovedIn start kept with_kept y z id → (to : Stage) → IsAt z id (contents log id) (position_after r.position id p.pulled.pulls.count id) to → Refines side z log (with_stage stage id to) uncollected
       kept-released {z} q = refines-then z (ap (λ (w : InboxState). w.transport) (released-rest law kind p q)) (released-readers law kind p q)
 
   -- a reader in front of the walks
@@ -180,7 +180,7 @@ module _ {S O : Type 0} {start : S} {decide : S → List ℕ → Step S O} {want
     header-then = (reached-then 0 h.0 p, subst (λ (w : InboxState). HasNoWalk w id) (sym p.rest) (header.walks x (kept y) y.transport id h.1))
 
     -- it was let go then: its stream stands where its outcome tells
-    body-then : {z : InboxState} → TakenIn start kept with_kept y z id → (from_offset : Option ℕ) → offset (outcome_of (contents log id) (end_of (events_of log) id)) ≡ from_offset
+    body-then : {z : InboxState} → RemovedIn start kept with_kept y z id → (from_offset : Option ℕ) → offset (outcome_of (contents log id) (end_of (events_of log) id)) ≡ from_offset
         → IsAt z id (contents log id) (position_after r.position id p.pulled.pulls.count id) (stage_from from_offset)
     body-then q None e = tt
     body-then {z} q (Some from_offset) e = (
@@ -190,7 +190,7 @@ module _ {S O : Type 0} {start : S} {decide : S → List ℕ → Step S O} {want
       subst (λ (w : InboxState). HasNoWalk w id) (sym (released-rest law kind p q)) (header.walks y (kept z) y.transport id header-then.1),
     )
 
-    header-released : {z : InboxState} → TakenIn start kept with_kept y z id → Refines side z log (with_stage stage id (stage_from (offset (outcome_of (contents log id) (end_of (events_of log) id))))) uncollected
+    header-released : {z : InboxState} → RemovedIn start kept with_kept y z id → Refines side z log (with_stage stage id (stage_from (offset (outcome_of (contents log id) (end_of (events_of log) id))))) uncollected
     header-released q = kept-released 0 h.0 p q (stage_from (offset (outcome_of (contents log id) (end_of (events_of log) id)))) (body-then q _ refl)
 
 -- ---- what an inbox says that refines a log, and the log that it refines once a reader read on

@@ -26,7 +26,7 @@ pub record PulledIn {S O : Type 0} (start : S) (decide : S → List ℕ → Step
   pub rest : y ≡ with_transport (with_kept x (kept y)) y.transport
 
 -- the reader of a stream among those of one kind was let go, and nothing else changed
-pub record TakenIn {S O : Type 0} (start : S) (kept : InboxState → List (KeptReader S O)) (with_kept : InboxState → List (KeptReader S O) → InboxState) (x y : InboxState) (id : ℕ) : Type 0 where
+pub record RemovedIn {S O : Type 0} (start : S) (kept : InboxState → List (KeptReader S O)) (with_kept : InboxState → List (KeptReader S O) → InboxState) (x y : InboxState) (id : ℕ) : Type 0 where
   pub others : (k : ℕ) → (id == k) ≡ false → reading_of start (kept y) k ≡ reading_of start (kept x) k
   pub gone : is_kept (kept y) id ≡ false
   pub count : length (kept y) ≡ (if is_kept (kept x) id then length (kept x) - 1 else length (kept x))
@@ -38,7 +38,7 @@ UniPulled x y id = PulledIn tt uni_decides uni_unfinished is_final uni_verdict_o
 
 -- the reader of the header of a unidirectional stream was let go
 abbrev pub UniRemoved : InboxState → InboxState → ℕ → Type 0
-UniRemoved x y id = TakenIn tt (λ (x : InboxState). x.unis) (λ (x : InboxState) kept. record x { unis = kept }) x y id
+UniRemoved x y id = RemovedIn tt (λ (x : InboxState). x.unis) (λ (x : InboxState) kept. record x { unis = kept }) x y id
 
 -- the reader of the header of a bidirectional stream read on
 abbrev pub BiPulled : InboxState → InboxState → ℕ → Type 0
@@ -46,7 +46,7 @@ BiPulled x y id = PulledIn 0 bi_decides bi_unfinished is_final bi_verdict_of (λ
 
 -- the reader of the header of a bidirectional stream was let go
 abbrev pub BiRemoved : InboxState → InboxState → ℕ → Type 0
-BiRemoved x y id = TakenIn 0 (λ (x : InboxState). x.bis) (λ (x : InboxState) kept. record x { bis = kept }) x y id
+BiRemoved x y id = RemovedIn 0 (λ (x : InboxState). x.bis) (λ (x : InboxState) kept. record x { bis = kept }) x y id
 
 -- the reader of a response read on
 abbrev pub ResponsePulled : InboxState → InboxState → ℕ → Type 0
@@ -54,7 +54,7 @@ ResponsePulled x y id = PulledIn 0 response_decides response_unfinished is_respo
 
 -- the reader of a response was let go
 abbrev pub ResponseRemoved : InboxState → InboxState → ℕ → Type 0
-ResponseRemoved x y id = TakenIn 0 (λ (x : InboxState). x.responses) (λ (x : InboxState) kept. record x { responses = kept }) x y id
+ResponseRemoved x y id = RemovedIn 0 (λ (x : InboxState). x.responses) (λ (x : InboxState) kept. record x { responses = kept }) x y id
 
 -- the reader of the control stream read on
 abbrev pub ControlPulled : InboxState → InboxState → ℕ → Type 0
@@ -66,4 +66,4 @@ SessionPulled x y id = PulledIn tt session_decides session_unfinished is_over se
 
 -- the reader of a session's stream was let go
 abbrev pub SessionRemoved : InboxState → InboxState → ℕ → Type 0
-SessionRemoved x y id = TakenIn tt (λ (x : InboxState). x.sessions) (λ (x : InboxState) kept. record x { sessions = kept }) x y id
+SessionRemoved x y id = RemovedIn tt (λ (x : InboxState). x.sessions) (λ (x : InboxState) kept. record x { sessions = kept }) x y id

@@ -231,8 +231,8 @@ module _ (side : Side) (t : TransportState) (log : Log) (position : ℕ → Read
   close_refines code reason = refines-after (λ u. after_close u code reason) (with_actions (if_open log (actions.Close code reason)) log) position r.pieces (newest_first (if_open log (actions.Close code reason)) uncollected)
       (close-then side log position r.pieces uncollected r.facts code reason) (close-facts side log position r.pieces uncollected r.facts code reason) (held-by _ (with-contents (if_open log (actions.Close code reason))))
 
-  pub taken_refines : Refines side (record t { actions = [] }) log position []
-  taken_refines = refines-after (λ u. record u { actions = [] }) log position r.pieces [] refl r.facts r.holds
+  pub collected_refines : Refines side (record t { actions = [] }) log position []
+  collected_refines = refines-after (λ u. record u { actions = [] }) log position r.pieces [] refl r.facts r.holds
 
   pub consume_refines : (id count : ℕ) → count ≤ length (unread_now t id) → Refines side (after_consume t id count) log (position_after position id count) uncollected
   consume_refines id count l =

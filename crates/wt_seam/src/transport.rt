@@ -302,7 +302,7 @@ impl Transport {
     }
 
     /// The actions since the last such call, in the order in which they go out.
-    #[tactic(auto, using(crate::proofs::Refining::taken_refines, crate::proofs::Refining::refined_actions))]
+    #[tactic(auto, using(crate::proofs::Refining::collected_refines, crate::proofs::Refining::refined_actions))]
     pub fn take_actions(&mut self) -> Actions
         ensures actions { result ≡ self.old.actions }
         ensures state { self.new ≡ record self.old { actions = [] } }

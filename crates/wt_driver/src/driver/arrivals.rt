@@ -1,7 +1,7 @@
 //! Turns of the transport.
 ghost use Rattle.std.specs.Prelude.{◌≡◌, ◌*◌, ◌+◌, ◌++◌, ◌∷◌, [], IfOk, IsTrue, List, OnOk, Some, false, true, ℕ};
 ghost use Rattle.wt_driver_state.specs.OfLog.{OfEachLog, Tells};
-ghost use Rattle.wt_driver_state.specs.Arriving.{EventTaken, after_arrival};
+ghost use Rattle.wt_driver_state.specs.Arriving.{EventNoted, after_arrival};
 ghost use Rattle.wt_turn.specs.Turns.{event_of, is_call};
 ghost use Rattle.wt_driver_state.specs.Tie.{Follows};
 ghost use Rattle.wt_inbox.specs.Stage.{Refines, Stage};
@@ -136,7 +136,7 @@ impl Driver {
     fn note_turn(&mut self, turn: &Turn) -> Result<(), OutOfMemory>
         requires { IsTrue (fits_now self.old.inbox.transport turn.now) }
         ensures log { (side : Side) (log : Log) (collected : ℕ) (e : Event) → Follows side self.old log collected → event_of turn.now ≡ Some e
-            → OnOk result (EventTaken side log e self.new collected) }
+            → OnOk result (EventNoted side log e self.new collected) }
         ensures has_given { OnOk result (self.new.has_given_settings ≡ self.old.has_given_settings) }
     {
         self.note_arrival_while_open(turn)?;

@@ -6,7 +6,7 @@ ghost use Rattle.wt_seam_spec.specs.Acting.{MayAct};
 ghost use Rattle.wt_turn.specs.Records.{record_of};
 ghost use Rattle.wt_driver_state.specs.OfLog.{FollowsIfOk, OfEachLog, Tells};
 ghost use Rattle.wt_driver_state.specs.Calling.{leaves_at_rest};
-ghost use Rattle.wt_driver_state.specs.Tie.{Follows, TakenIn, uncollected_since};
+ghost use Rattle.wt_driver_state.specs.Tie.{EntryNoted, Follows, uncollected_since};
 ghost use Rattle.wt_inbox.specs.Stage.{Body, Refines, ResponseHead, Stage, awaits_response, body_offset, with_stage};
 ghost use Rattle.wt_proto.specs.ResponseWalk.{response_offset, response_walk_of};
 ghost use Rattle.wt_seam_spec.specs.Reports.{end_of};
@@ -124,7 +124,7 @@ impl Driver {
     /// Takes in what a call did.
     fn note_call(&mut self, call: &Record) -> Result<(), OutOfMemory>
         ensures log { OfEachLog self.old (λ side log collected. MayBeCalled side log (record_of call.now)
-            → OnOk result (TakenIn side log (Called (record_of call.now)) self.new collected)) }
+            → OnOk result (EntryNoted side log (Called (record_of call.now)) self.new collected)) }
         ensures has_given { OnOk result (self.new.has_given_settings ≡ self.old.has_given_settings) }
     {
         match call {
@@ -145,7 +145,7 @@ impl Driver {
     /// kept here.
     fn note_reading(&mut self, call: &Record)
         ensures log { OfEachLog self.old (λ side log collected. MayBeCalled side log (record_of call.now)
-            → leaves_at_rest (record_of call.now) ≡ true → TakenIn side log (Called (record_of call.now)) self.new collected) }
+            → leaves_at_rest (record_of call.now) ≡ true → EntryNoted side log (Called (record_of call.now)) self.new collected) }
         ensures has_given { self.new.has_given_settings ≡ self.old.has_given_settings }
     {
         match call {

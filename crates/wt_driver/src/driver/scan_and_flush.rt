@@ -7,7 +7,7 @@ ghost use Rattle.std.specs.Option.{option_or};
 ghost use Rattle.wt_driver_state.specs.PeerSettings.{settings_checked, settings_noted, settings_read, settings_scanned};
 ghost use Rattle.wt_scan.specs.Scanning.{AllAwait, SlotsReceive};
 ghost use Rattle.wt_driver_state.specs.Stages.{bi_stages, check_stages, control_stages, datagram_checked, scanned_stages, session_stage, session_stages, uni_stages, unless_ended_stage};
-ghost use Rattle.wt_driver_state.specs.Tie.{Follows, TakenIn};
+ghost use Rattle.wt_driver_state.specs.Tie.{EntryNoted, Follows};
 ghost use Rattle.wt_dispatch.specs.declared.slot.Half.TheVariants as halves;
 ghost use Rattle.wt_driver_spec.specs.Bounds.{AreDistinct, IsBounded};
 ghost use Rattle.wt_driver_spec.specs.Step.{begin_scan, run_checks, scan_bi_slots, scan_state, scan_uni_slots};
@@ -381,7 +381,7 @@ impl Driver {
 
     /// The work of a moment, as long as the connection is open: the scan, and what goes out then.
     pub(super) fn scan_and_flush(&mut self) -> Result<(), OutOfMemory>
-        ensures log { (side : Side) (log : Log) (m : Entry) (collected : ℕ) → TakenIn side log m self.old collected
+        ensures log { (side : Side) (log : Log) (m : Entry) (collected : ℕ) → EntryNoted side log m self.old collected
             → OnOk result (Follows side self.new (log_and_flush side log m) collected) }
         ensures closed { OnOk result (self.old.state.is_open ≡ false → self.new ≡ self.old) }
         ensures has_given { OnOk result (self.new.has_given_settings ≡ self.old.has_given_settings) }
@@ -397,7 +397,7 @@ impl Driver {
     /// forgotten.
     pub(super) fn stay_at_rest(&mut self)
         ensures log { (side : Side) (log : Log) (call : CallRecord) (collected : ℕ) → leaves_at_rest call ≡ true
-            → TakenIn side log (Called call) self.old collected
+            → EntryNoted side log (Called call) self.old collected
             → Follows side self.new (log_and_flush side log (Called call)) collected }
         ensures has_given { self.new.has_given_settings ≡ self.old.has_given_settings }
     {

@@ -47,7 +47,7 @@ fn plays_row(rt: &impl Abort, alloc: Global, transport: &mut Transport, row: &st
 /// The line of the answer. The word `actions` takes what is to go out.
 fn line_of(rt: &impl Abort, alloc: Global, transport: &mut Transport, turn: &str) -> Text {
     if turn == "actions" {
-        return printed(rt, alloc, Reply::Done, taken_actions(transport));
+        return printed(rt, alloc, Reply::Done, collected_actions(transport));
     }
     match turn_of(rt, alloc, turn) {
         Turn::Call(call) => {
@@ -55,13 +55,13 @@ fn line_of(rt: &impl Abort, alloc: Global, transport: &mut Transport, turn: &str
             printed(rt, alloc, reply, Actions::new(alloc))
         }
         event => {
-            let line = taken_line(rt, transport, &event);
+            let line = line_of_event(rt, transport, &event);
             Text::from_text(alloc, line).expect(rt, "no memory")
         }
     }
 }
 
-fn taken_actions(transport: &mut Transport) -> Actions {
+fn collected_actions(transport: &mut Transport) -> Actions {
     transport.take_actions()
 }
 
@@ -75,7 +75,7 @@ fn printed(rt: &impl Abort, alloc: Global, reply: Reply, actions: Actions) -> Te
 }
 
 /// Takes an event where it fits.
-fn taken_line(rt: &impl Abort, transport: &mut Transport, event: &Turn) -> &'static str {
+fn line_of_event(rt: &impl Abort, transport: &mut Transport, event: &Turn) -> &'static str {
     if !transport.fits(event) {
         return "unlawful";
     }

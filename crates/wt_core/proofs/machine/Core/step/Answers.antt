@@ -1,5 +1,5 @@
 use Rattle.std.proofs.Common.{length, subst, sym, ◌∙◌}
-use Rattle.wt_core.proofs.Refining.{answer_is, reached_after, taken_refines}
+use Rattle.wt_core.proofs.Refining.{answer_is, collected_refines, reached_after}
 use Rattle.wt_core.proofs.machine.Core.step.Goals as goal
 use Rattle.wt_core.specs.CoreState.{CoreState}
 use Rattle.wt_driver_state.specs.Tie.{Follows}
@@ -18,5 +18,5 @@ returns-clause-state c = λ log r l.
     let side = c.args.self.now.side in
     let after = log_after side log c.args.turn.now in
     let follows = subst (λ (x : CoreState). Follows side x.driver after (length (actions_of log))) (sym c.self.view_is) (c.in_ok-reply.ensures.driver log r l) in
-    taken_refines _ _ side _ after c.self.view_is (c.reply.ensures.failed ∙ r.works) c.reply.ensures.side (c.take_actions-actions.ensures.log side after (length (actions_of log)) follows)
+    collected_refines _ _ side _ after c.self.view_is (c.reply.ensures.failed ∙ r.works) c.reply.ensures.side (c.take_actions-actions.ensures.log side after (length (actions_of log)) follows)
     (c.in_ok-reply.ensures.session log r l) (reached_after side log c.args.turn.now r.reached l)

@@ -9,7 +9,7 @@ use Rattle.wt_driver.proofs.driver.Driver.take_bytes.Given as goal
 
 abbrev pub invariant-loop-index : goal.invariant-loop-index
 invariant-loop-index l = record {
-  taken_in : (side : Side) (log : Log) (collected : ℕ) → Follows side l.fn.self log collected → fits side log (turns.Bytes l.id l.bytes) ≡ true
+  noted : (side : Side) (log : Log) (collected : ℕ) → Follows side l.fn.self log collected → fits side log (turns.Bytes l.id l.bytes) ≡ true
       → BytesSoFar side log collected l.id l.bytes l.index l.self;
   has_given : l.self.has_given_settings ≡ l.fn.self.has_given_settings;
 }
