@@ -66,10 +66,10 @@ open-after : (side : Side) (log : Log) (m : Entry) (x : InboxState) (stage : ℕ
 open-after side log m x stage uncollected r = open-is side (m ∷ log) uncollected x stage r ∙ open-more m log ∙ ap (λ b. not (ends_by m) && b) (open-says side log)
 
 module _ (side : Side) (log : Log) (collected : ℕ) (d : DriverValue) (f : Follows side d log collected) where
-  -- an event was noted
-  pub event-noted : (e : Event) (new : DriverValue) → is_open log ≡ true → inboxes.Refines side new.inbox (Reported e ∷ log) f.refines.stage (uncollected_since collected log)
+  -- an event was noted while the connection is open
+  pub open-event-noted : (e : Event) (new : DriverValue) → is_open log ≡ true → inboxes.Refines side new.inbox (Reported e ∷ log) f.refines.stage (uncollected_since collected log)
       → new.state ≡ record (with_arrival (transport_view side log) e d.state) { is_open = new.inbox.transport.is_open } → new.queue ≡ with_datagram e d.queue → new.settings ≡ d.settings → EntryNoted side log (Reported e) new collected
-  event-noted e new o r s q k = record {
+  open-event-noted e new o r s q k = record {
     stage = f.refines.stage;
     inbox = r;
     fit = f.refines.staged;
@@ -252,7 +252,7 @@ pub event-noted : (side : Side) (log : Log) (collected : ℕ) (d : DriverValue) 
 event-noted side log collected d f turn e mid new is here shut r s q k = record {
   count_is = λ o.
       let m : mid ≡ after_arrival (transport_view side log) (Some e) d = here o ∙ ap (λ (x : Option Event). after_arrival (transport_view side log) x d) is in
-      event-noted side log collected d f e new o (entered true o)
+      open-event-noted side log collected d f e new o (entered true o)
       (s ∙ (λ i. record (m i).state { is_open = new.inbox.transport.is_open }))
       (q ∙ ap (λ (v : DriverValue). v.queue) m) (k ∙ ap (λ (v : DriverValue). v.settings) m);
   late = λ o.
