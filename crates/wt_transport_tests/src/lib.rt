@@ -1,4 +1,4 @@
-//! Tests of the transport: its streams, its calls, and the channels beside it. There are tests here and no code.
+//! Tests of the transport: its streams, its calls, the channels beside it, and a driver's inbox. There are tests here and no code.
 #![tactic(auto)]
 
 #[cfg(test)]

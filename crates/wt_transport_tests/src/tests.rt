@@ -1,5 +1,6 @@
 //! What the contracts leave open: that memory suffices where there is enough, and worked cases.
 mod calls;
 mod channel;
+mod inbox;
 mod rows;
 mod transport;

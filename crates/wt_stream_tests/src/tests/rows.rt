@@ -45,7 +45,7 @@ pub fn says(rt: &impl Abort, alloc: Global, value: &impl Debug, text: &str) {
 }
 
 /// The event that a line spells.
-pub fn event(rt: &impl Abort, alloc: Global, line: &str) -> Turn {
+fn event(rt: &impl Abort, alloc: Global, line: &str) -> Turn {
     let read = read_turn(alloc, line.as_bytes()).expect(rt, "no memory");
     read.expect(rt, "no event")
 }

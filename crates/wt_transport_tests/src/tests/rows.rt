@@ -9,11 +9,18 @@ use wt_turn::action::Actions;
 use wt_turn::answer::Answer;
 use wt_turn::reply::Reply;
 use wt_turn::turn::Turn;
+use wt_wire::ids::StreamId;
 use wt_wire::side::Side;
 use wt_wire::text::Text;
+use wt_wire::varint::VarInt;
 
 // Each call of the transport stands in a function of its own: who calls that one knows nothing of the
 // transport's contract, which makes it cheap to prove.
+
+/// The stream with this id.
+pub fn stream(id: u32) -> StreamId {
+    StreamId::new(VarInt::from_u32(id))
+}
 
 /// The transport of a server to which nothing was reported yet.
 pub fn server(alloc: Global) -> Transport {
@@ -65,7 +72,8 @@ fn collected_actions(transport: &mut Transport) -> Actions {
     transport.take_actions()
 }
 
-fn turn_of(rt: &impl Abort, alloc: Global, turn: &str) -> Turn {
+/// The turn that a line spells.
+pub fn turn_of(rt: &impl Abort, alloc: Global, turn: &str) -> Turn {
     let turn = read_turn(alloc, turn.as_bytes()).expect(rt, "no memory");
     turn.expect(rt, "a line of a script")
 }

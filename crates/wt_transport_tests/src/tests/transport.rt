@@ -1,13 +1,8 @@
 //! What the contracts leave open: that memory suffices where there is enough.
-use crate::tests::rows::{plays, repeats, server};
+use crate::tests::rows::{plays, repeats, server, stream};
 use std::process::Abort;
 use wt_seam::transport::Transport;
 use wt_wire::ids::StreamId;
-use wt_wire::varint::VarInt;
-
-fn stream(id: u32) -> StreamId {
-    StreamId::new(VarInt::from_u32(id))
-}
 
 fn send(rt: &impl Abort, transport: &mut Transport, id: StreamId, bytes: &[u8]) -> usize {
     let may_send = transport.may_send(id);

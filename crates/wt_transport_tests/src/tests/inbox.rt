@@ -6,13 +6,19 @@
 //! ```
 //!
 //! Of the peer's unidirectional streams its stream 2 is asked, of the others its stream 0.
-use super::rows::{debugged, event, stream};
+use crate::tests::rows::{stream, turn_of};
 use std::alloc::Global;
+use std::fmt::Debug;
 use std::process::Abort;
 use wt_inbox::inbox::Inbox;
 use wt_proto::response_walk::ResponseWalk;
 use wt_turn::turn::Turn;
 use wt_wire::side::Side;
+
+/// A value as it is debugged.
+fn debugged(rt: &impl Abort, alloc: Global, value: &impl Debug) -> String {
+    format!(in alloc; "{value:?}").expect(rt, "no memory")
+}
 
 fn take(rt: &impl Abort, inbox: &mut Inbox, turn: &Turn) {
     let fits = inbox.fits(turn);
@@ -128,7 +134,7 @@ fn row(rt: &impl Abort, alloc: Global, inbox: &mut Inbox, line: &str) {
             let said = ask(rt, alloc, inbox, question);
             assert_eq!(rt; said.as_str(), answer);
         }
-        None => take(rt, inbox, &event(rt, alloc, line)),
+        None => take(rt, inbox, &turn_of(rt, alloc, line)),
     }
 }
 
