@@ -8,7 +8,7 @@ use Rattle.wt_spec.specs.Connection.{accept_due, accept_first, give_or_pass, is_
 use Rattle.wt_spec.specs.Effect.{log_call}
 use Rattle.wt_spec.specs.StreamTable.{Classified}
 use Rattle.wt_turn.specs.Log.{DatagramPassed, DatagramReceived, Log, Polled, StreamAccepted, StreamPassed, calls_of, events_of}
-use Rattle.wt_reply.specs.declared.reply.Reply.{Reply}
+use Rattle.wt_turn.specs.declared.reply.Reply.{Reply}
 use Rattle.wt_wire.specs.declared.side.Side.{Side}
 
 -- a stream that is passed adds its record

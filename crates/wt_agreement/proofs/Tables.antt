@@ -3,7 +3,7 @@ use Rattle.std.specs.Prelude.{[], ◌∷◌, ◌≡◌, Bool, List, None, Option
 use Rattle.std.proofs.Common.{subst, sym}
 use Rattle.wt_driver_spec.specs.Due.{Due, DueRule, accept_outcome, give_or_pass_due, log_datagrams, log_streams, receive_outcome, take_due, take_next}
 use Rattle.wt_laws.proofs.Steps.{calls-logged}
-use Rattle.wt_table.specs.Table.{KeepsCalls, TableValue}
+use Rattle.wt_plan.specs.Table.{KeepsCalls, TableValue}
 use Rattle.wt_seam_spec.specs.Reports.{datagrams_of}
 use Rattle.wt_seam_spec.specs.Streams.{peer_count}
 use Rattle.wt_agreement.proofs.Serving.{pass-calls}

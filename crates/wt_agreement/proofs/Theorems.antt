@@ -5,7 +5,7 @@ use Rattle.wt_driver_spec.specs.Due.{accept_outcome, receive_outcome}
 use Rattle.wt_laws.proofs.Steps.{calls-logged}
 use Rattle.wt_laws.specs.Reachable.{AfterTurn, IsReachable}
 use Rattle.wt_turn.specs.Turns.{is_call}
-use Rattle.wt_table.specs.Table.{KeepsCalls, TableValue}
+use Rattle.wt_plan.specs.Table.{KeepsCalls, TableValue}
 use Rattle.wt_plan.specs.PlansAgree.{KeepsRequestEnd}
 use Rattle.wt_proto.specs.declared.verdict.Verdict.TheVariants as verdicts
 use Rattle.wt_session_spec.specs.CallFacts.{facts_of}
@@ -23,7 +23,7 @@ use Rattle.wt_agreement.specs.Delivering.{DeliversFirst, delivers_request}
 use Rattle.wt_turn.specs.Log.{CallRecord, Log, Polled, RequestDelivered, StreamAccepted, calls_of}
 use Rattle.wt_turn.specs.declared.action.Action.{Action}
 use Rattle.wt_turn.specs.declared.call.Call.{Call}
-use Rattle.wt_reply.specs.declared.reply.Reply.{Reply}
+use Rattle.wt_turn.specs.declared.reply.Reply.{Reply}
 use Rattle.wt_turn.specs.declared.turn.Turn.{Turn}
 use Rattle.wt_turn.specs.declared.turn.Turn.TheVariants as turns
 use Rattle.wt_wire.specs.HeaderList.{Fields}

@@ -24,8 +24,8 @@ ghost use Rattle.wt_spec.specs.Handshake.{Connecting, handshake_state, queued_re
 ghost use Rattle.wt_turn.specs.Log.{Log, RequestDelivered, calls_of, is_open};
 ghost use Rattle.wt_turn.specs.declared.action.Action.{Action};
 ghost use Rattle.wt_turn.specs.declared.call.Call.{Call};
-ghost use Rattle.wt_reply.specs.declared.reply.Reply.{Reply};
-ghost use Rattle.wt_reply.specs.declared.reply.Reply.TheVariants as replies;
+ghost use Rattle.wt_turn.specs.declared.reply.Reply.{Reply};
+ghost use Rattle.wt_turn.specs.declared.reply.Reply.TheVariants as replies;
 ghost use Rattle.wt_wire.specs.HeaderList.{Fields};
 ghost use Rattle.wt_wire.specs.declared.side.Side.{Side};
 

@@ -4,7 +4,7 @@ ghost use Rattle.std.specs.Prelude.{◌∷◌, ◌≡◌, List, None, Some, fals
 ghost use Rattle.wt_driver_spec.specs.Due.{accept_outcome, receive_outcome};
 ghost use Rattle.wt_laws.specs.Reachable.{IsReachable};
 ghost use Rattle.wt_turn.specs.Turns.{is_call};
-ghost use Rattle.wt_table.specs.Table.{KeepsCalls, TableValue};
+ghost use Rattle.wt_plan.specs.Table.{KeepsCalls, TableValue};
 ghost use Rattle.wt_plan.specs.PlansAgree.{KeepsRequestEnd};
 ghost use Rattle.wt_proto.specs.declared.verdict.Verdict.TheVariants as verdicts;
 ghost use Rattle.wt_session_spec.specs.CallFacts.{facts_of};
@@ -19,7 +19,7 @@ ghost use Rattle.wt_agreement.specs.Delivering.{DeliversFirst, delivers_request}
 ghost use Rattle.wt_turn.specs.Log.{CallRecord, Log, Polled, RequestDelivered, StreamAccepted, calls_of};
 ghost use Rattle.wt_turn.specs.declared.action.Action.{Action};
 ghost use Rattle.wt_turn.specs.declared.call.Call.{Call};
-ghost use Rattle.wt_reply.specs.declared.reply.Reply.{Reply};
+ghost use Rattle.wt_turn.specs.declared.reply.Reply.{Reply};
 ghost use Rattle.wt_turn.specs.declared.turn.Turn.{Turn};
 ghost use Rattle.wt_turn.specs.declared.turn.Turn.TheVariants as turns;
 ghost use Rattle.wt_wire.specs.HeaderList.{Fields};

@@ -1,7 +1,7 @@
 -- What a session keeps once a call is answered.
 use Rattle.std.specs.Prelude.{◌≡◌, false, ℕ}
 use Rattle.std.proofs.Common.{ap, subst, sym}
-use Rattle.wt_table.specs.Table.{KeepsCalls, TableValue}
+use Rattle.wt_plan.specs.Table.{KeepsCalls, TableValue}
 use Rattle.wt_plan.specs.PlansAgree.{KeepsRequestEnd}
 use Rattle.wt_call_answers.specs.Keeping.{Keeps}
 use Rattle.wt_spec.specs.Answers.{is_first}

@@ -12,12 +12,12 @@ use Rattle.wt_plan.proofs.PlansSame.{plan_same, sending_kept, sending_there}
 use Rattle.wt_plan.specs.DriverAnswers.{answers_now}
 use Rattle.wt_plan.specs.FactsNow.{DriverAnswers, facts_now}
 use Rattle.wt_plan.specs.Planned.{defined_plan}
-use Rattle.wt_table.specs.Table.{KeepsCalls, TableValue}
+use Rattle.wt_plan.specs.Table.{KeepsCalls, TableValue}
 use Rattle.wt_plan.specs.PlansAgree.{KeepsRequestEnd, TellsFacts, session_of_table}
 use Rattle.wt_plan.specs.declared.plan.Plan as code
 use Rattle.wt_proto.specs.ResponseWalk.{response_walk_of}
 use Rattle.wt_proto.specs.declared.response_walk.ResponseWalk.{ResponseWalk}
-use Rattle.wt_reached.proofs.Theorems.{record_facts_theorem}
+use Rattle.wt_laws.proofs.ReachTheorems.{record_facts_theorem}
 use Rattle.wt_seam.specs.State.{TransportState}
 use Rattle.wt_seam_spec.specs.Reports.{end_of}
 use Rattle.wt_seam_spec.specs.Streams.{contents, local_bi}
@@ -25,7 +25,7 @@ use Rattle.wt_calls.proofs.SessionStreams.{established_on, queued_is_request, re
 use Rattle.wt_call_plans.specs.StreamsThere.{IsSessionStream, OnSessionStream, SendingThere}
 use Rattle.wt_call_plans.specs.MayPlan.{ConnectsAs, HandshakeFits, MayAnswer, MayPlan}
 use Rattle.wt_call_answers.specs.Walking.{KnowsResponse, is_connecting}
-use Rattle.wt_session_acts.specs.RecordFacts.{Connects}
+use Rattle.wt_session_spec.specs.RecordFacts.{Connects}
 use Rattle.wt_session_spec.specs.CallFacts.{facts_of}
 use Rattle.wt_session_spec.specs.Plan.{Plan}
 use Rattle.wt_session_spec.specs.Plans.{plan_of}

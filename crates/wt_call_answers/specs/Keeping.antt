@@ -1,6 +1,6 @@
 -- What a session keeps, and of which logs.
 use Rattle.std.specs.Prelude.{[], ◌≡◌, Bool}
-use Rattle.wt_table.specs.Table.{KeepsCalls, TableValue}
+use Rattle.wt_plan.specs.Table.{KeepsCalls, TableValue}
 use Rattle.wt_plan.specs.PlansAgree.{KeepsRequestEnd, session_of_table}
 use Rattle.wt_session_spec.specs.CallFacts.{facts_of}
 use Rattle.wt_session_spec.specs.Plans.{may_call_now}

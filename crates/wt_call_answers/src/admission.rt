@@ -1,13 +1,13 @@
 //! Which call may come, by what is kept.
 ghost use Rattle.std.specs.Prelude.{◌≡◌};
-ghost use Rattle.wt_table.specs.Table.{handshake_as};
+ghost use Rattle.wt_plan.specs.Table.{handshake_as};
 ghost use Rattle.wt_plan.specs.PlansAgree.{session_of_table};
 ghost use Rattle.wt_session_spec.specs.CallFacts.{CallFacts};
 ghost use Rattle.wt_session_spec.specs.Plans.{may_call_now, may_respond_now};
 ghost use Rattle.wt_spec.specs.Answers.{is_client};
 ghost use Rattle.wt_spec.specs.Handshake.{awaits_answer, awaits_request, is_continuable};
 
-use wt_table::session_table::{Handshake, SessionTable};
+use wt_plan::session_table::{Handshake, SessionTable};
 use wt_turn::call::Call;
 use wt_wire::side::Side;
 

@@ -2,7 +2,7 @@
 use Rattle.std.proofs.Common.{◌≡◌, IfOk, Result, true, ℕ}
 use Rattle.wt_plan.specs.FactsNow.{DriverAnswers, facts_now}
 use Rattle.wt_plan.specs.Planned.{defined_plan}
-use Rattle.wt_table.specs.Table.{TableValue}
+use Rattle.wt_plan.specs.Table.{TableValue}
 use Rattle.wt_plan.specs.PlansAgree.{session_of_table}
 use Rattle.wt_plan.specs.declared.plan.Plan as code
 use Rattle.wt_seam.specs.State.{TransportState}

@@ -1,7 +1,7 @@
 -- What lets a call be planned, by what is kept.
 use Rattle.std.specs.Prelude.{[], ◌∷◌, ◌≡◌, List, true, ℕ}
 use Rattle.wt_driver_spec.specs.DriverState.{DriverState, requests_now}
-use Rattle.wt_table.specs.Table.{TableValue}
+use Rattle.wt_plan.specs.Table.{TableValue}
 use Rattle.wt_proto.specs.declared.verdict.Verdict.TheVariants as verdicts
 use Rattle.wt_seam.specs.State.{TransportState}
 use Rattle.wt_call_plans.specs.StreamsThere.{IsSessionStream, OnSessionStream, SendingThere}

@@ -1,6 +1,6 @@
 -- What a session's plans ask of what is kept: the streams that they are about are there.
 use Rattle.std.specs.Prelude.{◌%◌, ◌≡◌, None, Option, Some, true, ℕ}
-use Rattle.wt_table.specs.Table.{TableValue}
+use Rattle.wt_plan.specs.Table.{TableValue}
 use Rattle.wt_plan.specs.PlansAgree.{session_of_table}
 use Rattle.wt_seam.specs.State.{TransportState}
 use Rattle.wt_seam.specs.Step.{can_send_now}

@@ -17,10 +17,10 @@ mod sending;
 use std::alloc::Global;
 use wt_driver::driver::Driver;
 use wt_plan::plan::Plan;
+use wt_plan::session_table::SessionTable;
 use wt_plan::{connect_plan, connection_plans};
 use wt_proto::response_walk::ResponseWalk;
 use wt_seam::Transport;
-use wt_table::session_table::SessionTable;
 use wt_turn::call::Call;
 use wt_wire::error::OutOfMemory;
 

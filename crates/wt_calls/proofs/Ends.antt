@@ -20,7 +20,7 @@ use Rattle.wt_agreement.specs.Delivering.{delivers_request}
 use Rattle.wt_turn.specs.Log.{CallRecord, Log, RequestDelivered}
 use Rattle.wt_turn.specs.declared.action.Action.{Action}
 use Rattle.wt_turn.specs.declared.call.Call.{Call}
-use Rattle.wt_reply.specs.declared.reply.Reply.{Reply}
+use Rattle.wt_turn.specs.declared.reply.Reply.{Reply}
 use Rattle.wt_wire.specs.HeaderList.{Fields}
 use Rattle.wt_wire.specs.declared.side.Side.{Side}
 

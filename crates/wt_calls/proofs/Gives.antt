@@ -7,13 +7,13 @@ use Rattle.wt_driver_spec.proofs.Accepting.{accept-is, receive-is}
 use Rattle.wt_driver_spec.specs.Asking.{MayBeCalled, SparesControl, SparesControlAll}
 use Rattle.wt_driver_spec.specs.Due.{accept_outcome, receive_outcome, reply_or}
 use Rattle.wt_plan.specs.DriverAnswers.{error_now}
-use Rattle.wt_table.specs.Table.{KeepsCalls, TableValue}
+use Rattle.wt_plan.specs.Table.{KeepsCalls, TableValue}
 use Rattle.wt_seam.specs.State.{TransportState}
 use Rattle.wt_seam_spec.specs.Acting.{MayAct, MayActAll}
 use Rattle.wt_seam_spec.specs.Reports.{datagrams_of}
 use Rattle.wt_seam_spec.specs.Streams.{peer_count}
 use Rattle.wt_calls.specs.GivingCalls.{with_given}
-use Rattle.wt_session_acts.specs.Performing.{MaySendAll}
+use Rattle.wt_session_spec.specs.Performing.{MaySendAll}
 use Rattle.wt_spec.specs.Connection.{accept_stream, receive_datagram}
 use Rattle.wt_spec.specs.Driver.{log_and_flush}
 use Rattle.wt_spec.specs.Effect.{Effect, log_call, pending_or_failed}
@@ -21,9 +21,9 @@ use Rattle.wt_agreement.proofs.DriverTheorems.{pending_theorem}
 use Rattle.wt_agreement.proofs.Theorems.{given_theorem, logged_theorem, passed_theorem, received_theorem}
 use Rattle.wt_turn.specs.Log.{CallRecord, Called, Log, Polled, Sent, StreamAccepted, calls_of, events_of, with_actions}
 use Rattle.wt_turn.specs.declared.action.Action.{Action}
-use Rattle.wt_error.specs.declared.connection_error.ConnectionError.{ConnectionError}
-use Rattle.wt_reply.specs.declared.reply.Reply.{Reply}
-use Rattle.wt_reply.specs.declared.reply.Reply.TheVariants as replies
+use Rattle.wt_turn.specs.declared.connection_error.ConnectionError.{ConnectionError}
+use Rattle.wt_turn.specs.declared.reply.Reply.{Reply}
+use Rattle.wt_turn.specs.declared.reply.Reply.TheVariants as replies
 use Rattle.wt_wire.specs.declared.side.Side.{Side}
 
 -- ---- polls

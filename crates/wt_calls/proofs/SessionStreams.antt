@@ -5,8 +5,8 @@ use Rattle.std.proofs.lemmas.Bool.{and_parts, eq-eqb, eqb-true, not-true, or_lef
 use Rattle.std.specs.List.{list_any}
 use Rattle.wt_laws.proofs.SessionLaws.{has_request}
 use Rattle.wt_laws.specs.Reachable.{IsReachable}
-use Rattle.wt_reached.proofs.Handshaking.{Reached, reached-holds}
-use Rattle.wt_reached.proofs.There.{request-bi}
+use Rattle.wt_laws.proofs.Handshaking.{Reached, reached-holds}
+use Rattle.wt_laws.proofs.There.{request-bi}
 use Rattle.wt_seam_spec.specs.Streams.{local_bi, peer_bi}
 use Rattle.wt_call_plans.specs.StreamsThere.{IsSessionStream, OnSessionStream}
 use Rattle.wt_call_plans.specs.MayPlan.{FirstIsRequest}
@@ -22,7 +22,7 @@ use Rattle.wt_spec.specs.StreamTable.{Classified}
 use Rattle.wt_agreement.proofs.Theorems.{call_reached_theorem, first_request_theorem, logged_theorem}
 use Rattle.wt_turn.specs.Log.{CallRecord, Log, RequestDelivered, calls_of}
 use Rattle.wt_turn.specs.declared.call.Call.TheVariants as calls
-use Rattle.wt_reply.specs.declared.reply.Reply.TheVariants as replies
+use Rattle.wt_turn.specs.declared.reply.Reply.TheVariants as replies
 use Rattle.wt_wire.specs.declared.side.Side.{Side}
 use Rattle.wt_wire.specs.declared.side.Side.TheVariants.{Client, Server}
 

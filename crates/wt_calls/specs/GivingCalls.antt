@@ -1,11 +1,11 @@
 -- What calls that give lead to: the records of what was given, and the reply.
 use Rattle.std.specs.Prelude.{◌∷◌, Err, List, None, Ok, Option, Result, Some, ℕ}
 use Rattle.wt_turn.specs.Log.{CallRecord, StreamAccepted}
-use Rattle.wt_error.specs.declared.connection_error.ConnectionError.{ConnectionError}
+use Rattle.wt_turn.specs.declared.connection_error.ConnectionError.{ConnectionError}
 use Rattle.wt_turn.specs.declared.poll.Poll.{Poll}
 use Rattle.wt_turn.specs.declared.poll.Poll.TheVariants.{Pending, Ready}
-use Rattle.wt_reply.specs.declared.reply.Reply.{Reply}
-use Rattle.wt_reply.specs.declared.reply.Reply.TheVariants as replies
+use Rattle.wt_turn.specs.declared.reply.Reply.{Reply}
+use Rattle.wt_turn.specs.declared.reply.Reply.TheVariants as replies
 
 -- the records with that of the stream that was given
 abbrev pub with_given : Option ℕ → List CallRecord → List CallRecord

@@ -8,7 +8,7 @@ ghost use Rattle.wt_driver_spec.specs.Due.{accept_outcome, reply_or};
 ghost use Rattle.wt_plan.specs.Planned.{defined_plan};
 ghost use Rattle.wt_seam_spec.specs.Streams.{peer_bi, peer_uni};
 ghost use Rattle.wt_calls.specs.GivingCalls.{given_in, poll_reply, wait_reply};
-ghost use Rattle.wt_session_acts.specs.Performing.{MayPerform, MaySendAll};
+ghost use Rattle.wt_session_spec.specs.Performing.{MayPerform, MaySendAll};
 ghost use Rattle.wt_session_spec.specs.Plan.{perform};
 ghost use Rattle.wt_session_spec.specs.Plan as session;
 ghost use Rattle.wt_spec.specs.Connection.{accept_stream, receive_datagram};
@@ -16,7 +16,7 @@ ghost use Rattle.wt_spec.specs.Driver.{log_and_flush};
 ghost use Rattle.wt_spec.specs.Effect.{log_call, pending_or_failed};
 ghost use Rattle.wt_turn.specs.Log.{Called, Log, Polled, with_actions};
 ghost use Rattle.wt_turn.specs.Records.{record_of};
-ghost use Rattle.wt_reply.specs.declared.reply.Reply.TheVariants as replies;
+ghost use Rattle.wt_turn.specs.declared.reply.Reply.TheVariants as replies;
 ghost use Rattle.wt_wire.specs.declared.side.Side.{Side};
 
 use std::alloc::Global;

@@ -4,11 +4,14 @@
 //! last line says how many there are and how many differ; the exit status is 0 where none does.
 #![tactic(auto)]
 
+use crate::case::{Case, differing};
+use crate::reading::read_cases;
 use std::io::{Error, ErrorKind};
 use std::process::ExitCode;
 use std::{env, fs, io};
-use wt_case::case::{Case, differing};
-use wt_case::reading::read_cases;
+
+mod case;
+mod reading;
 
 /// Prints the numbers of the cases that differ, counted from 0, and how many there are.
 fn print_differing(rt: &HostRuntime, cases: &[Case]) -> io::Result<bool> {

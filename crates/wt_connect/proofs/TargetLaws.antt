@@ -18,10 +18,10 @@ use Rattle.wt_spec.specs.Handshake.{fail_connect}
 use Rattle.wt_turn.specs.Log.{Log}
 use Rattle.wt_wire.specs.HeaderList.{Fields}
 use Rattle.wt_wire.specs.declared.side.Side.{Side}
-use Rattle.wt_error.specs.declared.connecting_error.ConnectingError.{ConnectingError}
-use Rattle.wt_error.specs.declared.connecting_error.ConnectingError.TheVariants as errors
-use Rattle.wt_error.specs.declared.connecting_error.UrlRefusal.{UrlRefusal}
-use Rattle.wt_error.specs.declared.connecting_error.UrlRefusal.TheVariants.{Parse, Scheme}
+use Rattle.wt_turn.specs.declared.connecting_error.ConnectingError.{ConnectingError}
+use Rattle.wt_turn.specs.declared.connecting_error.ConnectingError.TheVariants as errors
+use Rattle.wt_turn.specs.declared.connecting_error.UrlRefusal.{UrlRefusal}
+use Rattle.wt_turn.specs.declared.connecting_error.UrlRefusal.TheVariants.{Parse, Scheme}
 
 -- ---- the scheme
 

@@ -9,8 +9,8 @@ use Rattle.wt_driver_state.specs.Tie.{Follows}
 use Rattle.wt_driver_spec.specs.Asking.{MayBeCalled}
 use Rattle.wt_laws.specs.Reachable.{IsReachable}
 use Rattle.wt_plan.proofs.Connects.{with_target, without_target}
-use Rattle.wt_reached.proofs.Theorems.{performs_theorem}
-use Rattle.wt_session_acts.specs.Performing.{MayPerform, MaySendAll}
+use Rattle.wt_laws.proofs.ReachTheorems.{performs_theorem}
+use Rattle.wt_session_spec.specs.Performing.{MayPerform, MaySendAll}
 use Rattle.wt_session_spec.proofs.Theorems.{planned_theorem}
 use Rattle.wt_session_spec.specs.CallFacts.{facts_of}
 use Rattle.wt_session_spec.specs.ConnectPlans.{dial_plan}
@@ -25,8 +25,8 @@ use Rattle.wt_agreement.proofs.Theorems.{logged_theorem}
 use Rattle.wt_turn.specs.Log.{ConnectStarted, HandshakeOver, Log, calls_of, with_actions}
 use Rattle.wt_turn.specs.declared.action.Action.TheVariants as actions
 use Rattle.wt_turn.specs.declared.call.Call.TheVariants as calls
-use Rattle.wt_error.specs.declared.connecting_error.ConnectingError.{ConnectingError}
-use Rattle.wt_reply.specs.declared.reply.Reply.TheVariants as replies
+use Rattle.wt_turn.specs.declared.connecting_error.ConnectingError.{ConnectingError}
+use Rattle.wt_turn.specs.declared.reply.Reply.TheVariants as replies
 use Rattle.wt_wire.specs.HeaderList.{Fields}
 use Rattle.wt_wire.specs.declared.lookup.ConnectOutcome.{ConnectOutcome}
 use Rattle.wt_wire.specs.declared.lookup.Lookup.{Lookup}

@@ -18,12 +18,12 @@ use Rattle.wt_plan.specs.declared.plan.Plan as code
 use Rattle.wt_proto.specs.ResponseWalk.{response_walk_of}
 use Rattle.wt_proto.specs.declared.response_walk.ResponseWalk.{ResponseWalk}
 use Rattle.wt_proto.specs.declared.response_walk.ResponseWalk.TheVariants as responses
-use Rattle.wt_reached.proofs.Theorems.{record_facts_theorem}
+use Rattle.wt_laws.proofs.ReachTheorems.{record_facts_theorem}
 use Rattle.wt_seam.specs.State.{TransportState}
 use Rattle.wt_seam.specs.Step.{unread_now}
 use Rattle.wt_seam_spec.specs.Reports.{end_of}
 use Rattle.wt_seam_spec.specs.Streams.{contents, local_bi}
-use Rattle.wt_session_acts.specs.RecordFacts.{Connects}
+use Rattle.wt_session_spec.specs.RecordFacts.{Connects}
 use Rattle.wt_session_spec.proofs.Theorems.{planned_theorem}
 use Rattle.wt_session_spec.specs.CallFacts.{CallFacts, facts_of}
 use Rattle.wt_session_spec.specs.HandshakePlans.{AllOut, Ended, HeadProgress, abandon_plan, actions_of_head, wait_plan, continued_by, continued_connect, failed_connect, left_of, lost_connect, head_progress_of, request_left, request_plan, request_sent, request_unless, response_read}
@@ -40,10 +40,10 @@ use Rattle.wt_turn.specs.Log.{CallRecord, HandshakeOver, Log, Polled, calls_of, 
 use Rattle.wt_turn.specs.declared.action.Action.{Action}
 use Rattle.wt_turn.specs.declared.action.Action.TheVariants as actions
 use Rattle.wt_turn.specs.declared.call.Call.TheVariants as calls
-use Rattle.wt_reply.specs.declared.reply.Reply.{Reply}
-use Rattle.wt_reply.specs.declared.reply.Reply.TheVariants as replies
-use Rattle.wt_error.specs.declared.connecting_error.ConnectingError.TheVariants as failures
-use Rattle.wt_error.specs.declared.connection_error.ConnectionError.{ConnectionError}
+use Rattle.wt_turn.specs.declared.reply.Reply.{Reply}
+use Rattle.wt_turn.specs.declared.reply.Reply.TheVariants as replies
+use Rattle.wt_turn.specs.declared.connecting_error.ConnectingError.TheVariants as failures
+use Rattle.wt_turn.specs.declared.connection_error.ConnectionError.{ConnectionError}
 use Rattle.wt_wire.specs.declared.error.OutOfMemory.{OutOfMemory}
 use Rattle.wt_wire.specs.declared.side.Side.{Side}
 use Rattle.wt_wire.specs.declared.side.Side.TheVariants.{Client}

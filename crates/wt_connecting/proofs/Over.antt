@@ -5,7 +5,7 @@ use Rattle.wt_connection.specs.TypesInLog.{IsEstablished}
 use Rattle.wt_driver_state.specs.DriverValue.{DriverValue}
 use Rattle.wt_driver_state.specs.Tie.{Follows}
 use Rattle.wt_driver_spec.specs.Asking.{MayBeCalled}
-use Rattle.wt_session_acts.proofs.RecordsMay.{over-made}
+use Rattle.wt_session_spec.proofs.RecordsMay.{over-made}
 use Rattle.wt_session_spec.specs.Plan.{Establish, perform}
 use Rattle.wt_spec.specs.Driver.{established_session}
 use Rattle.wt_spec.specs.Effect.{log_call}

@@ -8,7 +8,7 @@ ghost use Rattle.wt_laws.specs.Reachable.{IsReachable};
 ghost use Rattle.wt_plan.specs.Planned.{defined_plan};
 ghost use Rattle.wt_plan.specs.PlansAgree.{driver_facts};
 ghost use Rattle.wt_proto.specs.declared.response_walk.ResponseWalk.{ResponseWalk};
-ghost use Rattle.wt_session_acts.specs.Performing.{MaySendAll};
+ghost use Rattle.wt_session_spec.specs.Performing.{MaySendAll};
 ghost use Rattle.wt_session_spec.specs.CallFacts.{facts_of};
 ghost use Rattle.wt_session_spec.specs.Plans.{plan_of};
 ghost use Rattle.wt_session_spec.specs.SessionState.{session_state};

@@ -4,9 +4,9 @@ use Rattle.std.proofs.Common.{◌∙◌, ap, arith, refl, subst, sym}
 use Rattle.std.proofs.lemmas.Bool.{and_from, and_parts, eq-eqb, eqb-true, not-true, or_left, or_right}
 use Rattle.std.specs.List.{list_any}
 use Rattle.wt_calls.specs.GivingCalls.{poll_reply}
-use Rattle.wt_error.specs.declared.connection_error.ConnectionError.{ConnectionError}
-use Rattle.wt_error.specs.declared.stream_error.StreamOpeningError.{StreamOpeningError}
-use Rattle.wt_error.specs.declared.stream_error.StreamOpeningError.TheVariants as openings
+use Rattle.wt_turn.specs.declared.connection_error.ConnectionError.{ConnectionError}
+use Rattle.wt_turn.specs.declared.stream_error.StreamOpeningError.{StreamOpeningError}
+use Rattle.wt_turn.specs.declared.stream_error.StreamOpeningError.TheVariants as openings
 use Rattle.wt_laws.proofs.Facts.{facts-hold, is_local}
 use Rattle.wt_laws.proofs.HeaderLaws.{Heads}
 use Rattle.wt_laws.proofs.Looks.{from-or}
@@ -18,7 +18,7 @@ use Rattle.wt_laws.specs.RecordCauses.{AtEnd, HeaderStopped, OpeningOver, Record
 use Rattle.wt_laws.specs.Laws.{AcceptedRightly, IsDuring}
 use Rattle.wt_laws.specs.Reachable.{IsReachable}
 use Rattle.wt_laws.specs.ReplyTells.{Logged, NoRecord, OneRecord, TellsOf, ThenPolled, datagram_reported, given_stream, is_quiet, read_piece, request_reported, session_reported}
-use Rattle.wt_reached.proofs.Handshaking.{reached-holds}
+use Rattle.wt_laws.proofs.Handshaking.{reached-holds}
 use Rattle.wt_seam_spec.specs.Outgoing.{bytes_within_credit, may_open, next_id, actions_to_open}
 use Rattle.wt_seam_spec.specs.Joined.{send_of}
 use Rattle.wt_seam_spec.specs.Streams.{local_bi, local_count, local_uni, peer_bi, peer_count, peer_uni, stream_count}
@@ -39,8 +39,8 @@ use Rattle.wt_turn.specs.declared.call.Call.{Call}
 use Rattle.wt_turn.specs.declared.call.Call.TheVariants as calls
 use Rattle.wt_turn.specs.declared.poll.Poll.{Poll}
 use Rattle.wt_turn.specs.declared.poll.Poll.TheVariants.{Pending, Ready}
-use Rattle.wt_reply.specs.declared.reply.Reply.{Reply}
-use Rattle.wt_reply.specs.declared.reply.Reply.TheVariants as replies
+use Rattle.wt_turn.specs.declared.reply.Reply.{Reply}
+use Rattle.wt_turn.specs.declared.reply.Reply.TheVariants as replies
 use Rattle.wt_turn.specs.declared.turn.Turn.{Turn}
 use Rattle.wt_turn.specs.declared.turn.Turn.TheVariants as turns
 use Rattle.wt_wire.specs.Ids.{is_bidirectional}

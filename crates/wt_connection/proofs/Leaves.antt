@@ -6,13 +6,13 @@ use Rattle.std.specs.List.{list_any}
 use Rattle.url.specs.Parser.{parse_url}
 use Rattle.url.specs.Parts.{Parts, host_or_empty}
 use Rattle.url.specs.declared.error.ParseError.{ParseError}
-use Rattle.wt_error.specs.declared.connecting_error.ConnectingError.{ConnectingError}
-use Rattle.wt_error.specs.declared.connecting_error.ConnectingError.TheVariants as connects
-use Rattle.wt_error.specs.declared.connecting_error.UrlRefusal.TheVariants as refusals
-use Rattle.wt_error.specs.declared.connection_error.ConnectionError.{ConnectionError}
-use Rattle.wt_error.specs.declared.stream_error.SendDatagramError.TheVariants as datagrams
-use Rattle.wt_error.specs.declared.stream_error.StreamReadExactError.{StreamReadExactError}
-use Rattle.wt_error.specs.declared.stream_error.StreamReadExactError.TheVariants as exacts
+use Rattle.wt_turn.specs.declared.connecting_error.ConnectingError.{ConnectingError}
+use Rattle.wt_turn.specs.declared.connecting_error.ConnectingError.TheVariants as connects
+use Rattle.wt_turn.specs.declared.connecting_error.UrlRefusal.TheVariants as refusals
+use Rattle.wt_turn.specs.declared.connection_error.ConnectionError.{ConnectionError}
+use Rattle.wt_turn.specs.declared.stream_error.SendDatagramError.TheVariants as datagrams
+use Rattle.wt_turn.specs.declared.stream_error.StreamReadExactError.{StreamReadExactError}
+use Rattle.wt_turn.specs.declared.stream_error.StreamReadExactError.TheVariants as exacts
 use Rattle.wt_laws.proofs.Steps.{calls-logged}
 use Rattle.wt_message.specs.Datagram.{datagram_bytes}
 use Rattle.wt_message.specs.FixedBytes.{response_bytes}
@@ -45,8 +45,8 @@ use Rattle.wt_turn.specs.declared.datagram_fact.DatagramFact.{DatagramFact}
 use Rattle.wt_turn.specs.declared.datagram_fact.DatagramFact.TheVariants as facts
 use Rattle.wt_turn.specs.declared.poll.Poll.{Poll}
 use Rattle.wt_turn.specs.declared.poll.Poll.TheVariants.{Pending, Ready}
-use Rattle.wt_reply.specs.declared.reply.Reply.{Reply}
-use Rattle.wt_reply.specs.declared.reply.Reply.TheVariants as replies
+use Rattle.wt_turn.specs.declared.reply.Reply.{Reply}
+use Rattle.wt_turn.specs.declared.reply.Reply.TheVariants as replies
 use Rattle.wt_wire.specs.Codes.{code_of}
 use Rattle.wt_wire.specs.HeaderList.{Fields}
 use Rattle.wt_wire.specs.declared.addr.Addr.{Addr}

@@ -9,7 +9,7 @@ ghost use Rattle.wt_calls.specs.GivingCalls.{poll_reply};
 ghost use Rattle.wt_spec.specs.Answers.{call_effect};
 ghost use Rattle.wt_turn.specs.Log.{Log};
 ghost use Rattle.wt_turn.specs.declared.call.Call.TheVariants as calls;
-ghost use Rattle.wt_reply.specs.declared.reply.Reply.TheVariants as replies;
+ghost use Rattle.wt_turn.specs.declared.reply.Reply.TheVariants as replies;
 ghost use Rattle.wt_wire.specs.declared.side.Side.{Side};
 
 use crate::datagram::Datagram;

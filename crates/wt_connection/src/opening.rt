@@ -5,7 +5,7 @@ ghost use Rattle.wt_connection.specs.TypesInLog.{Gives, WaitsOn};
 ghost use Rattle.wt_halves.specs.Answering.{HasReceiving, HasSending, LeadsOn, RepliesTo};
 ghost use Rattle.wt_halves.specs.Replies.{IsOneStream, ready_reply};
 ghost use Rattle.wt_turn.specs.declared.call.Call.TheVariants as calls;
-ghost use Rattle.wt_reply.specs.declared.reply.Reply.TheVariants as replies;
+ghost use Rattle.wt_turn.specs.declared.reply.Reply.TheVariants as replies;
 
 use std::alloc::Global;
 use std::marker::Model;

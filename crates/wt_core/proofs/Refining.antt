@@ -14,8 +14,8 @@ use Rattle.wt_call_answers.specs.Keeping.{Keeps}
 use Rattle.wt_turn.specs.Log.{Log, actions_of}
 use Rattle.wt_turn.specs.declared.action.Action.{Action}
 use Rattle.wt_turn.specs.declared.call.Call.{Call}
-use Rattle.wt_reply.specs.declared.reply.Reply.{Reply}
-use Rattle.wt_reply.specs.declared.reply.Reply.TheVariants as replies
+use Rattle.wt_turn.specs.declared.reply.Reply.{Reply}
+use Rattle.wt_turn.specs.declared.reply.Reply.TheVariants as replies
 use Rattle.wt_turn.specs.declared.turn.Turn.{Turn}
 use Rattle.wt_turn.specs.declared.turn.Turn.TheVariants as turns
 use Rattle.wt_wire.specs.declared.side.Side.{Side}

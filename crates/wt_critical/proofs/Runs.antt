@@ -14,7 +14,7 @@ use Rattle.wt_proto.specs.Walk.{Reached, outcome_at, whole_walk}
 use Rattle.wt_proto.proofs.ControlReading.{control_lawful}
 use Rattle.wt_proto.proofs.SessionReading.{session_lawful}
 use Rattle.wt_proto.proofs.ProgressLaws.{walk-progress}
-use Rattle.wt_error.specs.declared.driver_error.DriverError.{DriverError}
+use Rattle.wt_turn.specs.declared.driver_error.DriverError.{DriverError}
 use Rattle.wt_turn.specs.declared.poll.Poll.{Poll}
 use Rattle.wt_seam.specs.State.{TransportState}
 use Rattle.wt_seam.specs.Step.{end_now, unread_now}

@@ -16,12 +16,12 @@ use Rattle.wt_proto.specs.ControlWalk.{control_decides, control_unfinished, cont
 use Rattle.wt_proto.specs.SessionWalk.{session_decides, session_unfinished, session_walk_of}
 use Rattle.wt_proto.specs.WalkProgress.{Reading, read_on}
 use Rattle.wt_proto.specs.Reading.{outcome_in}
-use Rattle.wt_error.specs.declared.driver_error.DriverError.{DriverError}
-use Rattle.wt_error.specs.declared.driver_error.DriverError.TheVariants as errors
+use Rattle.wt_turn.specs.declared.driver_error.DriverError.{DriverError}
+use Rattle.wt_turn.specs.declared.driver_error.DriverError.TheVariants as errors
 use Rattle.wt_turn.specs.declared.poll.Poll.{Poll}
 use Rattle.wt_turn.specs.declared.poll.Poll.TheVariants as polls
-use Rattle.wt_error.specs.declared.proto_error.ProtoWriteError.{ProtoWriteError}
-use Rattle.wt_error.specs.declared.proto_error.ProtoWriteError.TheVariants as write_errors
+use Rattle.wt_turn.specs.declared.proto_error.ProtoWriteError.{ProtoWriteError}
+use Rattle.wt_turn.specs.declared.proto_error.ProtoWriteError.TheVariants as write_errors
 use Rattle.wt_seam.specs.declared.halves.QuicSendStream.{QuicSendStream}
 use Rattle.wt_seam.specs.declared.halves.QuicRecvStream.{QuicRecvStream}
 use Rattle.wt_seam.specs.State.{TransportState}

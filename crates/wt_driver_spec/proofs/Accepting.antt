@@ -19,9 +19,9 @@ use Rattle.wt_spec.specs.Effect.{error_of_ending, log_call, loss_or_local, pendi
 use Rattle.wt_spec.specs.StreamTable.{ByFault, BySession, Classified, Ending, awaits_accept, dispatched_streams, is_webtransport, verdict_of}
 use Rattle.wt_turn.specs.Log.{CallRecord, Called, DatagramPassed, DatagramReceived, Event, Log, Polled, Sent, StreamAccepted, StreamPassed, actions_of, events_of, is_open, with_actions}
 use Rattle.wt_turn.specs.declared.action.Action.{Action}
-use Rattle.wt_reply.specs.declared.reply.Reply.{Reply}
+use Rattle.wt_turn.specs.declared.reply.Reply.{Reply}
 use Rattle.wt_wire.specs.declared.side.Side.{Side}
-use Rattle.wt_reply.specs.declared.reply.Reply.TheVariants as replies
+use Rattle.wt_turn.specs.declared.reply.Reply.TheVariants as replies
 
 -- ---- the definition's calls are of the form
 

@@ -9,9 +9,9 @@ use Rattle.wt_spec.specs.Effect.{driver_error, error_of_ending, pending_or_faile
 use Rattle.wt_spec.specs.Handshake.{queued_requests}
 use Rattle.wt_spec.specs.StreamTable.{ByFault, BySession, Ending}
 use Rattle.wt_turn.specs.Log.{Log, calls_of, is_open}
-use Rattle.wt_error.specs.declared.connection_error.ConnectionError.{ConnectionError}
+use Rattle.wt_turn.specs.declared.connection_error.ConnectionError.{ConnectionError}
 use Rattle.wt_wire.specs.declared.side.Side.{Side}
-use Rattle.wt_reply.specs.declared.reply.Reply.TheVariants as replies
+use Rattle.wt_turn.specs.declared.reply.Reply.TheVariants as replies
 
 module _ (side : Side) (log : Log) where
   -- whether the connection is open

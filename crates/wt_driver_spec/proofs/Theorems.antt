@@ -20,7 +20,7 @@ use Rattle.wt_spec.specs.Driver.{call_view, is_moment, log_and_flush, stream_tab
 use Rattle.wt_spec.specs.Scan.{bi_ids, bi_rule, has, uni_ids, uni_rule}
 use Rattle.wt_spec.specs.StreamTable.{verdict_of}
 use Rattle.wt_turn.specs.Log.{CallRecord, Called, Entry, Log, Received, is_open}
-use Rattle.wt_reply.specs.declared.reply.Reply.{Reply}
+use Rattle.wt_turn.specs.declared.reply.Reply.{Reply}
 use Rattle.wt_wire.specs.declared.side.Side.{Side}
 
 pub moment_theorem : (side : Side) (log : Log) (e : Entry) → MayFollow side log e → Fits side log → MomentFollows side log e

@@ -10,14 +10,14 @@ use Rattle.wt_spec.specs.Driver.{call_view, log_and_flush, stream_table, transpo
 use Rattle.wt_spec.specs.Scan.{bi_ids, has, is_released, uni_ids}
 use Rattle.wt_spec.specs.StreamTable.{Classified, verdict_of}
 use Rattle.wt_turn.specs.Log.{Entry, Log, Received, events_of, with_actions}
-use Rattle.wt_reply.specs.declared.reply.Reply.{Reply}
+use Rattle.wt_turn.specs.declared.reply.Reply.{Reply}
 use Rattle.wt_wire.specs.declared.side.Side.{Side}
 use Rattle.wt_driver_spec.specs.DriverState.{state_of}
 use Rattle.wt_driver_spec.specs.Due.{CallFollowed, accept_outcome, receive_outcome, state_accepted, state_received}
 use Rattle.wt_driver_spec.specs.Moment.{moment_actions, moment_state}
 use Rattle.wt_driver_spec.specs.Rest.{AtRest, RestsWhileOpen, state_at_rest}
 use Rattle.wt_driver_spec.specs.Step.{begin_scan}
-use Rattle.wt_reply.specs.declared.reply.Reply.TheVariants as replies
+use Rattle.wt_turn.specs.declared.reply.Reply.TheVariants as replies
 
 -- one entry more: the state after its moment is the step's, and what goes out is what the step sends
 pub record MomentFollows (side : Side) (log : Log) (e : Entry) : Type 0 where

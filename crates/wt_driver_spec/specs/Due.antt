@@ -10,8 +10,8 @@ use Rattle.wt_spec.specs.Driver.{transport_view}
 use Rattle.wt_spec.specs.StreamTable.{ByFault, BySession, Classified, Ending, TransportView}
 use Rattle.wt_turn.specs.Log.{Called, DatagramPassed, DatagramReceived, Entry, Log, Sent, StreamAccepted, StreamPassed, actions_of, events_of}
 use Rattle.wt_turn.specs.declared.action.Action.{Action}
-use Rattle.wt_error.specs.declared.connection_error.ConnectionError.{ConnectionError}
-use Rattle.wt_reply.specs.declared.reply.Reply.{Reply}
+use Rattle.wt_turn.specs.declared.connection_error.ConnectionError.{ConnectionError}
+use Rattle.wt_turn.specs.declared.reply.Reply.{Reply}
 use Rattle.wt_wire.specs.Codes.{code_of}
 use Rattle.wt_wire.specs.declared.side.Side.{Side}
 use Rattle.wt_driver_spec.specs.DriverState.{DriverState, state_of}
@@ -19,8 +19,8 @@ use Rattle.wt_driver_spec.specs.Moment.{Fits, moment_actions, moment_state}
 use Rattle.wt_driver_spec.specs.Rest.{RestsWhileOpen, state_at_rest}
 use Rattle.wt_driver_spec.specs.Step.{after_entry}
 use Rattle.wt_turn.specs.declared.action.Action.TheVariants as actions
-use Rattle.wt_error.specs.declared.connection_error.ConnectionError.TheVariants as errors
-use Rattle.wt_reply.specs.declared.reply.Reply.TheVariants as replies
+use Rattle.wt_turn.specs.declared.connection_error.ConnectionError.TheVariants as errors
+use Rattle.wt_turn.specs.declared.reply.Reply.TheVariants as replies
 use Rattle.wt_wire.specs.declared.error.ErrorCode.TheVariants as h3
 
 -- ---- the form

@@ -14,7 +14,7 @@ ghost use Rattle.wt_spec.specs.Driver.{is_moment, log_and_flush, stream_table, t
 ghost use Rattle.wt_spec.specs.Scan.{has};
 ghost use Rattle.wt_spec.specs.StreamTable.{verdict_of};
 ghost use Rattle.wt_turn.specs.Log.{CallRecord, Called, Entry, Log, Received, is_open};
-ghost use Rattle.wt_reply.specs.declared.reply.Reply.{Reply};
+ghost use Rattle.wt_turn.specs.declared.reply.Reply.{Reply};
 ghost use Rattle.wt_turn.specs.declared.turn.Turn.{Turn};
 ghost use Rattle.wt_wire.specs.declared.side.Side.{Side};
 

@@ -17,7 +17,7 @@ use Rattle.wt_spec.specs.Connection.{is_for_session, next_datagram, next_due, pa
 use Rattle.wt_spec.specs.Driver.{log_and_flush, released_datagrams, releases_datagram}
 use Rattle.wt_spec.specs.StreamTable.{Classified}
 use Rattle.wt_turn.specs.Log.{CallRecord, Called, DatagramPassed, DatagramReceived, Log, StreamAccepted, calls_of, events_of, is_open}
-use Rattle.wt_error.specs.declared.driver_error.DriverError.{DriverError}
+use Rattle.wt_turn.specs.declared.driver_error.DriverError.{DriverError}
 use Rattle.wt_turn.specs.declared.poll.Poll.{Poll}
 use Rattle.wt_wire.specs.declared.error.OutOfMemory.{OutOfMemory}
 use Rattle.wt_wire.specs.declared.side.Side.{Side}

@@ -7,7 +7,7 @@ use Rattle.wt_driver_state.proofs.StageAnswers.{response-fits}
 use Rattle.wt_driver_state.specs.DriverValue.{DriverValue}
 use Rattle.wt_driver_state.specs.PeerSettings.{KeepsSettings, peer_settings, unless_given}
 use Rattle.wt_driver_state.specs.Results.{due_settings, result_of, settings_or}
-use Rattle.wt_error.specs.declared.driver_error.DriverError.{DriverError}
+use Rattle.wt_turn.specs.declared.driver_error.DriverError.{DriverError}
 use Rattle.wt_message.specs.declared.settings.Settings.{Settings}
 use Rattle.wt_proto.proofs.WalkLaws.{if_ok_same}
 use Rattle.wt_turn.specs.declared.poll.Poll.{Poll}

@@ -17,7 +17,7 @@ use Rattle.wt_driver_spec.proofs.RestMoments.{open-says}
 use Rattle.wt_driver_spec.specs.Asking.{MayBeCalled, SparesControl}
 use Rattle.wt_driver_spec.specs.DriverState.{DriverState, state_of}
 use Rattle.wt_driver_spec.specs.Uses.{queued_at}
-use Rattle.wt_error.specs.declared.driver_error.DriverError.{DriverError}
+use Rattle.wt_turn.specs.declared.driver_error.DriverError.{DriverError}
 use Rattle.wt_inbox.specs.Stage as inboxes
 use Rattle.wt_proto.specs.declared.verdict.Verdict.{Verdict}
 use Rattle.wt_proto.specs.declared.verdict.Verdict.TheVariants as verdicts

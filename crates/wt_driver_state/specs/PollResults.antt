@@ -3,7 +3,7 @@ use Rattle.std.specs.Prelude.{◌*◌, ◌==◌, Bool, Err, List, None, Ok, Opti
 use Rattle.wt_driver_state.specs.DriverValue.{DriverValue}
 use Rattle.wt_driver_state.specs.Moving.{front_of}
 use Rattle.wt_spec.specs.Connection.{read_datagram}
-use Rattle.wt_error.specs.declared.driver_error.DriverError.{DriverError}
+use Rattle.wt_turn.specs.declared.driver_error.DriverError.{DriverError}
 use Rattle.wt_turn.specs.declared.poll.Poll.{Poll}
 use Rattle.wt_turn.specs.declared.poll.Poll.TheVariants.{Pending, Ready}
 

@@ -3,8 +3,8 @@ use Rattle.std.specs.Prelude.{◌&&◌, Bool, Err, None, Ok, Option, Result, Som
 use Rattle.wt_driver_state.specs.DriverValue.{DriverValue}
 use Rattle.wt_message.specs.declared.settings.Settings.{Settings}
 use Rattle.wt_spec.specs.StreamTable.{ByFault, BySession, Ending}
-use Rattle.wt_error.specs.declared.driver_error.DriverError.{DriverError}
-use Rattle.wt_error.specs.declared.driver_error.DriverError.TheVariants as errors
+use Rattle.wt_turn.specs.declared.driver_error.DriverError.{DriverError}
+use Rattle.wt_turn.specs.declared.driver_error.DriverError.TheVariants as errors
 use Rattle.wt_turn.specs.declared.poll.Poll.{Poll}
 use Rattle.wt_turn.specs.declared.poll.Poll.TheVariants.{Pending, Ready}
 

@@ -1,7 +1,7 @@
 -- What the driver's calls for a session answer, and the log that it follows after them.
 use Rattle.std.specs.Prelude.{[], ◌&&◌, ◌∷◌, Bool, Err, List, None, Ok, Option, Result, Some, if◌then◌else◌, is_some, not, ℕ}
-use Rattle.wt_error.specs.declared.driver_error.DriverError.{DriverError}
-use Rattle.wt_error.specs.declared.driver_error.DriverError.TheVariants as errors
+use Rattle.wt_turn.specs.declared.driver_error.DriverError.{DriverError}
+use Rattle.wt_turn.specs.declared.driver_error.DriverError.TheVariants as errors
 use Rattle.wt_spec.specs.Driver.{call_view, established_session, log_and_flush, stream_table}
 use Rattle.wt_spec.specs.StreamTable.{Classified, dispatched_streams}
 use Rattle.wt_turn.specs.Log.{Called, Log, RequestDelivered, SessionEstablished, calls_of, is_open}

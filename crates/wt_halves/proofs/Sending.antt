@@ -29,10 +29,10 @@ use Rattle.wt_turn.specs.declared.action.Action.TheVariants as actions
 use Rattle.wt_turn.specs.declared.call.Call.{Call}
 use Rattle.wt_turn.specs.declared.call.Call.TheVariants as calls
 use Rattle.wt_turn.specs.declared.poll.Poll.{Poll}
-use Rattle.wt_reply.specs.declared.reply.Reply.TheVariants as replies
-use Rattle.wt_error.specs.declared.stream_error.ClosedStream.{ClosedStream}
-use Rattle.wt_error.specs.declared.stream_error.StreamWriteError.{StreamWriteError}
-use Rattle.wt_error.specs.declared.stream_error.WriteAll.{WriteAll}
+use Rattle.wt_turn.specs.declared.reply.Reply.TheVariants as replies
+use Rattle.wt_turn.specs.declared.stream_error.ClosedStream.{ClosedStream}
+use Rattle.wt_turn.specs.declared.stream_error.StreamWriteError.{StreamWriteError}
+use Rattle.wt_turn.specs.declared.stream_error.WriteAll.{WriteAll}
 use Rattle.wt_wire.specs.declared.side.Side.{Side}
 
 -- a half that the application has was given: something happened

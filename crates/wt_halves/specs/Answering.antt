@@ -9,7 +9,7 @@ use Rattle.wt_spec.specs.Answers.{call_effect, may_call}
 use Rattle.wt_spec.specs.Halves.{has_receiving_half, has_sending_half}
 use Rattle.wt_turn.specs.Log.{Log}
 use Rattle.wt_turn.specs.declared.call.Call.{Call}
-use Rattle.wt_reply.specs.declared.reply.Reply.{Reply}
+use Rattle.wt_turn.specs.declared.reply.Reply.{Reply}
 use Rattle.wt_wire.specs.declared.side.Side.{Side}
 
 -- ---- what a value stands for

@@ -1,17 +1,17 @@
 -- The reply of a run's call that a typed answer stands for.
 use Rattle.std.specs.Prelude.{[], ◌≡◌, Err, List, None, Ok, Option, Result, Some, take, ℕ}
 use Rattle.wt_turn.specs.Log.{BytesRead, CallRecord, Polled}
-use Rattle.wt_error.specs.declared.connection_error.ConnectionError.{ConnectionError}
+use Rattle.wt_turn.specs.declared.connection_error.ConnectionError.{ConnectionError}
 use Rattle.wt_turn.specs.declared.poll.Poll.{Poll}
 use Rattle.wt_turn.specs.declared.poll.Poll.TheVariants.{Pending, Ready}
-use Rattle.wt_reply.specs.declared.reply.Reply.{Reply}
-use Rattle.wt_reply.specs.declared.reply.Reply.TheVariants as replies
-use Rattle.wt_error.specs.declared.stream_error.ClosedStream.{ClosedStream}
-use Rattle.wt_error.specs.declared.stream_error.SendDatagramError.{SendDatagramError}
-use Rattle.wt_error.specs.declared.stream_error.StreamOpeningError.{StreamOpeningError}
-use Rattle.wt_error.specs.declared.stream_error.StreamReadError.{StreamReadError}
-use Rattle.wt_error.specs.declared.stream_error.StreamReadExactError.{StreamReadExactError}
-use Rattle.wt_error.specs.declared.stream_error.StreamReadExactError.TheVariants as exacts
+use Rattle.wt_turn.specs.declared.reply.Reply.{Reply}
+use Rattle.wt_turn.specs.declared.reply.Reply.TheVariants as replies
+use Rattle.wt_turn.specs.declared.stream_error.ClosedStream.{ClosedStream}
+use Rattle.wt_turn.specs.declared.stream_error.SendDatagramError.{SendDatagramError}
+use Rattle.wt_turn.specs.declared.stream_error.StreamOpeningError.{StreamOpeningError}
+use Rattle.wt_turn.specs.declared.stream_error.StreamReadError.{StreamReadError}
+use Rattle.wt_turn.specs.declared.stream_error.StreamReadExactError.{StreamReadExactError}
+use Rattle.wt_turn.specs.declared.stream_error.StreamReadExactError.TheVariants as exacts
 
 -- the reply of a call that answers nothing
 abbrev pub done_reply : Unit {0} → Reply

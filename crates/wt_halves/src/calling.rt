@@ -12,7 +12,7 @@ ghost use Rattle.wt_spec.specs.Answers.{call_effect, may_call};
 ghost use Rattle.wt_turn.specs.Log.{Log};
 ghost use Rattle.wt_turn.specs.Records.{record_of};
 ghost use Rattle.wt_turn.specs.declared.call.Call.{Call};
-ghost use Rattle.wt_reply.specs.declared.reply.Reply.{Reply};
+ghost use Rattle.wt_turn.specs.declared.reply.Reply.{Reply};
 ghost use Rattle.wt_wire.specs.declared.side.Side.{Side};
 
 use std::alloc::Global;

@@ -16,8 +16,8 @@ use Rattle.wt_turn.specs.Log.{BytesRead, Event, Log, OpeningFailed, OpeningStart
 use Rattle.wt_turn.specs.declared.action.Action.{Action}
 use Rattle.wt_turn.specs.declared.call.Call.{Call}
 use Rattle.wt_turn.specs.declared.datagram_fact.DatagramFact.{DatagramFact}
-use Rattle.wt_reply.specs.declared.reply.Reply.{Reply}
-use Rattle.wt_error.specs.declared.stream_error.StreamWriteError.{StreamWriteError}
+use Rattle.wt_turn.specs.declared.reply.Reply.{Reply}
+use Rattle.wt_turn.specs.declared.stream_error.StreamWriteError.{StreamWriteError}
 use Rattle.wt_turn.specs.declared.turn.Turn.{Turn}
 use Rattle.wt_wire.specs.Ids.{is_bidirectional}
 use Rattle.wt_wire.specs.declared.side.Side.{Side}
@@ -39,13 +39,13 @@ use Rattle.wt_spec.specs.Handshake.{AwaitingRequest, HandshakeState, Requested, 
 use Rattle.wt_turn.specs.declared.action.Action.TheVariants as actions
 use Rattle.wt_turn.specs.declared.call.Call.TheVariants as calls
 use Rattle.wt_wire.specs.declared.side.StreamEnd.TheVariants as ends
-use Rattle.wt_error.specs.declared.stream_error.StreamReadExactError.TheVariants as exacts
+use Rattle.wt_turn.specs.declared.stream_error.StreamReadExactError.TheVariants as exacts
 use Rattle.wt_turn.specs.declared.datagram_fact.DatagramFact.TheVariants as facts
-use Rattle.wt_error.specs.declared.stream_error.StreamOpeningError.TheVariants as openings
-use Rattle.wt_error.specs.declared.stream_error.StreamReadError.TheVariants as reads
-use Rattle.wt_reply.specs.declared.reply.Reply.TheVariants as replies
+use Rattle.wt_turn.specs.declared.stream_error.StreamOpeningError.TheVariants as openings
+use Rattle.wt_turn.specs.declared.stream_error.StreamReadError.TheVariants as reads
+use Rattle.wt_turn.specs.declared.reply.Reply.TheVariants as replies
 use Rattle.wt_turn.specs.declared.turn.Turn.TheVariants as turns
-use Rattle.wt_error.specs.declared.stream_error.StreamWriteError.TheVariants as writes
+use Rattle.wt_turn.specs.declared.stream_error.StreamWriteError.TheVariants as writes
 
 module _ (side : Side) (turn : Turn) (by_call : is_call turn ≡ true) where
   -- ---- opening

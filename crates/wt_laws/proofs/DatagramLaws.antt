@@ -7,7 +7,7 @@ use Rattle.std.proofs.lemmas.Option.{slice_get_within}
 use Rattle.wt_seam_spec.specs.Reports.{datagrams_of}
 use Rattle.wt_seam_spec.specs.Streams.{one_more_if}
 use Rattle.wt_turn.specs.Log.{BytesRead, CallRecord, Called, Datagram, DatagramPassed, DatagramReceived, Entry, Log, Received, Reported, ReportedLate, Sent, SessionEstablished, StreamPassed, calls_of, events_of}
-use Rattle.wt_reply.specs.declared.reply.Reply.{Reply}
+use Rattle.wt_turn.specs.declared.reply.Reply.{Reply}
 use Rattle.wt_turn.specs.declared.turn.Turn.{Turn}
 use Rattle.wt_wire.specs.declared.side.Side.{Side}
 use Rattle.wt_laws.proofs.Calls.{caused}
@@ -26,7 +26,7 @@ use Rattle.wt_laws.specs.ReplyTells.{Logged, NoRecord, NonePassed, OnePassed, On
 use Rattle.wt_spec.specs.Answers.{answer_to, is_lawful, log_after, log_from}
 use Rattle.wt_spec.specs.Connection.{next_datagram, read_datagram, well_formed}
 use Rattle.wt_spec.specs.Driver.{established_session, establishes, or_earlier, session_id, released_datagrams, releases_datagram, stream_table}
-use Rattle.wt_reply.specs.declared.reply.Reply.TheVariants as replies
+use Rattle.wt_turn.specs.declared.reply.Reply.TheVariants as replies
 use Rattle.wt_turn.specs.declared.turn.Turn.TheVariants as turns
 
 -- ---- more are dequeued

@@ -4,7 +4,7 @@ use Rattle.std.proofs.Common.{◌∙◌, ap, arith, refl, subst, sym}
 use Rattle.std.proofs.lemmas.List.{append-nil, append_assoc}
 use Rattle.wt_seam_spec.specs.Reports.{datagrams_of}
 use Rattle.wt_turn.specs.Log.{BytesRead, CallRecord, Called, DatagramPassed, DatagramReceived, Entry, Log, StreamPassed, calls_of, events_of}
-use Rattle.wt_reply.specs.declared.reply.Reply.{Reply}
+use Rattle.wt_turn.specs.declared.reply.Reply.{Reply}
 use Rattle.wt_turn.specs.declared.turn.Turn.{Turn}
 use Rattle.wt_wire.specs.declared.side.Side.{Side}
 use Rattle.wt_laws.proofs.Calls.{caused}
@@ -19,7 +19,7 @@ use Rattle.wt_laws.specs.ReplyTells.{Logged, NoRecord, NonePassed, OnePassed, On
 use Rattle.wt_spec.specs.Answers.{answer_to, is_lawful, log_after}
 use Rattle.wt_spec.specs.Connection.{well_formed}
 use Rattle.wt_spec.specs.Driver.{established_session, released_datagrams}
-use Rattle.wt_reply.specs.declared.reply.Reply.TheVariants as replies
+use Rattle.wt_turn.specs.declared.reply.Reply.TheVariants as replies
 
 -- ---- between two places
 

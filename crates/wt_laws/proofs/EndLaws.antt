@@ -10,7 +10,7 @@ use Rattle.wt_seam_spec.specs.Reports.{credit, loss_of}
 use Rattle.wt_seam_spec.specs.Streams.{local_uni}
 use Rattle.wt_turn.specs.Log.{Called, Entry, Event, Log, Received, Reported, ReportedLate, Sent, actions_of, calls_of, closes, ends_by, events_of, is_open, loses, with_actions}
 use Rattle.wt_turn.specs.declared.action.Action.{Action}
-use Rattle.wt_error.specs.declared.connection_error.ConnectionError.{ConnectionError}
+use Rattle.wt_turn.specs.declared.connection_error.ConnectionError.{ConnectionError}
 use Rattle.wt_turn.specs.declared.turn.Turn.{Turn}
 use Rattle.wt_wire.specs.Codes.{code_of}
 use Rattle.wt_wire.specs.declared.side.Side.{Side}

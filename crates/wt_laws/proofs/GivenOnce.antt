@@ -4,7 +4,7 @@ use Rattle.std.proofs.Common.{◌∙◌, ap, refl, subst, sym}
 use Rattle.std.proofs.lemmas.Bool.{eq-eqb, eqb-true}
 use Rattle.std.specs.List.{list_any}
 use Rattle.wt_turn.specs.Log.{BytesRead, CallRecord, DatagramReceived, Log, RequestDelivered, SessionEstablished, StreamAccepted, calls_of}
-use Rattle.wt_reply.specs.declared.reply.Reply.{Reply}
+use Rattle.wt_turn.specs.declared.reply.Reply.{Reply}
 use Rattle.wt_turn.specs.declared.turn.Turn.{Turn}
 use Rattle.wt_wire.specs.declared.side.Side.{Side}
 use Rattle.wt_laws.proofs.During.{extend}
@@ -19,7 +19,7 @@ use Rattle.wt_laws.specs.Reachable.{AfterTurn, AllLawful, AtStart, Exchange, IsR
 use Rattle.wt_laws.specs.ReplyTells.{Logged, NoRecord, OneRecord, TellsOf, ThenPolled}
 use Rattle.wt_spec.specs.Answers.{answer_to, is_lawful, log_after}
 use Rattle.wt_spec.specs.Driver.{releases}
-use Rattle.wt_reply.specs.declared.reply.Reply.TheVariants as replies
+use Rattle.wt_turn.specs.declared.reply.Reply.TheVariants as replies
 
 -- ---- a reply that gives a stream leaves its record
 

@@ -7,9 +7,9 @@ use Rattle.std.specs.Option.{option_or}
 use Rattle.url.specs.Parser.{parse_url}
 use Rattle.url.specs.Parts.{Parts, host_or_empty}
 use Rattle.url.specs.declared.error.ParseError.{ParseError}
-use Rattle.wt_error.specs.declared.connecting_error.ConnectingError.{ConnectingError}
-use Rattle.wt_error.specs.declared.connection_error.ConnectionError.{ConnectionError}
-use Rattle.wt_error.specs.declared.stream_error.StreamOpeningError.{StreamOpeningError}
+use Rattle.wt_turn.specs.declared.connecting_error.ConnectingError.{ConnectingError}
+use Rattle.wt_turn.specs.declared.connection_error.ConnectionError.{ConnectionError}
+use Rattle.wt_turn.specs.declared.stream_error.StreamOpeningError.{StreamOpeningError}
 use Rattle.wt_message.specs.FixedBytes.{response_bytes}
 use Rattle.wt_proto.specs.ResponseWalk.{response_walk_of}
 use Rattle.wt_proto.specs.declared.response_walk.ResponseWalk.{ResponseWalk}
@@ -21,7 +21,7 @@ use Rattle.wt_seam_spec.specs.Streams.{contents, local_bi, local_count, local_un
 use Rattle.wt_turn.specs.Log.{CallRecord, Called, ConnectStarted, HandshakeOver, Log, OpeningFailed, OpeningStarted, Polled, PrioritySet, ResetUnsent, ResponseStarted, Sent, StreamAccepted, StreamGivenUp, actions_of, calls_of, events_of, is_open, newest}
 use Rattle.wt_turn.specs.declared.action.Action.{Action}
 use Rattle.wt_turn.specs.declared.call.Call.{Call}
-use Rattle.wt_reply.specs.declared.reply.Reply.{Reply}
+use Rattle.wt_turn.specs.declared.reply.Reply.{Reply}
 use Rattle.wt_turn.specs.declared.turn.Turn.{Turn}
 use Rattle.wt_wire.specs.Codes.{code_of}
 use Rattle.wt_wire.specs.HeaderList.{Fields}
@@ -46,7 +46,7 @@ use Rattle.wt_spec.specs.StreamTable.{Classified}
 use Rattle.wt_turn.specs.declared.action.Action.TheVariants as actions
 use Rattle.wt_turn.specs.declared.call.Call.TheVariants as calls
 use Rattle.wt_wire.specs.declared.error.ErrorCode.TheVariants as h3
-use Rattle.wt_reply.specs.declared.reply.Reply.TheVariants as replies
+use Rattle.wt_turn.specs.declared.reply.Reply.TheVariants as replies
 use Rattle.wt_proto.specs.declared.response_walk.ResponseWalk.TheVariants as responses
 use Rattle.wt_turn.specs.declared.turn.Turn.TheVariants as turns
 

@@ -51,3 +51,14 @@ pub mod PendingOut
 pub mod Telling
 pub mod LeavesRecord
 pub mod OpenedInOrder
+pub mod Ends
+pub mod There
+pub mod Handshaking
+pub mod Rejecting
+pub mod Driving
+pub mod Halves
+pub mod Plain
+pub mod Recording
+pub mod Performing
+pub mod Used
+pub mod ReachTheorems

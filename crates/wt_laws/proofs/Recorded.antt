@@ -17,7 +17,7 @@ use Rattle.wt_message.specs.Settings.{pairs_from, with_pair}
 use Rattle.wt_proto.specs.Uni.{uni_verdict_of}
 use Rattle.wt_turn.specs.declared.action.Action.{Action}
 use Rattle.wt_turn.specs.declared.answer.Answer.{Answer}
-use Rattle.wt_reply.specs.declared.reply.Reply.{Reply}
+use Rattle.wt_turn.specs.declared.reply.Reply.{Reply}
 use Rattle.wt_turn.specs.declared.turn.Turn.{Turn}
 use Rattle.wt_wire.specs.FieldSection.{line_at, field_lines_from, string_at}
 use Rattle.wt_wire.specs.Frames.{frame_at}
@@ -35,22 +35,22 @@ use Rattle.wt_spec.specs.Driver.{flush, stream_table}
 use Rattle.wt_turn.specs.declared.action.Action.TheVariants as actions
 use Rattle.wt_wire.specs.declared.addr.Addr.TheVariants as addresses
 use Rattle.wt_turn.specs.declared.call.Call.TheVariants as calls
-use Rattle.wt_error.specs.declared.connecting_error.ConnectingError.TheVariants as connects
-use Rattle.wt_error.specs.declared.stream_error.SendDatagramError.TheVariants as datagrams
-use Rattle.wt_error.specs.declared.connection_error.ConnectionError.TheVariants as errors
-use Rattle.wt_error.specs.declared.stream_error.StreamReadExactError.TheVariants as exacts
+use Rattle.wt_turn.specs.declared.connecting_error.ConnectingError.TheVariants as connects
+use Rattle.wt_turn.specs.declared.stream_error.SendDatagramError.TheVariants as datagrams
+use Rattle.wt_turn.specs.declared.connection_error.ConnectionError.TheVariants as errors
+use Rattle.wt_turn.specs.declared.stream_error.StreamReadExactError.TheVariants as exacts
 use Rattle.wt_turn.specs.declared.datagram_fact.DatagramFact.TheVariants as facts
 use Rattle.wt_wire.specs.declared.error.ErrorCode.TheVariants as h3
 use Rattle.url.specs.declared.host.Host.TheVariants as hosts
 use Rattle.wt_wire.specs.declared.lookup.Lookup.TheVariants as lookups
-use Rattle.wt_error.specs.declared.loss.LossReason.TheVariants as losses
-use Rattle.wt_error.specs.declared.stream_error.StreamOpeningError.TheVariants as openings
+use Rattle.wt_turn.specs.declared.loss.LossReason.TheVariants as losses
+use Rattle.wt_turn.specs.declared.stream_error.StreamOpeningError.TheVariants as openings
 use Rattle.wt_wire.specs.declared.lookup.ConnectOutcome.TheVariants as outcomes
-use Rattle.wt_error.specs.declared.stream_error.StreamReadError.TheVariants as reads
-use Rattle.wt_error.specs.declared.connecting_error.UrlRefusal.TheVariants as refusals
-use Rattle.wt_reply.specs.declared.reply.Reply.TheVariants as replies
+use Rattle.wt_turn.specs.declared.stream_error.StreamReadError.TheVariants as reads
+use Rattle.wt_turn.specs.declared.connecting_error.UrlRefusal.TheVariants as refusals
+use Rattle.wt_turn.specs.declared.reply.Reply.TheVariants as replies
 use Rattle.wt_turn.specs.declared.turn.Turn.TheVariants as turns
-use Rattle.wt_error.specs.declared.stream_error.StreamWriteError.TheVariants as writes
+use Rattle.wt_turn.specs.declared.stream_error.StreamWriteError.TheVariants as writes
 
 abbrev answer : Reply → List Action → Answer
 answer r out = record { reply = r; actions = out }

@@ -4,7 +4,7 @@ use Rattle.std.proofs.Common.{◌∙◌, ap, refl, subst, sym}
 use Rattle.std.proofs.lemmas.Bool.{eq-eqb, or_left, or_right}
 use Rattle.std.specs.List.{list_any}
 use Rattle.wt_turn.specs.Log.{BytesRead, CallRecord, DatagramReceived, Log, Polled, RequestDelivered, SessionEstablished, StreamAccepted, calls_of}
-use Rattle.wt_reply.specs.declared.reply.Reply.{Reply}
+use Rattle.wt_turn.specs.declared.reply.Reply.{Reply}
 use Rattle.wt_turn.specs.declared.turn.Turn.{Turn}
 use Rattle.wt_wire.specs.HeaderList.{Fields}
 use Rattle.wt_wire.specs.declared.side.Side.{Side}
@@ -22,7 +22,7 @@ use Rattle.wt_spec.specs.Answers.{is_lawful, log_after}
 use Rattle.wt_spec.specs.Driver.{delivers, stream_table}
 use Rattle.wt_spec.specs.StreamTable.{verdict_of}
 use Rattle.wt_proto.specs.declared.verdict.Verdict.TheVariants as verdicts
-use Rattle.wt_reply.specs.declared.reply.Reply.TheVariants as replies
+use Rattle.wt_turn.specs.declared.reply.Reply.TheVariants as replies
 
 -- ---- its record
 

@@ -12,8 +12,8 @@ use Rattle.wt_seam_spec.specs.Sent.{is_finished, is_reset, sent_on}
 use Rattle.wt_seam_spec.specs.Streams.{local_uni}
 use Rattle.wt_turn.specs.Log.{CallRecord, Called, Entry, Log, OpeningFailed, Polled, Received, Reported, Sent, StreamAccepted, actions_of, calls_of, events_of, is_open, with_actions}
 use Rattle.wt_turn.specs.declared.action.Action.{Action}
-use Rattle.wt_reply.specs.declared.reply.Reply.{Reply}
-use Rattle.wt_error.specs.declared.stream_error.StreamWriteError.{StreamWriteError}
+use Rattle.wt_turn.specs.declared.reply.Reply.{Reply}
+use Rattle.wt_turn.specs.declared.stream_error.StreamWriteError.{StreamWriteError}
 use Rattle.wt_turn.specs.declared.turn.Turn.{Turn}
 use Rattle.wt_wire.specs.declared.side.Side.{Side}
 use Rattle.wt_laws.proofs.Classified.{either-true}
@@ -38,9 +38,9 @@ use Rattle.wt_spec.specs.Handshake.{Connecting, handshake_state, requested_strea
 use Rattle.wt_spec.specs.StreamTable.{verdict_of}
 use Rattle.wt_turn.specs.declared.action.Action.TheVariants as actions
 use Rattle.wt_turn.specs.declared.call.Call.TheVariants as calls
-use Rattle.wt_reply.specs.declared.reply.Reply.TheVariants as replies
+use Rattle.wt_turn.specs.declared.reply.Reply.TheVariants as replies
 use Rattle.wt_turn.specs.declared.turn.Turn.TheVariants as turns
-use Rattle.wt_error.specs.declared.stream_error.StreamWriteError.TheVariants as writes
+use Rattle.wt_turn.specs.declared.stream_error.StreamWriteError.TheVariants as writes
 
 -- ---- the driver sends on this end's control stream alone
 

@@ -10,7 +10,7 @@ use Rattle.wt_seam_spec.specs.Reports.{end_of}
 use Rattle.wt_seam_spec.specs.Streams.{contents, peer_bi, peer_count}
 use Rattle.wt_turn.specs.Log.{BytesRead, CallRecord, Called, ConnectStarted, DatagramReceived, Entry, HandshakeOver, Log, Received, Reported, ReportedLate, RequestDelivered, ResponseStarted, Sent, SessionEstablished, StreamAccepted, calls_of, events_of, with_actions}
 use Rattle.wt_turn.specs.declared.action.Action.{Action}
-use Rattle.wt_reply.specs.declared.reply.Reply.{Reply}
+use Rattle.wt_turn.specs.declared.reply.Reply.{Reply}
 use Rattle.wt_turn.specs.declared.turn.Turn.{Turn}
 use Rattle.wt_wire.specs.HeaderList.{Fields}
 use Rattle.wt_wire.specs.declared.side.Side.{Side}
@@ -34,7 +34,7 @@ use Rattle.wt_spec.specs.Driver.{call_view, delivers, established_session, sessi
 use Rattle.wt_spec.specs.Effect.{head_left, is_covered}
 use Rattle.wt_spec.specs.Handshake.{Connecting, HandshakeState, Requested, Responding, handshake_state, queued_requests, request_end, request_fields_of, requested_stream, response_head}
 use Rattle.wt_spec.specs.StreamTable.{Classified, StreamTable, awaits_delivery, dispatched_streams, is_request, verdict_of}
-use Rattle.wt_reply.specs.declared.reply.Reply.TheVariants as replies
+use Rattle.wt_turn.specs.declared.reply.Reply.TheVariants as replies
 use Rattle.wt_proto.specs.declared.verdict.Verdict.TheVariants as verdicts
 
 -- ---- SETTINGS stay

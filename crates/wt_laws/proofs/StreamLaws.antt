@@ -25,7 +25,7 @@ use Rattle.wt_spec.specs.Answers.{is_lawful}
 use Rattle.wt_spec.specs.Connection.{first_of, is_due, is_for_session, next_due}
 use Rattle.wt_spec.specs.Driver.{call_view, releases, stream_table}
 use Rattle.wt_spec.specs.StreamTable.{Classified, awaits_accept, is_webtransport, kept_if, only}
-use Rattle.wt_reply.specs.declared.reply.Reply.TheVariants as replies
+use Rattle.wt_turn.specs.declared.reply.Reply.TheVariants as replies
 use Rattle.wt_proto.specs.declared.verdict.Verdict.TheVariants as verdicts
 
 other-kind : (side : Side) (k : ℕ) (m n : ℕ) → is_among (peer_uni side) m k ≡ true → is_among (peer_bi side) n k ≡ true → ⊥

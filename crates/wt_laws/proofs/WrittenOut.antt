@@ -10,7 +10,7 @@ use Rattle.wt_seam_spec.specs.Streams.{local_bi, local_uni}
 use Rattle.wt_turn.specs.Log.{CallRecord, ConnectStarted, Log, OpeningStarted, Polled, StreamGivenUp, actions_of, calls_of, events_of, is_open}
 use Rattle.wt_turn.specs.declared.action.Action.{Action}
 use Rattle.wt_turn.specs.declared.datagram_fact.DatagramFact.{DatagramFact}
-use Rattle.wt_reply.specs.declared.reply.Reply.{Reply}
+use Rattle.wt_turn.specs.declared.reply.Reply.{Reply}
 use Rattle.wt_turn.specs.declared.turn.Turn.{Turn}
 use Rattle.wt_wire.specs.declared.addr.Addr.{Addr}
 use Rattle.wt_wire.specs.declared.side.Side.{Side}
@@ -25,10 +25,10 @@ use Rattle.wt_spec.specs.Halves.{finish, finish_once, has_receiving_half, has_se
 use Rattle.wt_spec.specs.Handshake.{fail_connect}
 use Rattle.wt_turn.specs.declared.action.Action.TheVariants as actions
 use Rattle.wt_turn.specs.declared.call.Call.TheVariants as calls
-use Rattle.wt_error.specs.declared.connecting_error.ConnectingError.TheVariants as connects
+use Rattle.wt_turn.specs.declared.connecting_error.ConnectingError.TheVariants as connects
 use Rattle.wt_turn.specs.declared.datagram_fact.DatagramFact.TheVariants as facts
-use Rattle.wt_error.specs.declared.connecting_error.UrlRefusal.TheVariants as refusals
-use Rattle.wt_reply.specs.declared.reply.Reply.TheVariants as replies
+use Rattle.wt_turn.specs.declared.connecting_error.UrlRefusal.TheVariants as refusals
+use Rattle.wt_turn.specs.declared.reply.Reply.TheVariants as replies
 use Rattle.wt_turn.specs.declared.turn.Turn.TheVariants as turns
 
 -- an effect with this reply has this alone of the call's own in its log

@@ -10,7 +10,7 @@ use Rattle.wt_laws.specs.Laws.{IsDuring, payload_for, payloads_for}
 use Rattle.wt_spec.specs.Answers.{answer_to, log_after}
 use Rattle.wt_spec.specs.Connection.{well_formed}
 use Rattle.wt_spec.specs.Driver.{established_session, released_datagrams, stream_table}
-use Rattle.wt_reply.specs.declared.reply.Reply.TheVariants as replies
+use Rattle.wt_turn.specs.declared.reply.Reply.TheVariants as replies
 
 -- ---- what was received
 

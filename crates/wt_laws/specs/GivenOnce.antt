@@ -1,9 +1,9 @@
 -- That an accept gives each stream once, said of replies.
 use Rattle.std.specs.Prelude.{[], ◌==◌, ◌∷◌, ◌≡◌, Bool, List, false, true, ℕ}
 use Rattle.std.specs.List.{list_any}
-use Rattle.wt_reply.specs.declared.reply.Reply.{Reply}
+use Rattle.wt_turn.specs.declared.reply.Reply.{Reply}
 use Rattle.wt_laws.specs.Reachable.{Exchange}
-use Rattle.wt_reply.specs.declared.reply.Reply.TheVariants as replies
+use Rattle.wt_turn.specs.declared.reply.Reply.TheVariants as replies
 
 -- the reply gives this stream, as an accept does
 abbrev pub gives_stream : ℕ → Reply → Bool

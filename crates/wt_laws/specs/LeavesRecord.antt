@@ -1,11 +1,11 @@
 -- What a call leaves in the log for later answers.
 use Rattle.std.specs.Prelude.{◌≡◌, Bool, List, Some, false, true, ℕ, ℤ}
 use Rattle.std.specs.List.{list_any}
-use Rattle.wt_error.specs.declared.stream_error.StreamOpeningError.{StreamOpeningError}
+use Rattle.wt_turn.specs.declared.stream_error.StreamOpeningError.{StreamOpeningError}
 use Rattle.wt_seam_spec.specs.Sent.{is_reset, priority_of}
 use Rattle.wt_turn.specs.Log.{Log, calls_of}
 use Rattle.wt_turn.specs.declared.call.Call.{Call}
-use Rattle.wt_reply.specs.declared.reply.Reply.{Reply}
+use Rattle.wt_turn.specs.declared.reply.Reply.{Reply}
 use Rattle.wt_turn.specs.declared.turn.Turn.{Turn}
 use Rattle.wt_wire.specs.declared.side.Side.{Side}
 use Rattle.wt_laws.specs.Causes.{ConnectTo}
@@ -16,7 +16,7 @@ use Rattle.wt_spec.specs.Connection.{is_opening, starts_opening}
 use Rattle.wt_spec.specs.Halves.{has_receiving_half, has_sending_half, is_done}
 use Rattle.wt_spec.specs.Handshake.{Connecting, Over, Responding, handshake_state}
 use Rattle.wt_turn.specs.declared.call.Call.TheVariants as calls
-use Rattle.wt_reply.specs.declared.reply.Reply.TheVariants as replies
+use Rattle.wt_turn.specs.declared.reply.Reply.TheVariants as replies
 use Rattle.wt_turn.specs.declared.turn.Turn.TheVariants as turns
 
 -- the call begins a handshake or goes on with one

@@ -16,3 +16,5 @@ pub mod Ended
 pub mod Telling
 pub mod LeavesRecord
 pub mod OpenedInOrder
+pub mod Driving
+pub mod Reading

@@ -1,11 +1,11 @@
 -- What replies tell of what calls did.
 use Rattle.std.specs.Prelude.{◌∷◌, ◌≡◌, Bool, List, None, Option, Some, false, length, true, ℕ}
 use Rattle.wt_turn.specs.Log.{BytesRead, CallRecord, DatagramPassed, DatagramReceived, Polled, RequestDelivered, SessionEstablished, StreamAccepted, StreamPassed}
-use Rattle.wt_reply.specs.declared.reply.Reply.{Reply}
+use Rattle.wt_turn.specs.declared.reply.Reply.{Reply}
 use Rattle.wt_turn.specs.declared.turn.Turn.{Turn}
 use Rattle.wt_laws.specs.Causes.{reads_from}
-use Rattle.wt_error.specs.declared.stream_error.StreamReadExactError.TheVariants as exacts
-use Rattle.wt_reply.specs.declared.reply.Reply.TheVariants as replies
+use Rattle.wt_turn.specs.declared.stream_error.StreamReadExactError.TheVariants as exacts
+use Rattle.wt_turn.specs.declared.reply.Reply.TheVariants as replies
 
 -- the bytes that a read gave
 abbrev pub read_piece : Reply → Option (List ℕ)

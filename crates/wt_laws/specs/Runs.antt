@@ -12,7 +12,7 @@ use Rattle.wt_spec.specs.Driver.{delivers, releases, settings_came, stream_table
 use Rattle.wt_spec.specs.Scan.{has}
 use Rattle.wt_spec.specs.StreamTable.{Classified, verdict_of}
 use Rattle.wt_turn.specs.declared.call.Call.TheVariants as calls
-use Rattle.wt_reply.specs.declared.reply.Reply.TheVariants as replies
+use Rattle.wt_turn.specs.declared.reply.Reply.TheVariants as replies
 use Rattle.wt_turn.specs.declared.turn.Turn.TheVariants as turns
 
 -- A run answers the longest lawful prefix of its turns, one answer a turn: all of them, or those before the first that isn't

@@ -8,9 +8,9 @@ use Rattle.wt_session_spec.specs.ConnectPlans.{connect_plan, dialled_at, dialled
 use Rattle.wt_session_spec.specs.HandshakePlans.{failed_connect}
 use Rattle.wt_session_spec.specs.Plan.{Plan}
 use Rattle.wt_spec.specs.Connect.{address_of, outcome_error, port_of}
-use Rattle.wt_error.specs.declared.connecting_error.ConnectingError.{ConnectingError}
-use Rattle.wt_error.specs.declared.connecting_error.ConnectingError.TheVariants as errors
-use Rattle.wt_error.specs.declared.connecting_error.UrlRefusal.TheVariants.{Scheme}
+use Rattle.wt_turn.specs.declared.connecting_error.ConnectingError.{ConnectingError}
+use Rattle.wt_turn.specs.declared.connecting_error.ConnectingError.TheVariants as errors
+use Rattle.wt_turn.specs.declared.connecting_error.UrlRefusal.TheVariants.{Scheme}
 use Rattle.wt_wire.specs.HeaderList.{Fields}
 use Rattle.wt_wire.specs.declared.addr.Addr.{Addr}
 use Rattle.wt_wire.specs.declared.lookup.ConnectOutcome.{ConnectOutcome}

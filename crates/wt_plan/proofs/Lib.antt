@@ -1,3 +1,5 @@
+pub mod Uses
+pub mod Noted
 pub mod Connects
 pub mod Halves
 pub mod Reading

@@ -31,7 +31,7 @@ use Rattle.wt_turn.specs.declared.call.Call.{Call}
 use Rattle.wt_wire.specs.declared.side.Side.{Side}
 use Rattle.wt_plan.proofs.FactsSame.{facts-same}
 use Rattle.wt_plan.specs.FactsNow.{DriverAnswers, facts_now}
-use Rattle.wt_table.specs.Table.{KeepsCalls, TableValue}
+use Rattle.wt_plan.specs.Table.{KeepsCalls, TableValue}
 use Rattle.wt_plan.specs.PlansAgree.{TellsFacts, session_of_table}
 use Rattle.wt_session_spec.specs.SessionState.{is_answering}
 use Rattle.wt_turn.specs.declared.action.Action.TheVariants as actions

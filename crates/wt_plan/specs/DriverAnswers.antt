@@ -6,8 +6,8 @@ use Rattle.wt_proto.specs.declared.response_walk.ResponseWalk.{ResponseWalk}
 use Rattle.wt_seam.specs.State.{TransportState}
 use Rattle.wt_spec.specs.Effect.{loss_or_local}
 use Rattle.wt_spec.specs.StreamTable.{ByFault, BySession, Ending}
-use Rattle.wt_error.specs.declared.connection_error.ConnectionError.{ConnectionError}
-use Rattle.wt_error.specs.declared.connection_error.ConnectionError.TheVariants as errors
+use Rattle.wt_turn.specs.declared.connection_error.ConnectionError.{ConnectionError}
+use Rattle.wt_turn.specs.declared.connection_error.ConnectionError.TheVariants as errors
 
 -- how the driver's ending is reported, and without one the transport's
 abbrev pub error_now : TransportState → Option Ending → ConnectionError

@@ -9,7 +9,7 @@ use Rattle.wt_spec.specs.Effect.{loss_or_local}
 use Rattle.wt_spec.specs.StreamTable.{Classified}
 use Rattle.wt_streams.specs.HalfRules.{SendingHalf}
 use Rattle.wt_streams.specs.StreamState.{fresh, has_stream, sending_half_of, stream_at}
-use Rattle.wt_error.specs.declared.connection_error.ConnectionError.{ConnectionError}
+use Rattle.wt_turn.specs.declared.connection_error.ConnectionError.{ConnectionError}
 
 -- what the driver answers
 pub record DriverAnswers : Type 0 where

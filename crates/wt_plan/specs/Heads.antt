@@ -3,7 +3,7 @@ use Rattle.std.specs.Prelude.{List, if◌then◌else◌, ℕ}
 use Rattle.wt_session_spec.specs.CallFacts.{CallFacts}
 use Rattle.wt_session_spec.specs.Plan as plan
 use Rattle.wt_turn.specs.declared.action.Action.{Action}
-use Rattle.wt_error.specs.declared.connecting_error.ConnectingError.TheVariants as connects
+use Rattle.wt_turn.specs.declared.connecting_error.ConnectingError.TheVariants as connects
 use Rattle.wt_plan.specs.declared.heads.HeadProgress.{HeadProgress}
 use Rattle.wt_plan.specs.declared.heads.HeadProgress.TheVariants as heads
 use Rattle.wt_session_spec.specs.HandshakePlans as plans

@@ -1,3 +1,4 @@
+pub mod Table
 pub mod Planned
 pub mod FactsNow
 pub mod Heads

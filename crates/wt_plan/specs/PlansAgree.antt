@@ -1,7 +1,7 @@
 -- When a transport, the driver's answers and a table tell what a log does.
 use Rattle.std.specs.Prelude.{◌+◌, ◌≡◌, List, Option, is_some, true, ℕ}
 use Rattle.wt_plan.specs.FactsNow.{DriverAnswers}
-use Rattle.wt_table.specs.Table.{TableValue, use_as, use_now}
+use Rattle.wt_plan.specs.Table.{TableValue, use_as, use_now}
 use Rattle.wt_proto.specs.ResponseWalk.{response_walk_of}
 use Rattle.wt_seam.specs.State.{Refines, TransportState}
 use Rattle.wt_seam_spec.specs.Reports.{datagram_fact, end_of, is_connected}

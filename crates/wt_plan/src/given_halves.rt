@@ -1,6 +1,6 @@
 //! Which halves of which streams the application has, by a session's table.
 ghost use Rattle.std.specs.Prelude.{◌≡◌};
-ghost use Rattle.wt_table.specs.Table.{KeepsCalls};
+ghost use Rattle.wt_plan.specs.Table.{KeepsCalls};
 ghost use Rattle.wt_plan.specs.PlansAgree.{session_of_table};
 ghost use Rattle.wt_seam_spec.specs.Streams.{local_uni, peer_uni};
 ghost use Rattle.wt_session_spec.specs.SessionState.{has_receiving_now, has_sending_now, is_opening_now};
@@ -8,7 +8,7 @@ ghost use Rattle.wt_spec.specs.Connection.{is_opening};
 ghost use Rattle.wt_spec.specs.Halves.{has_receiving_half, has_sending_half};
 ghost use Rattle.wt_turn.specs.Log.{Log, calls_of};
 
-use wt_table::session_table::SessionTable;
+use crate::session_table::SessionTable;
 use wt_wire::ids::StreamId;
 use wt_wire::side::Side;
 

@@ -1,4 +1,5 @@
-//! What each call of the application does, as data, by what is kept.
+//! What each call of the application does, as data, by what is kept; and what a session keeps of the calls: how far the
+//! handshake is, and what the application has of each stream ([`session_table`]).
 #![tactic(auto)]
 
 pub mod connect_plan;
@@ -11,3 +12,4 @@ pub mod heads;
 pub mod plan;
 pub mod read_plans;
 pub mod same_plans;
+pub mod session_table;

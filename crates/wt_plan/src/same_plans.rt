@@ -8,7 +8,7 @@ ghost use Rattle.wt_laws.specs.Reachable.{IsReachable};
 ghost use Rattle.wt_plan.specs.DriverAnswers.{answers_now};
 ghost use Rattle.wt_plan.specs.FactsNow.{DriverAnswers, facts_now};
 ghost use Rattle.wt_plan.specs.Inboxes.{StagesReadAsCalled};
-ghost use Rattle.wt_table.specs.Table.{KeepsCalls, TableValue};
+ghost use Rattle.wt_plan.specs.Table.{KeepsCalls, TableValue};
 ghost use Rattle.wt_plan.specs.PlansAgree.{AnswersLog, KeepsRequestEnd, LogTells, TellsFacts, driver_facts, session_of_table};
 ghost use Rattle.wt_session_spec.specs.SessionState.{is_answering};
 ghost use Rattle.wt_proto.specs.declared.verdict.Verdict.TheVariants as verdicts;

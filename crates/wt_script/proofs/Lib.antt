@@ -2,3 +2,4 @@ pub mod HeaderLaws
 pub mod NumberLaws
 pub mod ScriptLaws
 pub mod UrlLaws
+pub mod PrintLaws

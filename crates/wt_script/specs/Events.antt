@@ -3,11 +3,11 @@ use Rattle.std.specs.Prelude.{ℕ, List, [], ◌∷◌, codes, Option, Some, Non
 use Rattle.std.specs.Option.{option_map, option_or, option_zip}
 use Rattle.wt_turn.specs.declared.datagram_fact.DatagramFact.{DatagramFact}
 use Rattle.wt_turn.specs.declared.datagram_fact.DatagramFact.TheVariants as facts
-use Rattle.wt_error.specs.declared.loss.LossReason.{LossReason}
-use Rattle.wt_error.specs.declared.loss.LossReason.TheVariants as losses
+use Rattle.wt_turn.specs.declared.loss.LossReason.{LossReason}
+use Rattle.wt_turn.specs.declared.loss.LossReason.TheVariants as losses
 use Rattle.wt_turn.specs.declared.turn.Turn.{Turn}
 use Rattle.wt_turn.specs.declared.turn.Turn.TheVariants as turns
-use Rattle.wt_error.specs.Close.{Close}
+use Rattle.wt_turn.specs.Close.{Close}
 use Rattle.wt_script.specs.Numbers.{count_of, id_of, bytes_of, text_of_word}
 use Rattle.wt_script.specs.Words.{is_word, alone, one, two}
 

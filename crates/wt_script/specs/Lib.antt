@@ -6,3 +6,5 @@ pub mod Events
 pub mod Calls
 pub mod Lines
 pub mod Script
+pub mod PrintErrors
+pub mod Print

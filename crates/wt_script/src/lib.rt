@@ -1,8 +1,10 @@
-//! Scripts: the text of a connection's turns.
+//! Scripts: the text of a connection's turns, and of their answers.
 //!
 //! [`script::read_script`] reads the side and the turns that a script spells,
 //! [`script::read_more_turns`] further lines of turns, and [`script::lines::read_turn`] the turn of one
 //! line. Every event and every call has its line, and a line that is none of these refuses its script.
+//! [`print::print_answer`] writes the line of an answer.
 #![tactic(auto)]
 
+pub mod print;
 pub mod script;

@@ -5,7 +5,7 @@ use Rattle.wt_wire.specs.declared.side.Side.{Side}
 use Rattle.wt_wire.specs.declared.side.Side.TheVariants.{Client, Server}
 use Rattle.wt_turn.specs.declared.action.Action.{Action}
 use Rattle.wt_turn.specs.declared.datagram_fact.DatagramFact.{DatagramFact}
-use Rattle.wt_error.specs.declared.loss.LossReason.{LossReason}
+use Rattle.wt_turn.specs.declared.loss.LossReason.{LossReason}
 use Rattle.wt_turn.specs.declared.turn.Turn.{Turn}
 use Rattle.wt_turn.specs.declared.turn.Turn.TheVariants as turns
 use Rattle.wt_turn.specs.Log.{Log, all_events_of, actions_of}

@@ -4,7 +4,7 @@ use Rattle.std.specs.List.{concat}
 use Rattle.wt_wire.specs.declared.side.Side.{Side}
 use Rattle.wt_wire.specs.declared.side.StreamEnd.TheVariants.{Running}
 use Rattle.wt_turn.specs.declared.datagram_fact.DatagramFact.{DatagramFact}
-use Rattle.wt_error.specs.declared.loss.LossReason.{LossReason}
+use Rattle.wt_turn.specs.declared.loss.LossReason.{LossReason}
 use Rattle.wt_turn.specs.declared.action.Action.{Action}
 use Rattle.wt_turn.specs.Log.{Event, Log, events_of, all_events_of, actions_of, calls_of, is_open}
 use Rattle.wt_streams.specs.declared.stream.Signals.{Signals}

@@ -4,7 +4,7 @@ ghost use Rattle.wt_wire.specs.declared.side.Side.TheVariants.{Client, Server};
 ghost use Rattle.wt_wire.specs.declared.side.StreamEnd.TheVariants as ends;
 ghost use Rattle.wt_turn.specs.declared.action.Action.TheVariants as actions;
 ghost use Rattle.wt_turn.specs.declared.datagram_fact.DatagramFact.TheVariants.{Limit};
-ghost use Rattle.wt_error.specs.declared.loss.LossReason.TheVariants as losses;
+ghost use Rattle.wt_turn.specs.declared.loss.LossReason.TheVariants as losses;
 ghost use Rattle.wt_turn.specs.declared.turn.Turn.TheVariants as turns;
 ghost use Rattle.wt_turn.specs.Log.{events_of, with_actions};
 ghost use Rattle.wt_seam_spec.specs.Streams.{contents};

@@ -10,10 +10,10 @@ use Rattle.wt_driver_state.specs.Tie.{Follows, uncollected_since}
 use Rattle.wt_driver_spec.specs.Asking.{MayBeCalled}
 use Rattle.wt_laws.specs.Reachable.{IsReachable}
 use Rattle.wt_plan.specs.DriverAnswers.{error_now}
-use Rattle.wt_reached.proofs.Theorems.{performs_theorem}
+use Rattle.wt_laws.proofs.ReachTheorems.{performs_theorem}
 use Rattle.wt_calls.proofs.SessionStreams.{queued_is_request}
 use Rattle.wt_call_plans.specs.MayPlan.{FirstIsRequest}
-use Rattle.wt_session_acts.specs.Performing.{MayPerform}
+use Rattle.wt_session_spec.specs.Performing.{MayPerform}
 use Rattle.wt_session_spec.specs.CallFacts.{facts_of}
 use Rattle.wt_session_spec.specs.HandshakePlans.{delivery}
 use Rattle.wt_session_spec.specs.Plan.{Step}
@@ -27,11 +27,11 @@ use Rattle.wt_agreement.proofs.DriverTheorems.{driver_error_theorem, requests_th
 use Rattle.wt_agreement.proofs.Theorems.{logged_theorem}
 use Rattle.wt_agreement.proofs.Turns.{entry-first}
 use Rattle.wt_turn.specs.Log.{CallRecord, Called, HandshakeOver, Log, Polled, RequestDelivered, calls_of}
-use Rattle.wt_error.specs.declared.connection_error.ConnectionError.{ConnectionError}
+use Rattle.wt_turn.specs.declared.connection_error.ConnectionError.{ConnectionError}
 use Rattle.wt_turn.specs.declared.call.Call.TheVariants as calls
 use Rattle.wt_turn.specs.declared.poll.Poll.{Poll}
 use Rattle.wt_turn.specs.declared.poll.Poll.TheVariants.{Pending, Ready}
-use Rattle.wt_reply.specs.declared.reply.Reply.TheVariants as replies
+use Rattle.wt_turn.specs.declared.reply.Reply.TheVariants as replies
 use Rattle.wt_wire.specs.HeaderList.{Fields}
 use Rattle.wt_wire.specs.declared.error.OutOfMemory.{OutOfMemory}
 use Rattle.wt_wire.specs.declared.side.Side.{Side}

@@ -13,7 +13,7 @@ use Rattle.wt_laws.proofs.Reached.{reached}
 use Rattle.wt_laws.proofs.Steps.{Keeps, calls-with, kept-actions, kept-flush}
 use Rattle.wt_laws.specs.Reachable.{IsReachable}
 use Rattle.wt_laws.specs.RecordCauses.{CallCause}
-use Rattle.wt_reached.proofs.There.{given-receives}
+use Rattle.wt_laws.proofs.There.{given-receives}
 use Rattle.wt_seam.specs.Step.{unread_now}
 use Rattle.wt_seam_spec.specs.Streams.{can_receive, local_uni}
 use Rattle.wt_spec.specs.Connection.{accepts_stream}

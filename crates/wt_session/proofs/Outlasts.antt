@@ -2,7 +2,7 @@
 use Rattle.std.specs.Prelude.{◌&&◌, ◌∷◌, ◌≡◌, Bool, List, Some, false, not, true, ℕ}
 use Rattle.std.proofs.Common.{◌∙◌, ap, refl, subst, sym}
 use Rattle.std.proofs.lemmas.Bool.{and_from, and_parts}
-use Rattle.wt_error.specs.declared.connecting_error.ConnectingError.{ConnectingError}
+use Rattle.wt_turn.specs.declared.connecting_error.ConnectingError.{ConnectingError}
 use Rattle.wt_laws.proofs.Reached.{keeps-turn}
 use Rattle.wt_laws.proofs.Steps.{KeepsEntries, by-entries}
 use Rattle.wt_laws.specs.Causes.{ByAcceptance, ByAnswer, ByRejection, ByResponse, ConnectTo, EstablishCause, FromBefore, ResponseFrom, head_frame_of}

@@ -15,7 +15,7 @@ use Rattle.wt_plan.specs.FactsNow.{DriverAnswers, facts_now}
 use Rattle.wt_plan.specs.Planned.{defined_plan}
 use Rattle.wt_plan.specs.PlansAgree.{KeepsRequestEnd, TellsFacts, driver_facts}
 use Rattle.wt_plan.specs.declared.plan.Plan as code
-use Rattle.wt_reached.proofs.Handshaking.{reached-holds}
+use Rattle.wt_laws.proofs.Handshaking.{reached-holds}
 use Rattle.wt_seam.specs.State.{TransportState}
 use Rattle.wt_seam.specs.Step.{unread_now}
 use Rattle.wt_calls.proofs.Ends.{step_delivers}
@@ -35,8 +35,8 @@ use Rattle.wt_turn.specs.Log.{CallRecord, HandshakeOver, Log, ResponseStarted, c
 use Rattle.wt_turn.specs.declared.action.Action.{Action}
 use Rattle.wt_turn.specs.declared.call.Call.{Call}
 use Rattle.wt_turn.specs.declared.call.Call.TheVariants as calls
-use Rattle.wt_reply.specs.declared.reply.Reply.{Reply}
-use Rattle.wt_reply.specs.declared.reply.Reply.TheVariants as replies
+use Rattle.wt_turn.specs.declared.reply.Reply.{Reply}
+use Rattle.wt_turn.specs.declared.reply.Reply.TheVariants as replies
 use Rattle.wt_wire.specs.declared.error.OutOfMemory.{OutOfMemory}
 use Rattle.wt_wire.specs.declared.side.Side.{Side}
 

@@ -18,7 +18,7 @@ use Rattle.wt_session_spec.specs.Plan.{Step, only_reply, perform}
 use Rattle.wt_session_spec.specs.SessionState.{session_state}
 use Rattle.wt_turn.specs.declared.action.Action.TheVariants as actions
 use Rattle.wt_turn.specs.declared.datagram_fact.DatagramFact.TheVariants as facts
-use Rattle.wt_reply.specs.declared.reply.Reply.TheVariants as replies
+use Rattle.wt_turn.specs.declared.reply.Reply.TheVariants as replies
 
 module _ (side : Side) (log : Log) where
   -- ---- opening streams

@@ -9,7 +9,7 @@ use Rattle.wt_seam_spec.specs.Reports.{end_of, stop_of}
 use Rattle.wt_streams.specs.HalfRules.{all_unless, all_written, finish_unless, read_answer, nothing_unread, read_exact_answer, stopped_unless, too_few, write_refusal, written_count, written_unless}
 use Rattle.wt_turn.specs.Log.{Log, events_of, is_open}
 use Rattle.wt_turn.specs.declared.poll.Poll.TheVariants.{Pending, Ready}
-use Rattle.wt_error.specs.declared.stream_error.StreamWriteError.{StreamWriteError}
+use Rattle.wt_turn.specs.declared.stream_error.StreamWriteError.{StreamWriteError}
 use Rattle.wt_wire.specs.declared.side.Side.{Side}
 use Rattle.wt_wire.specs.declared.side.StreamEnd.{StreamEnd}
 use Rattle.wt_spec.specs.Effect.{poll_only}
@@ -20,10 +20,10 @@ use Rattle.wt_session_spec.specs.HalfPlans.{bytes_out, exact_plan, finish_plan, 
 use Rattle.wt_session_spec.specs.HalfPlans as plans
 use Rattle.wt_session_spec.specs.Plan.{Step, perform, send_and_reply}
 use Rattle.wt_wire.specs.declared.side.StreamEnd.TheVariants as ends
-use Rattle.wt_reply.specs.declared.reply.Reply.TheVariants as replies
-use Rattle.wt_error.specs.declared.stream_error.StreamReadError.TheVariants as reads
-use Rattle.wt_error.specs.declared.stream_error.StreamReadExactError.TheVariants as exacts
-use Rattle.wt_error.specs.declared.stream_error.StreamWriteError.TheVariants as writes
+use Rattle.wt_turn.specs.declared.reply.Reply.TheVariants as replies
+use Rattle.wt_turn.specs.declared.stream_error.StreamReadError.TheVariants as reads
+use Rattle.wt_turn.specs.declared.stream_error.StreamReadExactError.TheVariants as exacts
+use Rattle.wt_turn.specs.declared.stream_error.StreamWriteError.TheVariants as writes
 
 -- ---- writing
 

@@ -3,3 +3,10 @@ pub mod HandshakeSame
 pub mod HalfSame
 pub mod ConnectionSame
 pub mod Theorems
+pub mod SendsMay
+pub mod OwnActions
+pub mod OwnActionsKeep
+pub mod Classified
+pub mod RecordsMay
+pub mod OwnRecords
+pub mod OwnSpares

@@ -25,7 +25,7 @@ use Rattle.wt_session_spec.specs.Plan.{AcceptBi, AcceptUni, Plan, Receive, only_
 use Rattle.wt_session_spec.specs.Plans.{in_session_now, may_call_now, plan_of, with_half, with_receiving, with_sending, with_session}
 use Rattle.wt_session_spec.specs.SessionState.{session_after, session_state}
 use Rattle.wt_turn.specs.declared.call.Call.TheVariants as calls
-use Rattle.wt_reply.specs.declared.reply.Reply.TheVariants as replies
+use Rattle.wt_turn.specs.declared.reply.Reply.TheVariants as replies
 
 module _ (side : Side) (log : Log) where
   -- a call on the established session

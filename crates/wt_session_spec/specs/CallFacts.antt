@@ -9,7 +9,7 @@ use Rattle.wt_seam_spec.specs.Sent.{sent_on}
 use Rattle.wt_seam_spec.specs.Streams.{contents, local_bi, local_count}
 use Rattle.wt_streams.specs.HalfRules.{ReceivingHalf, SendingHalf}
 use Rattle.wt_turn.specs.Log.{Log, actions_of, calls_of, events_of, is_open}
-use Rattle.wt_error.specs.declared.connection_error.ConnectionError.{ConnectionError}
+use Rattle.wt_turn.specs.declared.connection_error.ConnectionError.{ConnectionError}
 use Rattle.wt_turn.specs.declared.datagram_fact.DatagramFact.{DatagramFact}
 use Rattle.wt_wire.specs.declared.side.Side.{Side}
 use Rattle.wt_wire.specs.declared.side.StreamEnd.{StreamEnd}

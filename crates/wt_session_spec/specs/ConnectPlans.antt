@@ -4,7 +4,7 @@ use Rattle.url.specs.Parser.{parse_url}
 use Rattle.url.specs.Parts.{Parts, host_or_empty}
 use Rattle.url.specs.declared.error.ParseError.{ParseError}
 use Rattle.wt_turn.specs.Log.{ConnectStarted}
-use Rattle.wt_error.specs.declared.connecting_error.ConnectingError.{ConnectingError}
+use Rattle.wt_turn.specs.declared.connecting_error.ConnectingError.{ConnectingError}
 use Rattle.wt_wire.specs.HeaderList.{Fields}
 use Rattle.wt_wire.specs.declared.addr.Addr.{Addr}
 use Rattle.wt_wire.specs.declared.lookup.ConnectOutcome.{ConnectOutcome}
@@ -13,9 +13,9 @@ use Rattle.wt_spec.specs.Connect.{address_of, authority_of, outcome_error, path_
 use Rattle.wt_session_spec.specs.HandshakePlans.{failed_connect}
 use Rattle.wt_session_spec.specs.Plan.{Plan, Step}
 use Rattle.wt_turn.specs.declared.action.Action.TheVariants as actions
-use Rattle.wt_error.specs.declared.connecting_error.ConnectingError.TheVariants as connects
-use Rattle.wt_error.specs.declared.connecting_error.UrlRefusal.TheVariants as refusals
-use Rattle.wt_reply.specs.declared.reply.Reply.TheVariants as replies
+use Rattle.wt_turn.specs.declared.connecting_error.ConnectingError.TheVariants as connects
+use Rattle.wt_turn.specs.declared.connecting_error.UrlRefusal.TheVariants as refusals
+use Rattle.wt_turn.specs.declared.reply.Reply.TheVariants as replies
 
 -- the transport is asked for a connection to this address, with this server name
 abbrev pub dial_plan : List ℕ → List ℕ → List ℕ → Fields → Addr → Plan

@@ -10,10 +10,10 @@ use Rattle.wt_session_spec.specs.HandshakePlans.{AllOut, Ended, HeadProgress, Re
 use Rattle.wt_session_spec.specs.Plan.{Plan, Step, only_reply, send_and_reply, while_open}
 use Rattle.wt_session_spec.specs.SessionState.{SessionState, is_opening_now}
 use Rattle.wt_turn.specs.declared.action.Action.TheVariants as actions
-use Rattle.wt_error.specs.declared.stream_error.SendDatagramError.TheVariants as datagrams
+use Rattle.wt_turn.specs.declared.stream_error.SendDatagramError.TheVariants as datagrams
 use Rattle.wt_turn.specs.declared.datagram_fact.DatagramFact.TheVariants as facts
-use Rattle.wt_error.specs.declared.stream_error.StreamOpeningError.TheVariants as openings
-use Rattle.wt_reply.specs.declared.reply.Reply.TheVariants as replies
+use Rattle.wt_turn.specs.declared.stream_error.StreamOpeningError.TheVariants as openings
+use Rattle.wt_turn.specs.declared.reply.Reply.TheVariants as replies
 
 -- ---- opening streams
 

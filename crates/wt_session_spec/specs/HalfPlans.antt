@@ -6,18 +6,18 @@ use Rattle.wt_turn.specs.Log.{BytesRead, CallRecord, Polled, PrioritySet, ResetU
 use Rattle.wt_turn.specs.declared.action.Action.{Action}
 use Rattle.wt_turn.specs.declared.poll.Poll.{Poll}
 use Rattle.wt_turn.specs.declared.poll.Poll.TheVariants.{Pending, Ready}
-use Rattle.wt_reply.specs.declared.reply.Reply.{Reply}
-use Rattle.wt_error.specs.declared.stream_error.ClosedStream.{ClosedStream}
-use Rattle.wt_error.specs.declared.stream_error.StreamReadError.{StreamReadError}
-use Rattle.wt_error.specs.declared.stream_error.StreamReadExactError.{StreamReadExactError}
-use Rattle.wt_error.specs.declared.stream_error.StreamWriteError.{StreamWriteError}
-use Rattle.wt_error.specs.declared.stream_error.WriteAll.{WriteAll}
+use Rattle.wt_turn.specs.declared.reply.Reply.{Reply}
+use Rattle.wt_turn.specs.declared.stream_error.ClosedStream.{ClosedStream}
+use Rattle.wt_turn.specs.declared.stream_error.StreamReadError.{StreamReadError}
+use Rattle.wt_turn.specs.declared.stream_error.StreamReadExactError.{StreamReadExactError}
+use Rattle.wt_turn.specs.declared.stream_error.StreamWriteError.{StreamWriteError}
+use Rattle.wt_turn.specs.declared.stream_error.WriteAll.{WriteAll}
 use Rattle.wt_session_spec.specs.CallFacts.{CallFacts, receiving_facts}
 use Rattle.wt_session_spec.specs.Plan.{Plan, Step, only_reply, send_and_reply, while_open}
 use Rattle.wt_turn.specs.declared.action.Action.TheVariants as actions
-use Rattle.wt_error.specs.declared.stream_error.StreamReadExactError.TheVariants as exacts
-use Rattle.wt_reply.specs.declared.reply.Reply.TheVariants as replies
-use Rattle.wt_error.specs.declared.stream_error.WriteAll.TheVariants as all
+use Rattle.wt_turn.specs.declared.stream_error.StreamReadExactError.TheVariants as exacts
+use Rattle.wt_turn.specs.declared.reply.Reply.TheVariants as replies
+use Rattle.wt_turn.specs.declared.stream_error.WriteAll.TheVariants as all
 
 -- ---- writing
 

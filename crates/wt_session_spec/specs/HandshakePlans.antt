@@ -7,8 +7,8 @@ use Rattle.wt_seam_spec.specs.Streams.{local_bi}
 use Rattle.wt_streams.specs.HalfRules.{SendingHalf}
 use Rattle.wt_turn.specs.Log.{CallRecord, Polled, RequestDelivered, ResponseStarted}
 use Rattle.wt_turn.specs.declared.action.Action.{Action}
-use Rattle.wt_error.specs.declared.connecting_error.ConnectingError.{ConnectingError}
-use Rattle.wt_error.specs.declared.connection_error.ConnectionError.{ConnectionError}
+use Rattle.wt_turn.specs.declared.connecting_error.ConnectingError.{ConnectingError}
+use Rattle.wt_turn.specs.declared.connection_error.ConnectionError.{ConnectionError}
 use Rattle.wt_wire.specs.Codes.{code_of}
 use Rattle.wt_spec.specs.Effect.{is_empty}
 use Rattle.wt_spec.specs.Handshake.{Connecting, HandshakeState, Responding, has_success, request_fields_of}
@@ -17,10 +17,10 @@ use Rattle.wt_session_spec.specs.CallFacts.{CallFacts}
 use Rattle.wt_session_spec.specs.Plan.{Establish, Plan, Step, closing_with, fail_with, only_reply, send_and_reply}
 use Rattle.wt_session_spec.specs.SessionState.{SessionState}
 use Rattle.wt_turn.specs.declared.action.Action.TheVariants as actions
-use Rattle.wt_error.specs.declared.connecting_error.ConnectingError.TheVariants as connects
-use Rattle.wt_error.specs.declared.connection_error.ConnectionError.TheVariants as errors
+use Rattle.wt_turn.specs.declared.connecting_error.ConnectingError.TheVariants as connects
+use Rattle.wt_turn.specs.declared.connection_error.ConnectionError.TheVariants as errors
 use Rattle.wt_wire.specs.declared.error.ErrorCode.TheVariants as h3
-use Rattle.wt_reply.specs.declared.reply.Reply.TheVariants as replies
+use Rattle.wt_turn.specs.declared.reply.Reply.TheVariants as replies
 use Rattle.wt_proto.specs.declared.response_walk.ResponseWalk.TheVariants as responses
 
 -- ---- a stream's head, which goes out as credit lets it

@@ -6,3 +6,6 @@ pub mod ConnectPlans
 pub mod ConnectionPlans
 pub mod HalfPlans
 pub mod Plans
+pub mod OwnActions
+pub mod RecordFacts
+pub mod Performing

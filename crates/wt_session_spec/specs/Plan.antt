@@ -3,13 +3,13 @@ use Rattle.std.specs.Prelude.{[], ◌∷◌, List, if◌then◌else◌, ℕ}
 use Rattle.wt_seam_spec.specs.Streams.{peer_bi, peer_uni}
 use Rattle.wt_turn.specs.Log.{CallRecord, HandshakeOver, Log, Polled, SessionEstablished}
 use Rattle.wt_turn.specs.declared.action.Action.{Action}
-use Rattle.wt_reply.specs.declared.reply.Reply.{Reply}
+use Rattle.wt_turn.specs.declared.reply.Reply.{Reply}
 use Rattle.wt_wire.specs.declared.side.Side.{Side}
 use Rattle.wt_spec.specs.Connection.{accept_stream, receive_datagram}
 use Rattle.wt_spec.specs.Effect.{Effect, log_call, poll_only, reply_with}
 use Rattle.wt_session_spec.specs.CallFacts.{CallFacts}
 use Rattle.wt_turn.specs.declared.action.Action.TheVariants as actions
-use Rattle.wt_reply.specs.declared.reply.Reply.TheVariants as replies
+use Rattle.wt_turn.specs.declared.reply.Reply.TheVariants as replies
 
 -- what a call does
 pub data Plan : Type 0 where

@@ -14,7 +14,7 @@ use Rattle.wt_session_spec.specs.HandshakePlans.{handshake_plan, incoming_plan, 
 use Rattle.wt_session_spec.specs.Plan.{AcceptBi, AcceptUni, Plan, Receive, only_reply}
 use Rattle.wt_session_spec.specs.SessionState.{SessionState, has_receiving_now, has_sending_now}
 use Rattle.wt_turn.specs.declared.call.Call.TheVariants as calls
-use Rattle.wt_reply.specs.declared.reply.Reply.TheVariants as replies
+use Rattle.wt_turn.specs.declared.reply.Reply.TheVariants as replies
 
 -- a call on the established session; without one the answer is NoSession
 abbrev pub in_session_now : (ℕ → Plan) → Option (ℕ × ℕ) → Plan

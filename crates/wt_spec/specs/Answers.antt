@@ -20,7 +20,7 @@ use Rattle.wt_spec.specs.Effect.{Effect, poll_only, reply_with}
 use Rattle.wt_spec.specs.Halves.{finish, has_receiving_half, has_sending_half, on_half, priority, read, read_exact, reset, set_priority, stop_receiving, stopped, write, write_all}
 use Rattle.wt_spec.specs.Handshake.{awaits_answer, awaits_request, continue_handshake, handshake_state, incoming, is_continuable, response_head, start_response}
 use Rattle.wt_turn.specs.declared.call.Call.TheVariants as calls
-use Rattle.wt_reply.specs.declared.reply.Reply.TheVariants as replies
+use Rattle.wt_turn.specs.declared.reply.Reply.TheVariants as replies
 use Rattle.wt_turn.specs.declared.turn.Turn.TheVariants as turns
 
 -- ---- calls

@@ -11,7 +11,7 @@ use Rattle.wt_seam_spec.specs.Reports.{datagram_fact, datagrams_of}
 use Rattle.wt_seam_spec.specs.Streams.{peer_count}
 use Rattle.wt_turn.specs.Log.{CallRecord, DatagramPassed, DatagramReceived, Log, OpeningFailed, OpeningStarted, StreamAccepted, StreamPassed, calls_of, events_of, is_open}
 use Rattle.wt_turn.specs.declared.datagram_fact.DatagramFact.{DatagramFact}
-use Rattle.wt_reply.specs.declared.reply.Reply.{Reply}
+use Rattle.wt_turn.specs.declared.reply.Reply.{Reply}
 use Rattle.wt_wire.specs.Codes.{code_of}
 use Rattle.wt_wire.specs.Ids.{is_bidirectional}
 use Rattle.wt_wire.specs.Varint.{varint_bytes}
@@ -21,11 +21,11 @@ use Rattle.wt_spec.specs.Effect.{Effect, head_left, is_covered, log_call, pendin
 use Rattle.wt_spec.specs.Handshake.{is_refused}
 use Rattle.wt_spec.specs.StreamTable.{Classified, dispatched_streams}
 use Rattle.wt_turn.specs.declared.action.Action.TheVariants as actions
-use Rattle.wt_error.specs.declared.stream_error.SendDatagramError.TheVariants as datagrams
+use Rattle.wt_turn.specs.declared.stream_error.SendDatagramError.TheVariants as datagrams
 use Rattle.wt_turn.specs.declared.datagram_fact.DatagramFact.TheVariants as facts
 use Rattle.wt_wire.specs.declared.error.ErrorCode.TheVariants as h3
-use Rattle.wt_error.specs.declared.stream_error.StreamOpeningError.TheVariants as openings
-use Rattle.wt_reply.specs.declared.reply.Reply.TheVariants as replies
+use Rattle.wt_turn.specs.declared.stream_error.StreamOpeningError.TheVariants as openings
+use Rattle.wt_turn.specs.declared.reply.Reply.TheVariants as replies
 use Rattle.wt_proto.specs.declared.verdict.Verdict.TheVariants as verdicts
 
 -- ---- accepting streams

@@ -4,17 +4,17 @@ use Rattle.wt_seam_spec.specs.Outgoing.{bytes_within_credit, if_open}
 use Rattle.wt_seam_spec.specs.Reports.{loss_of}
 use Rattle.wt_seam_spec.specs.Sent.{sent_on}
 use Rattle.wt_turn.specs.Log.{CallRecord, Called, Log, Polled, actions_of, events_of, is_open, with_actions}
-use Rattle.wt_error.specs.ProtoError.{error_of_loss}
+use Rattle.wt_turn.specs.ProtoError.{error_of_loss}
 use Rattle.wt_turn.specs.declared.action.Action.{Action}
-use Rattle.wt_error.specs.declared.connection_error.ConnectionError.{ConnectionError}
-use Rattle.wt_error.specs.declared.loss.LossReason.{LossReason}
-use Rattle.wt_reply.specs.declared.reply.Reply.{Reply}
+use Rattle.wt_turn.specs.declared.connection_error.ConnectionError.{ConnectionError}
+use Rattle.wt_turn.specs.declared.loss.LossReason.{LossReason}
+use Rattle.wt_turn.specs.declared.reply.Reply.{Reply}
 use Rattle.wt_wire.specs.declared.side.Side.{Side}
 use Rattle.wt_spec.specs.Driver.{log_and_flush, stream_table}
 use Rattle.wt_spec.specs.StreamTable.{ByFault, BySession, Ending}
 use Rattle.wt_turn.specs.declared.action.Action.TheVariants as actions
-use Rattle.wt_error.specs.declared.connection_error.ConnectionError.TheVariants as errors
-use Rattle.wt_reply.specs.declared.reply.Reply.TheVariants as replies
+use Rattle.wt_turn.specs.declared.connection_error.ConnectionError.TheVariants as errors
+use Rattle.wt_turn.specs.declared.reply.Reply.TheVariants as replies
 
 -- the log with all that a turn adds, and the reply
 pub record Effect : Type 0 where

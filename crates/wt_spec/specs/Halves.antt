@@ -9,8 +9,8 @@ use Rattle.wt_seam_spec.specs.Sent.{is_finished, is_reset, priority_of}
 use Rattle.wt_seam_spec.specs.Streams.{contents, local_uni, peer_uni}
 use Rattle.wt_turn.specs.Log.{BytesRead, CallRecord, Log, PrioritySet, ResetUnsent, StreamGivenUp, actions_of, calls_of, events_of, is_open}
 use Rattle.wt_turn.specs.declared.action.Action.{Action}
-use Rattle.wt_reply.specs.declared.reply.Reply.{Reply}
-use Rattle.wt_error.specs.declared.stream_error.StreamWriteError.{StreamWriteError}
+use Rattle.wt_turn.specs.declared.reply.Reply.{Reply}
+use Rattle.wt_turn.specs.declared.stream_error.StreamWriteError.{StreamWriteError}
 use Rattle.wt_wire.specs.declared.side.Side.{Side}
 use Rattle.wt_wire.specs.declared.side.StreamEnd.{StreamEnd}
 use Rattle.wt_spec.specs.Connection.{accepts_stream}
@@ -19,11 +19,11 @@ use Rattle.wt_spec.specs.Effect.{Effect, log_call, poll_only, poll_sending, repl
 use Rattle.wt_spec.specs.StreamTable.{verdict_of}
 use Rattle.wt_turn.specs.declared.action.Action.TheVariants as actions
 use Rattle.wt_wire.specs.declared.side.StreamEnd.TheVariants as ends
-use Rattle.wt_error.specs.declared.stream_error.StreamReadExactError.TheVariants as exacts
-use Rattle.wt_error.specs.declared.stream_error.StreamReadError.TheVariants as reads
-use Rattle.wt_reply.specs.declared.reply.Reply.TheVariants as replies
+use Rattle.wt_turn.specs.declared.stream_error.StreamReadExactError.TheVariants as exacts
+use Rattle.wt_turn.specs.declared.stream_error.StreamReadError.TheVariants as reads
+use Rattle.wt_turn.specs.declared.reply.Reply.TheVariants as replies
 use Rattle.wt_proto.specs.declared.verdict.Verdict.TheVariants as verdicts
-use Rattle.wt_error.specs.declared.stream_error.StreamWriteError.TheVariants as writes
+use Rattle.wt_turn.specs.declared.stream_error.StreamWriteError.TheVariants as writes
 
 -- ---- which halves it has
 

@@ -13,9 +13,9 @@ use Rattle.wt_seam_spec.specs.Sent.{is_finished}
 use Rattle.wt_seam_spec.specs.Streams.{contents, local_bi, local_count}
 use Rattle.wt_turn.specs.Log.{CallRecord, ConnectStarted, HandshakeOver, Log, Polled, RequestDelivered, ResponseStarted, SessionEstablished, actions_of, calls_of, events_of, is_open}
 use Rattle.wt_turn.specs.declared.action.Action.{Action}
-use Rattle.wt_error.specs.declared.connecting_error.ConnectingError.{ConnectingError}
-use Rattle.wt_error.specs.declared.connection_error.ConnectionError.{ConnectionError}
-use Rattle.wt_reply.specs.declared.reply.Reply.{Reply}
+use Rattle.wt_turn.specs.declared.connecting_error.ConnectingError.{ConnectingError}
+use Rattle.wt_turn.specs.declared.connection_error.ConnectionError.{ConnectionError}
+use Rattle.wt_turn.specs.declared.reply.Reply.{Reply}
 use Rattle.wt_wire.specs.Codes.{code_of}
 use Rattle.wt_wire.specs.HeaderList.{Fields, with_field}
 use Rattle.wt_wire.specs.Status.{is_successful}
@@ -24,10 +24,10 @@ use Rattle.wt_spec.specs.Driver.{call_view, settings_came, stream_table}
 use Rattle.wt_spec.specs.Effect.{Effect, close_when_open, driver_error, head_left, is_covered, is_empty, log_call, poll_only, poll_sending, reply_with, transport_error}
 use Rattle.wt_spec.specs.StreamTable.{Classified, dispatched_streams, verdict_of}
 use Rattle.wt_turn.specs.declared.action.Action.TheVariants as actions
-use Rattle.wt_error.specs.declared.connecting_error.ConnectingError.TheVariants as connects
-use Rattle.wt_error.specs.declared.connection_error.ConnectionError.TheVariants as errors
+use Rattle.wt_turn.specs.declared.connecting_error.ConnectingError.TheVariants as connects
+use Rattle.wt_turn.specs.declared.connection_error.ConnectionError.TheVariants as errors
 use Rattle.wt_wire.specs.declared.error.ErrorCode.TheVariants as h3
-use Rattle.wt_reply.specs.declared.reply.Reply.TheVariants as replies
+use Rattle.wt_turn.specs.declared.reply.Reply.TheVariants as replies
 use Rattle.wt_proto.specs.declared.response_walk.ResponseWalk.TheVariants as responses
 use Rattle.wt_proto.specs.declared.verdict.Verdict.TheVariants as verdicts
 

@@ -5,15 +5,15 @@ use Rattle.wt_wire.specs.declared.side.StreamEnd.{StreamEnd}
 use Rattle.wt_wire.specs.declared.side.StreamEnd.TheVariants as ends
 use Rattle.wt_turn.specs.declared.poll.Poll.{Poll}
 use Rattle.wt_turn.specs.declared.poll.Poll.TheVariants.{Ready, Pending}
-use Rattle.wt_error.specs.declared.stream_error.ClosedStream.{ClosedStream}
-use Rattle.wt_error.specs.declared.stream_error.StreamWriteError.{StreamWriteError}
-use Rattle.wt_error.specs.declared.stream_error.StreamWriteError.TheVariants as write_errors
-use Rattle.wt_error.specs.declared.stream_error.StreamReadError.{StreamReadError}
-use Rattle.wt_error.specs.declared.stream_error.StreamReadError.TheVariants as read_errors
-use Rattle.wt_error.specs.declared.stream_error.StreamReadExactError.{StreamReadExactError}
-use Rattle.wt_error.specs.declared.stream_error.StreamReadExactError.TheVariants as exact_errors
-use Rattle.wt_error.specs.declared.stream_error.WriteAll.{WriteAll}
-use Rattle.wt_error.specs.declared.stream_error.WriteAll.TheVariants as all
+use Rattle.wt_turn.specs.declared.stream_error.ClosedStream.{ClosedStream}
+use Rattle.wt_turn.specs.declared.stream_error.StreamWriteError.{StreamWriteError}
+use Rattle.wt_turn.specs.declared.stream_error.StreamWriteError.TheVariants as write_errors
+use Rattle.wt_turn.specs.declared.stream_error.StreamReadError.{StreamReadError}
+use Rattle.wt_turn.specs.declared.stream_error.StreamReadError.TheVariants as read_errors
+use Rattle.wt_turn.specs.declared.stream_error.StreamReadExactError.{StreamReadExactError}
+use Rattle.wt_turn.specs.declared.stream_error.StreamReadExactError.TheVariants as exact_errors
+use Rattle.wt_turn.specs.declared.stream_error.WriteAll.{WriteAll}
+use Rattle.wt_turn.specs.declared.stream_error.WriteAll.TheVariants as all
 
 -- ---- what is known of a half
 

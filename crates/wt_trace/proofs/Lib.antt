@@ -1,1 +1,5 @@
+pub mod OutsideLaws
+pub mod GenerateLaws
+pub mod SummaryLaws
+pub mod CommandLaws
 pub mod ProgramLaws

@@ -4,9 +4,9 @@ use Rattle.std.specs.Prelude.{Option, Some, None, IfSome, IsTrue, Result, Ok, Er
 use Rattle.std.specs.Io.KnownBytes.{Appends, Consumes}
 use Rattle.wt_script.specs.declared.script.Script.{Script}
 use Rattle.wt_script.specs.declared.script.ScriptRefused.{ScriptRefused}
-use Rattle.wt_commands.specs.declared.command.Command.{Command}
-use Rattle.wt_commands.specs.Command.{command_script}
-use Rattle.wt_io.specs.Input.{script_limit}
+use Rattle.wt_trace.specs.declared.command.Command.{Command}
+use Rattle.wt_trace.specs.Command.{command_script}
+use Rattle.wt_trace.specs.Input.{script_limit}
 use Rattle.wt_trace.specs.Outcome.{script_outcome, too_long}
 use Rattle.wt_trace.specs.Program.{AnswersInput, AnswersKeepLaws, is_run_status}
 use Rattle.wt_run.proofs.LawsHold.{laws}

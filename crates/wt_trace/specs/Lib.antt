@@ -1,2 +1,7 @@
+pub mod Input
+pub mod Outside
+pub mod Generate
+pub mod Command
+pub mod Summary
 pub mod Outcome
 pub mod Program

@@ -5,12 +5,12 @@ use Rattle.wt_turn.specs.declared.answer.Answer.{Answer}
 use Rattle.wt_script.specs.declared.script.Script.{Script}
 use Rattle.wt_script.specs.declared.script.ScriptRefused.{ScriptRefused}
 use Rattle.wt_spec.specs.Answers.{AtUnlawful, Finished, Run, RunEnd, run}
-use Rattle.wt_print.specs.Print.{print}
-use Rattle.wt_io.specs.Input.{script_limit}
-use Rattle.wt_commands.specs.declared.command.Command.{Command}
-use Rattle.wt_commands.specs.declared.command.Command.TheVariants.{Large, Trace}
-use Rattle.wt_commands.specs.Command.{command_script}
-use Rattle.wt_commands.specs.Summary.{summary_line, summary_of}
+use Rattle.wt_script.specs.Print.{print}
+use Rattle.wt_trace.specs.Input.{script_limit}
+use Rattle.wt_trace.specs.declared.command.Command.{Command}
+use Rattle.wt_trace.specs.declared.command.Command.TheVariants.{Large, Trace}
+use Rattle.wt_trace.specs.Command.{command_script}
+use Rattle.wt_trace.specs.Summary.{summary_line, summary_of}
 
 -- a status, and the text that is written
 pub record Outcome : Type 0 where

@@ -4,9 +4,9 @@ use Rattle.std.specs.Io.KnownBytes.{Appends, Consumes}
 use Rattle.wt_script.specs.declared.script.Script.{Script}
 use Rattle.wt_spec.specs.Answers.{run}
 use Rattle.wt_run.specs.Laws.{KeepsLaws}
-use Rattle.wt_io.specs.Input.{script_limit}
-use Rattle.wt_commands.specs.declared.command.Command.{Command}
-use Rattle.wt_commands.specs.Command.{command_of, command_script}
+use Rattle.wt_trace.specs.Input.{script_limit}
+use Rattle.wt_trace.specs.declared.command.Command.{Command}
+use Rattle.wt_trace.specs.Command.{command_of, command_script}
 use Rattle.wt_trace.specs.Outcome.{Outcome, input_outcome, run_outcome, usage}
 
 -- the outcome of an input for the command that is asked for, the usage line where none is

@@ -2,18 +2,18 @@
 ghost use Rattle.std.specs.Prelude.{◌≡◌, ◌++◌, ◌≤◌, ◌≢◌, Err, IfOk, IsTrue, OnOk, codes, length};
 ghost use Rattle.std.specs.Io.KnownBytes.{Appends};
 ghost use Rattle.wt_spec.specs.Answers.{run};
-ghost use Rattle.wt_commands.specs.Outside.{AppendsPart, Rose};
-ghost use Rattle.wt_io.specs.Input.{script_limit};
-ghost use Rattle.wt_io.specs.declared.cut_short.CutShort.TheVariants as cuts;
+ghost use Rattle.wt_trace.specs.Outside.{AppendsPart, Rose};
+ghost use Rattle.wt_trace.specs.Input.{script_limit};
+ghost use Rattle.wt_trace.specs.declared.cut_short.CutShort.TheVariants as cuts;
 ghost use Rattle.wt_trace.specs.Outcome.{finished_text, input_outcome, is_input_status, is_script_status, refused_at, run_outcome, stop_line, stopped_text};
 
+use crate::command::Command;
+use crate::command_script::script_for;
+use crate::cut_short::CutShort;
+use crate::input::SCRIPT_LIMIT;
+use crate::output::{number_line, write_all, write_answers, write_summary};
+use crate::outside::Sink;
 use std::alloc::Global;
-use wt_commands::command::Command;
-use wt_commands::command_script::script_for;
-use wt_commands::outside::Sink;
-use wt_io::cut_short::CutShort;
-use wt_io::input::SCRIPT_LIMIT;
-use wt_io::output::{number_line, write_all, write_answers, write_summary};
 use wt_run::trace::{TraceError, run_trace};
 use wt_script::script::Script;
 use wt_turn::answer::Answer;

@@ -1,20 +1,20 @@
 //! The program: a script comes in, the lines of its answers go out, or one line that sums them up.
 ghost use Rattle.std.specs.Prelude.{◌≡◌, List, Option, map, string_bytes, ◌≢◌, ◌⊎◌, IfOk, IfErr, IsErr, IfSome, IsTrue, None, MatchResult, OnOk, Err, false};
 ghost use Rattle.std.specs.Io.KnownBytes.{Appends, IsAtEnd};
-ghost use Rattle.wt_commands.specs.Outside.{Rose, AppendsPart};
-ghost use Rattle.wt_commands.specs.Command.{command_of};
-ghost use Rattle.wt_io.specs.Input.{ReadsFew};
-ghost use Rattle.wt_io.specs.declared.cut_short.CutShort.TheVariants as cuts;
+ghost use Rattle.wt_trace.specs.Outside.{Rose, AppendsPart};
+ghost use Rattle.wt_trace.specs.Command.{command_of};
+ghost use Rattle.wt_trace.specs.Input.{ReadsFew};
+ghost use Rattle.wt_trace.specs.declared.cut_short.CutShort.TheVariants as cuts;
 ghost use Rattle.wt_trace.specs.Outcome.{input_outcome, is_input_status, is_script_status, usage};
 ghost use Rattle.wt_trace.specs.Program.{is_cut_short, is_run_status, asked_outcome, outcome, AnswersInput, AnswersKeepLaws};
 
 use crate::answer::answer_input;
+use crate::command::{Command, read_command};
+use crate::cut_short::CutShort;
+use crate::input::read_input;
+use crate::output::write_all;
+use crate::outside::{Sink, Source};
 use std::alloc::Global;
-use wt_commands::command::{Command, read_command};
-use wt_commands::outside::{Sink, Source};
-use wt_io::cut_short::CutShort;
-use wt_io::input::read_input;
-use wt_io::output::write_all;
 
 /// The status where the program ran out of memory.
 pub const OUT_OF_MEMORY: u8 = 6;

@@ -1,5 +1,8 @@
 //! What the contracts leave open: that memory suffices where there is enough, and worked cases.
+mod errors;
 mod generated;
 mod outside;
+mod print;
 mod program;
+mod script;
 mod trace;

@@ -1,4 +1,5 @@
-//! Tests of the transport: its streams, its calls, the channels beside it, and a driver's inbox. There are tests here and no code.
+//! Tests of the transport: its streams, its calls, the channels beside it, a driver's inbox, and the streams over it:
+//! typed ones and critical ones. There are tests here and no code.
 #![tactic(auto)]
 
 #[cfg(test)]

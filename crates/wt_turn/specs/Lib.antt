@@ -1,3 +1,6 @@
+pub mod Close
+pub mod ProtoReason
+pub mod ProtoError
 pub mod Log
 pub mod Records
 pub mod Turns

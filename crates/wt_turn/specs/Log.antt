@@ -6,7 +6,7 @@ use Rattle.std.specs.Option.{option_or}
 use Rattle.wt_turn.specs.declared.action.Action.{Action}
 use Rattle.wt_turn.specs.declared.action.Action.TheVariants as actions
 use Rattle.wt_turn.specs.declared.datagram_fact.DatagramFact.{DatagramFact}
-use Rattle.wt_error.specs.declared.loss.LossReason.{LossReason}
+use Rattle.wt_turn.specs.declared.loss.LossReason.{LossReason}
 
 -- what the transport tells, but for the bytes of a stream
 pub data Event : Type 0 where

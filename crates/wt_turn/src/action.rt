@@ -1,9 +1,9 @@
 //! What goes out to the transport.
 ghost use Rattle.std.specs.Prelude.{◌≡◌, ◌↔◌, IfOk, IsTrue};
 
+use crate::piece::Piece;
 use crate::sequence::{Element, Sequence};
 use std::alloc::Global;
-use wt_error::piece::Piece;
 use wt_wire::addr::Addr;
 use wt_wire::error::OutOfMemory;
 use wt_wire::ids::StreamId;

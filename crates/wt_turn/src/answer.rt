@@ -2,9 +2,9 @@
 ghost use Rattle.std.specs.Prelude.{◌≡◌, ◌↔◌, IfOk, IsTrue};
 
 use crate::action::Actions;
+use crate::reply::Reply;
 use crate::sequence::{Element, Sequence};
 use std::alloc::Global;
-use wt_reply::reply::Reply;
 use wt_wire::error::OutOfMemory;
 
 /// The answer to one turn.

@@ -1,8 +1,8 @@
 //! What the application calls.
 ghost use Rattle.std.specs.Prelude.{◌≡◌, ◌↔◌, IfOk, IsTrue};
 
+use crate::piece::Piece;
 use std::alloc::Global;
-use wt_error::piece::Piece;
 use wt_wire::error::OutOfMemory;
 use wt_wire::header_list::HeaderList;
 use wt_wire::ids::StreamId;

@@ -1,6 +1,6 @@
 //! What a call of the application did.
 
-use wt_error::piece::Piece;
+use crate::piece::Piece;
 use wt_wire::ids::{SessionId, StreamId};
 use wt_wire::text::Text;
 use wt_wire::varint::VarInt;

@@ -4,7 +4,7 @@ ghost use Rattle.std.specs.Prelude.{◌≡◌, ◌∷◌, [], ℕ, true, false, 
 ghost use Rattle.wt_turn.specs.Log.{Log, Event, Entry, CallRecord, Received, Reported, ReportedLate, Sent, Called, Loss, PeerUni, PeerBi, Polled, events_of, all_events_of, actions_of, calls_of, is_open, with_actions};
 ghost use Rattle.wt_turn.specs.declared.action.Action.{Action};
 ghost use Rattle.wt_turn.specs.declared.action.Action.TheVariants as actions;
-ghost use Rattle.wt_error.specs.declared.loss.LossReason.{LossReason};
+ghost use Rattle.wt_turn.specs.declared.loss.LossReason.{LossReason};
 
 /// Entries that tell of an event, an action and a call, before and after the end.
 pub fn queries()

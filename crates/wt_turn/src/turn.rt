@@ -3,10 +3,10 @@ ghost use Rattle.std.specs.Prelude.{◌≡◌, ◌↔◌, IfOk, IsTrue};
 
 use crate::call::Call;
 use crate::datagram_fact::DatagramFact;
+use crate::loss::LossReason;
+use crate::piece::Piece;
 use crate::sequence::{Element, Sequence};
 use std::alloc::Global;
-use wt_error::loss::LossReason;
-use wt_error::piece::Piece;
 use wt_wire::error::OutOfMemory;
 use wt_wire::ids::StreamId;
 use wt_wire::varint::VarInt;

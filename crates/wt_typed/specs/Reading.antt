@@ -5,9 +5,9 @@ use Rattle.wt_wire.specs.declared.side.StreamEnd.{StreamEnd}
 use Rattle.wt_wire.specs.declared.side.StreamEnd.TheVariants.{Running, Fin, Reset}
 use Rattle.wt_turn.specs.declared.poll.Poll.{Poll}
 use Rattle.wt_turn.specs.declared.poll.Poll.TheVariants as polls
-use Rattle.wt_error.specs.declared.proto_error.IoReadError.TheVariants as ends
-use Rattle.wt_error.specs.declared.proto_error.ProtoReadError.{ProtoReadError}
-use Rattle.wt_error.specs.declared.proto_error.ProtoReadError.TheVariants.{H3, IO}
+use Rattle.wt_turn.specs.declared.proto_error.IoReadError.TheVariants as ends
+use Rattle.wt_turn.specs.declared.proto_error.ProtoReadError.{ProtoReadError}
+use Rattle.wt_turn.specs.declared.proto_error.ProtoReadError.TheVariants.{H3, IO}
 use Rattle.wt_proto.specs.declared.walk.Step.{Step}
 use Rattle.wt_proto.specs.WalkProgress.{WalkProgress, IsProper, at_item, progress_after, progress_over, reached_in}
 use Rattle.wt_proto.specs.Steady.{IsSteady}

@@ -2,7 +2,7 @@
 use Rattle.std.specs.Prelude.{◌≡◌, ℕ, ◌++◌, List, Result, IfOk, OnErr, OnOk}
 use Rattle.wt_wire.specs.declared.error.ErrorCode.{ErrorCode}
 use Rattle.wt_turn.specs.declared.poll.Poll.{Poll}
-use Rattle.wt_error.specs.declared.proto_error.ProtoReadError.{ProtoReadError}
+use Rattle.wt_turn.specs.declared.proto_error.ProtoReadError.{ProtoReadError}
 use Rattle.wt_proto.specs.declared.walk.Step.{Step}
 use Rattle.wt_proto.specs.WalkProgress.{WalkProgress, progress_after, reached_in}
 use Rattle.wt_proto.specs.Walk.{whole_walk}

@@ -2,7 +2,7 @@
 use Rattle.std.specs.Prelude.{ℕ, List, [], Option, Some, None, Result, Ok, Err, Bool, true, false, ◌&&◌, if◌then◌else◌}
 use Rattle.wt_turn.specs.declared.poll.Poll.{Poll}
 use Rattle.wt_turn.specs.declared.poll.Poll.TheVariants as polls
-use Rattle.wt_error.specs.declared.stream_error.AlreadyStop.{AlreadyStop}
+use Rattle.wt_turn.specs.declared.stream_error.AlreadyStop.{AlreadyStop}
 use Rattle.wt_wire.specs.declared.frame.FrameKind.TheVariants as kinds
 use Rattle.wt_wire.specs.FrameBytes.{frame_bytes}
 use Rattle.wt_seam.specs.declared.halves.QuicSendStream.{QuicSendStream}

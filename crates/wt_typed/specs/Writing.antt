@@ -2,8 +2,8 @@
 use Rattle.std.specs.Prelude.{◌≡◌, ℕ, ◌+◌, ◌<◌, List, [], length, take, drop, ◌++◌, Result, Ok, Err, Bool, is_some, nat_lt, not, ◌==◌, if◌then◌else◌}
 use Rattle.wt_turn.specs.declared.poll.Poll.{Poll}
 use Rattle.wt_turn.specs.declared.poll.Poll.TheVariants as polls
-use Rattle.wt_error.specs.declared.proto_error.ProtoWriteError.{ProtoWriteError}
-use Rattle.wt_error.specs.declared.proto_error.ProtoWriteError.TheVariants.{NotConnected, Stopped}
+use Rattle.wt_turn.specs.declared.proto_error.ProtoWriteError.{ProtoWriteError}
+use Rattle.wt_turn.specs.declared.proto_error.ProtoWriteError.TheVariants.{NotConnected, Stopped}
 use Rattle.wt_streams.specs.HalfRules.{SendingHalf}
 
 -- bytes that are being written, and how many of them went out

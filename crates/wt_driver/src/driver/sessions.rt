@@ -17,7 +17,7 @@ ghost use Rattle.wt_turn.specs.declared.action.Action.{Action};
 ghost use Rattle.wt_wire.specs.declared.side.Side.{Side};
 
 use super::Driver;
-use wt_error::driver_error::DriverError;
+use wt_turn::driver_error::DriverError;
 use wt_turn::poll::Poll;
 use wt_turn::record::Record;
 use wt_wire::error::OutOfMemory;

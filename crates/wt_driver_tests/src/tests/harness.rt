@@ -9,7 +9,7 @@ use super::words::reply;
 use std::alloc::Global;
 use std::process::Abort;
 use wt_driver::driver::Driver;
-use wt_print::print::print_answer;
+use wt_script::print::print_answer;
 use wt_turn::action::Actions;
 use wt_turn::answer::Answer;
 use wt_turn::reply::Reply;

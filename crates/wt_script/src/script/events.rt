@@ -4,7 +4,7 @@ ghost use Rattle.std.specs.Option.{option_map};
 ghost use Rattle.wt_script.specs.Events.{bare_loss_of, connected_of, data_event_of, event_of_words, fact_of, limit_event_of, loss_of_words, stream_event_of, coded_loss_of, close_of_words};
 ghost use Rattle.wt_script.specs.Numbers.{id_of, text_of_word};
 ghost use Rattle.wt_script.specs.Words.{one, two};
-ghost use Rattle.wt_error.specs.declared.loss.LossReason.TheVariants as losses;
+ghost use Rattle.wt_turn.specs.declared.loss.LossReason.TheVariants as losses;
 
 use crate::script::numbers::read_count;
 use crate::script::pairs::{

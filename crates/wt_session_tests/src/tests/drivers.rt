@@ -4,7 +4,7 @@
 use std::alloc::Global;
 use std::process::Abort;
 use wt_driver::driver::Driver;
-use wt_print::print::print_answer;
+use wt_script::print::print_answer;
 use wt_script::script::{Script, read_more_turns};
 use wt_session::accepting::Accepting;
 use wt_session::connection::Connection;

@@ -1,7 +1,7 @@
 //! A trace by its own call, with ample memory: a body that answers out of memory fails here.
 use std::alloc::Global;
 use std::process::Abort;
-use wt_print::print::print_answer;
+use wt_script::print::print_answer;
 use wt_script::script::{Script, read_script};
 use wt_trace::trace::{TraceError, run_trace};
 use wt_turn::Answers;

@@ -2,7 +2,7 @@
 use crate::tests::calls::make_call;
 use std::alloc::Global;
 use std::process::Abort;
-use wt_print::print::print_answer;
+use wt_script::print::print_answer;
 use wt_script::script::lines::read_turn;
 use wt_seam::transport::Transport;
 use wt_turn::action::Actions;

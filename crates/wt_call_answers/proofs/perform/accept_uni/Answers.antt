@@ -2,7 +2,7 @@ use Rattle.std.proofs.Common.{◌∙◌}
 use Rattle.wt_calls.proofs.Gives.{accept_kept}
 use Rattle.wt_call_answers.proofs.perform.accept_uni.Goals as goal
 use Rattle.wt_seam_spec.specs.Streams.{peer_uni}
-use Rattle.wt_reply.specs.declared.reply.Reply.TheVariants as replies
+use Rattle.wt_turn.specs.declared.reply.Reply.TheVariants as replies
 
 pub returns-clause-reply : goal.returns-clause-reply
 returns-clause-reply c = λ side log collected r. c.uni_reply.ensures ∙ c.in_ok-answer.ensures.reply side log collected r

@@ -1,7 +1,7 @@
 use Rattle.std.proofs.Common.{◌∷◌, subst}
 use Rattle.wt_calls.proofs.Gives.{establish_calls}
 use Rattle.wt_call_answers.proofs.perform.establish.Goals as goal
-use Rattle.wt_table.specs.Table.{KeepsCalls}
+use Rattle.wt_plan.specs.Table.{KeepsCalls}
 use Rattle.wt_turn.specs.Log.{Polled, SessionEstablished, calls_of}
 
 pub returns-clause-session : goal.returns-clause-session

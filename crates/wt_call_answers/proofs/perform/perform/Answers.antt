@@ -3,9 +3,9 @@ use Rattle.wt_calls.proofs.Gives.{step_calls}
 use Rattle.wt_call_answers.proofs.perform.perform.Goals as goal
 use Rattle.wt_plan.specs.Planned.{defined_plan}
 use Rattle.wt_turn.specs.Records.{record_of}
-use Rattle.wt_table.specs.Table.{KeepsCalls}
+use Rattle.wt_plan.specs.Table.{KeepsCalls}
 use Rattle.wt_driver_state.specs.Tie.{Follows}
-use Rattle.wt_session_acts.specs.Performing.{MayPerform}
+use Rattle.wt_session_spec.specs.Performing.{MayPerform}
 use Rattle.wt_session_spec.specs.Plan.{perform}
 use Rattle.wt_turn.specs.Log.{calls_of}
 

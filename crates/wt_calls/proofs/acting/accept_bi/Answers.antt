@@ -5,7 +5,7 @@ use Rattle.wt_seam_spec.specs.Streams.{peer_bi}
 use Rattle.wt_driver_state.specs.Tie.{Follows}
 use Rattle.wt_driver_spec.specs.Due.{accept_outcome}
 use Rattle.wt_calls.specs.GivingCalls.{poll_reply}
-use Rattle.wt_reply.specs.declared.reply.Reply.TheVariants as replies
+use Rattle.wt_turn.specs.declared.reply.Reply.TheVariants as replies
 
 pub returns-clause-reply : goal.returns-clause-reply
 returns-clause-reply c = λ side log collected r.

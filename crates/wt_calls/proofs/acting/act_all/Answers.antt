@@ -1,7 +1,7 @@
 use Rattle.std.proofs.Common.{◌++◌, ◌∙◌, ◌∷◌, ◌≡◌, ap, subst, sym}
 use Rattle.wt_calls.proofs.Gives.{all_out, may_next, one_after, one_more}
 use Rattle.wt_calls.proofs.acting.act_all.Goals as goal
-use Rattle.wt_session_acts.specs.Performing.{MaySendAll}
+use Rattle.wt_session_spec.specs.Performing.{MaySendAll}
 use Rattle.wt_driver_state.specs.Tie.{Follows}
 use Rattle.wt_turn.specs.Log.{with_actions}
 

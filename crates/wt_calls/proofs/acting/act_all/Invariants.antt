@@ -1,6 +1,6 @@
 use Rattle.std.proofs.Common.{◌++◌, ◌≡◌, ℕ}
 use Rattle.wt_calls.proofs.acting.act_all.Given as goal
-use Rattle.wt_session_acts.specs.Performing.{MaySendAll}
+use Rattle.wt_session_spec.specs.Performing.{MaySendAll}
 use Rattle.wt_driver_state.specs.Tie.{Follows}
 use Rattle.wt_turn.specs.Log.{Log, with_actions}
 use Rattle.wt_wire.specs.declared.side.Side.{Side}

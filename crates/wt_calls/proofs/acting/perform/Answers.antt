@@ -3,7 +3,7 @@ use Rattle.wt_calls.proofs.acting.perform.Goals as goal
 use Rattle.wt_plan.specs.Planned.{defined_plan}
 use Rattle.wt_plan.specs.declared.plan.Plan as code
 use Rattle.wt_driver_state.specs.Tie.{Follows}
-use Rattle.wt_session_acts.specs.Performing.{MayPerform}
+use Rattle.wt_session_spec.specs.Performing.{MayPerform}
 use Rattle.wt_session_spec.specs.Plan.{perform}
 
 pub returns-in_ok-step-in-Step-clause-reply : goal.returns-in_ok-step-in-Step-clause-reply

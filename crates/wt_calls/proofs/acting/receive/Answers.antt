@@ -4,7 +4,7 @@ use Rattle.wt_driver_spec.specs.Due.{receive_outcome}
 use Rattle.wt_calls.proofs.Gives.{receive_log, receive_reported}
 use Rattle.wt_calls.proofs.acting.receive.Goals as goal
 use Rattle.wt_calls.specs.GivingCalls.{poll_reply}
-use Rattle.wt_reply.specs.declared.reply.Reply.TheVariants as replies
+use Rattle.wt_turn.specs.declared.reply.Reply.TheVariants as replies
 
 pub returns-clause-reply : goal.returns-clause-reply
 returns-clause-reply c = λ side log collected r.

@@ -2,7 +2,7 @@ use Rattle.std.proofs.Common.{◌∙◌, List, Option, ap, sym, ℕ}
 use Rattle.wt_driver_spec.specs.Due.{reply_or}
 use Rattle.wt_calls.specs.GivingCalls.{wait_reply}
 use Rattle.wt_spec.specs.Effect.{pending_or_failed}
-use Rattle.wt_reply.specs.declared.reply.Reply.TheVariants as replies
+use Rattle.wt_turn.specs.declared.reply.Reply.TheVariants as replies
 use Rattle.wt_calls.proofs.acting.receive_answer.Goals as goal
 
 pub returns-in-Some-2 : goal.returns-in-Some-2

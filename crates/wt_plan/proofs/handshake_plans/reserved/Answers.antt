@@ -2,7 +2,7 @@
 use Rattle.std.proofs.Common.{◌≡◌, IfOk, List, subst, ℕ}
 use Rattle.wt_session_spec.specs.HandshakePlans.{abandon_plan}
 use Rattle.wt_turn.specs.declared.action.Action.{Action}
-use Rattle.wt_error.specs.declared.connecting_error.ConnectingError.TheVariants as connects
+use Rattle.wt_turn.specs.declared.connecting_error.ConnectingError.TheVariants as connects
 use Rattle.wt_plan.specs.FactsNow.{facts_now}
 use Rattle.wt_plan.specs.Planned.{defined_plan}
 use Rattle.wt_plan.proofs.handshake_plans.reserved.Goals as goal

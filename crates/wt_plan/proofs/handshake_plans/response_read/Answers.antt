@@ -2,7 +2,7 @@
 use Rattle.std.proofs.Common.{◌≡◌, ◌∙◌, IfOk, false, subst, sym}
 use Rattle.wt_session_spec.specs.HandshakePlans.{abandon_plan}
 use Rattle.wt_spec.specs.Handshake.{has_success}
-use Rattle.wt_error.specs.declared.connecting_error.ConnectingError.{ConnectingError}
+use Rattle.wt_turn.specs.declared.connecting_error.ConnectingError.{ConnectingError}
 use Rattle.wt_plan.proofs.Responses.{success_by}
 use Rattle.wt_plan.specs.FactsNow.{facts_now}
 use Rattle.wt_plan.specs.Planned.{defined_plan}

@@ -1,11 +1,11 @@
 use Rattle.std.proofs.Common.{◌∙◌, ◌≡◌, ap, subst, sym}
 use Rattle.wt_driver_state.specs.Tie.{Follows}
 use Rattle.wt_plan.specs.Planned.{defined_plan}
-use Rattle.wt_table.specs.Table.{KeepsCalls}
-use Rattle.wt_reached.proofs.Theorems.{performs_theorem}
+use Rattle.wt_plan.specs.Table.{KeepsCalls}
+use Rattle.wt_laws.proofs.ReachTheorems.{performs_theorem}
 use Rattle.wt_call_answers.proofs.Answered.{keeps_with}
 use Rattle.wt_call_answers.proofs.session.Session.answer.Goals as goal
-use Rattle.wt_session_acts.specs.Performing.{MayPerform}
+use Rattle.wt_session_spec.specs.Performing.{MayPerform}
 use Rattle.wt_session_spec.proofs.Theorems.{planned_theorem}
 use Rattle.wt_session_spec.specs.Plan.{perform}
 use Rattle.wt_spec.specs.Answers.{call_effect}

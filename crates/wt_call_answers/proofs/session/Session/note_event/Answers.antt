@@ -1,5 +1,5 @@
 use Rattle.std.proofs.Common.{subst, sym}
-use Rattle.wt_table.specs.Table.{KeepsCalls}
+use Rattle.wt_plan.specs.Table.{KeepsCalls}
 use Rattle.wt_call_answers.proofs.session.Session.note_event.Goals as goal
 use Rattle.wt_agreement.proofs.Theorems.{not_first_theorem, same_calls_theorem, turn_end_theorem}
 

@@ -2,7 +2,7 @@ use Rattle.std.proofs.Common.{◌∙◌, ◌≡◌, ap, IfOk, List, refl, subst,
 use Rattle.wt_plan.specs.DriverAnswers.{answers_now}
 use Rattle.wt_plan.specs.FactsNow.{facts_now}
 use Rattle.wt_plan.specs.Planned.{defined_plan}
-use Rattle.wt_table.specs.Table.{handshake_as}
+use Rattle.wt_plan.specs.Table.{handshake_as}
 use Rattle.wt_plan.specs.PlansAgree.{session_of_table}
 use Rattle.wt_call_plans.proofs.Handshakes.{still_going}
 use Rattle.wt_call_plans.proofs.plans.handshake.go_on.Goals as goal

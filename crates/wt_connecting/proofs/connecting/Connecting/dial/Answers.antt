@@ -2,7 +2,7 @@ use Rattle.std.proofs.Common.{[], ◌∙◌, ◌∷◌, ◌≡◌, List, Option,
 use Rattle.wt_connecting.proofs.connecting.Connecting.dial.Goals as goal
 use Rattle.wt_driver_state.specs.Tie.{Follows}
 use Rattle.wt_driver_spec.specs.Asking.{MayBeCalled}
-use Rattle.wt_session_acts.specs.Performing.{MaySendAll}
+use Rattle.wt_session_spec.specs.Performing.{MaySendAll}
 use Rattle.wt_spec.specs.Connect.{request_head, reserved_name}
 use Rattle.wt_spec.specs.Effect.{log_call}
 use Rattle.wt_turn.specs.Log.{CallRecord, ConnectStarted, with_actions}

@@ -3,7 +3,7 @@ use Rattle.wt_connection.proofs.Sessions.{accept_uni_is}
 use Rattle.wt_driver_state.specs.Tie.{Follows}
 use Rattle.wt_calls.specs.GivingCalls.{poll_reply}
 use Rattle.wt_spec.specs.Effect.{Effect}
-use Rattle.wt_reply.specs.declared.reply.Reply.TheVariants as replies
+use Rattle.wt_turn.specs.declared.reply.Reply.TheVariants as replies
 use Rattle.wt_connection.proofs.Gives.{uni_stands}
 use Rattle.wt_connection.proofs.connection.Connection.accept_uni.Goals as goal
 

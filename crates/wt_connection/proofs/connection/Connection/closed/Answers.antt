@@ -2,7 +2,7 @@ use Rattle.std.proofs.Common.{◌∙◌, ap}
 use Rattle.wt_connection.proofs.Sessions.{closed_planned, end_comes, may_use}
 use Rattle.wt_halves.specs.Replies.{closed_in, closed_poll_reply}
 use Rattle.wt_turn.specs.declared.call.Call.TheVariants as calls
-use Rattle.wt_reply.specs.declared.reply.Reply.{Reply}
+use Rattle.wt_turn.specs.declared.reply.Reply.{Reply}
 use Rattle.wt_connection.proofs.connection.Connection.closed.Goals as goal
 
 pub returns-clause-reply : goal.returns-clause-reply

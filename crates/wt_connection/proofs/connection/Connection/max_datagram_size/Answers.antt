@@ -3,7 +3,7 @@ use Rattle.wt_connection.proofs.Sessions.{may_use, size_by_log, size_replies}
 use Rattle.wt_seam.specs.State.{TransportState}
 use Rattle.wt_spec.specs.Connection.{payload_limit}
 use Rattle.wt_turn.specs.declared.call.Call.TheVariants as calls
-use Rattle.wt_reply.specs.declared.reply.Reply.TheVariants as replies
+use Rattle.wt_turn.specs.declared.reply.Reply.TheVariants as replies
 use Rattle.wt_connection.proofs.connection.Connection.max_datagram_size.Goals as goal
 
 pub returns-clause-reply : goal.returns-clause-reply

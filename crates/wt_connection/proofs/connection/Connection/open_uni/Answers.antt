@@ -3,8 +3,8 @@ use Rattle.wt_connection.proofs.Sessions.{may_use, open_uni_comes, open_uni_plan
 use Rattle.wt_connection.specs.Openings.{opening_in}
 use Rattle.wt_calls.specs.GivingCalls.{poll_reply}
 use Rattle.wt_turn.specs.declared.call.Call.TheVariants as calls
-use Rattle.wt_reply.specs.declared.reply.Reply.{Reply}
-use Rattle.wt_reply.specs.declared.reply.Reply.TheVariants as replies
+use Rattle.wt_turn.specs.declared.reply.Reply.{Reply}
+use Rattle.wt_turn.specs.declared.reply.Reply.TheVariants as replies
 use Rattle.wt_connection.proofs.Gives.{opens_uni}
 use Rattle.wt_connection.specs.TypesInLog.{IfGiven}
 use Rattle.wt_connection.proofs.connection.Connection.open_uni.Goals as goal

@@ -6,8 +6,8 @@ use Rattle.wt_halves.proofs.DriverAnswered.{always}
 use Rattle.wt_driver_state.specs.Tie.{Follows}
 use Rattle.wt_calls.specs.GivingCalls.{poll_reply}
 use Rattle.wt_spec.specs.Effect.{Effect}
-use Rattle.wt_reply.specs.declared.reply.Reply.{Reply}
-use Rattle.wt_reply.specs.declared.reply.Reply.TheVariants as replies
+use Rattle.wt_turn.specs.declared.reply.Reply.{Reply}
+use Rattle.wt_turn.specs.declared.reply.Reply.TheVariants as replies
 use Rattle.wt_connection.proofs.connection.Connection.receive_datagram.Goals as goal
 
 pub returns-clause-reply : goal.returns-clause-reply

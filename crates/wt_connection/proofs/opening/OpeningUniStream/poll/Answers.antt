@@ -3,8 +3,8 @@ use Rattle.wt_connection.proofs.Sessions.{uni_ready_comes, may_use, poll_planned
 use Rattle.wt_connection.specs.Openings.{ready_in}
 use Rattle.wt_halves.specs.Replies.{ready_reply}
 use Rattle.wt_turn.specs.declared.call.Call.TheVariants as calls
-use Rattle.wt_reply.specs.declared.reply.Reply.{Reply}
-use Rattle.wt_reply.specs.declared.reply.Reply.TheVariants as replies
+use Rattle.wt_turn.specs.declared.reply.Reply.{Reply}
+use Rattle.wt_turn.specs.declared.reply.Reply.TheVariants as replies
 use Rattle.wt_connection.proofs.Gives.{opened_sends, waits_on}
 use Rattle.wt_connection.proofs.opening.OpeningUniStream.poll.Goals as goal
 

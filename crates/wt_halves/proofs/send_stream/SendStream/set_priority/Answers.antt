@@ -4,7 +4,7 @@ use Rattle.wt_halves.proofs.Sending.{may_use, missing, set_planned, set_reported
 use Rattle.wt_turn.specs.Log.{Polled, PrioritySet}
 use Rattle.wt_turn.specs.Records.{record_of}
 use Rattle.wt_turn.specs.declared.call.Call.TheVariants as calls
-use Rattle.wt_reply.specs.declared.reply.Reply.TheVariants as replies
+use Rattle.wt_turn.specs.declared.reply.Reply.TheVariants as replies
 use Rattle.wt_halves.proofs.send_stream.SendStream.set_priority.Goals as goal
 
 pub returns-then-not-can_send-clause-reply : goal.returns-then-not-can_send-clause-reply

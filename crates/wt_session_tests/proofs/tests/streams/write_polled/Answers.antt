@@ -1,5 +1,5 @@
 use Rattle.std.proofs.Common.{◌∙◌, ◌≡◌, Result, ap, refl, subst, sym, true, ℕ}
-use Rattle.wt_error.specs.declared.stream_error.StreamOpeningError.{StreamOpeningError}
+use Rattle.wt_turn.specs.declared.stream_error.StreamOpeningError.{StreamOpeningError}
 use Rattle.wt_session_tests.proofs.tests.streams.write_polled.Goals as goal
 use Rattle.wt_connection.specs.TypesInLog.{IfGiven}
 use Rattle.wt_session_spec.specs.HalfPlans.{write_reply}

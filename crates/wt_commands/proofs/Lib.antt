@@ -1,4 +1,0 @@
-pub mod OutsideLaws
-pub mod GenerateLaws
-pub mod SummaryLaws
-pub mod CommandLaws

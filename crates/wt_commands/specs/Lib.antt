@@ -1,4 +1,0 @@
-pub mod Outside
-pub mod Generate
-pub mod Command
-pub mod Summary

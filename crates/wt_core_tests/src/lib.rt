@@ -1,5 +1,0 @@
-//! Tests of the core, and of how a connect begins. There are tests here and no code.
-#![tactic(auto)]
-
-#[cfg(test)]
-mod tests;

@@ -1,5 +1,0 @@
-//! What the contracts leave open: that memory suffices where there is enough, and worked cases.
-mod connects;
-mod lines;
-mod machine;
-mod options;

@@ -1,3 +1,0 @@
-pub mod Close
-pub mod ProtoReason
-pub mod ProtoError

@@ -1,2 +1,0 @@
-pub mod PrintErrors
-pub mod Print

@@ -1,5 +1,0 @@
-use Rattle.wt_reached.proofs.Theorems.{performs_theorem}
-use Rattle.wt_reached.proofs.laws.calls_may_be_performed.Goals as goal
-
-pub returns : goal.returns
-returns c = λ side log call r l. performs_theorem side log call r l

@@ -1,3 +1,0 @@
-pub mod OwnActions
-pub mod RecordFacts
-pub mod Performing

@@ -1,4 +1,0 @@
-//! What the contracts leave open: that memory suffices where there is enough, and worked cases.
-mod critical;
-mod rows;
-mod typed;
