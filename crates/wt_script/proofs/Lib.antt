@@ -3,3 +3,4 @@ pub mod NumberLaws
 pub mod ScriptLaws
 pub mod UrlLaws
 pub mod PrintLaws
+pub mod Splitting

@@ -3,14 +3,18 @@ use Rattle.std.specs.Prelude.{ℕ, ◌==◌, Bool, nat_eq, List, [], ◌∷◌, 
 use Rattle.std.specs.Cmp.Lexicographic.{pointwise}
 use Rattle.std.specs.Option.{option_zip}
 
--- the parts of bytes, split at each separator; the first has begun already
-abbrev pub parts_from : ℕ → List ℕ → List ℕ → List (List ℕ)
-parts_from separator part [] = part ∷ []
-parts_from separator part (b ∷ bytes) = if b == separator then part ∷ parts_from separator [] bytes else parts_from separator (part ++ b ∷ []) bytes
+-- bytes, split at each separator; the first part has begun already, and what the last comes to is given
+abbrev pub split_from : (List ℕ → List (List ℕ)) → ℕ → List ℕ → List ℕ → List (List ℕ)
+split_from last separator part [] = last part
+split_from last separator part (b ∷ bytes) = if b == separator then part ∷ split_from last separator [] bytes else split_from last separator (part ++ b ∷ []) bytes
+
+-- a last part, which may be empty
+abbrev pub last_part : List ℕ → List (List ℕ)
+last_part part = part ∷ []
 
 -- the parts of bytes, split at each separator
 abbrev pub parts : ℕ → List ℕ → List (List ℕ)
-parts separator bytes = parts_from separator [] bytes
+parts separator bytes = split_from last_part separator [] bytes
 
 -- the parts after a separator, where there was one
 abbrev pub parts_after : ℕ → Option (List ℕ) → List (List ℕ)
@@ -45,11 +49,6 @@ abbrev pub last_line : List ℕ → List (List ℕ)
 last_line [] = []
 last_line (b ∷ line) = (b ∷ line) ∷ []
 
--- the lines that bytes hold, each ended by a line feed, which the last may lack; the first has begun already
-abbrev pub lines_from : List ℕ → List ℕ → List (List ℕ)
-lines_from line [] = last_line line
-lines_from line (b ∷ bytes) = if b == 10 then line ∷ lines_from [] bytes else lines_from (line ++ b ∷ []) bytes
-
--- the lines of a script
+-- the lines of a script, each ended by a line feed, which the last may lack
 abbrev pub lines : List ℕ → List (List ℕ)
-lines script = lines_from [] script
+lines script = split_from last_line 10 [] script

@@ -1,7 +1,7 @@
 //! Scripts: a side and its turns, a line each.
-ghost use Rattle.std.specs.Prelude.{◌≡◌, ◌+◌, ◌<◌, ◌^◌, [], IfOk, Some, None, Ok, if◌then◌else◌};
+ghost use Rattle.std.specs.Prelude.{◌≡◌, ◌∷◌, ◌+◌, ◌<◌, ◌^◌, IfOk, IfSome, MatchOption, Some, None, Ok, if◌then◌else◌, length};
 ghost use Rattle.std.specs.Option.{option_map};
-ghost use Rattle.wt_script.specs.Words.{lines, lines_from};
+ghost use Rattle.wt_script.specs.Words.{last_line, lines};
 ghost use Rattle.wt_script.specs.Script.{no_lines, read_lines, script_at_end, script_of, side_of, turn_of, with_line, with_lines, with_side, with_turn};
 
 mod addresses;
@@ -14,6 +14,7 @@ mod pairs;
 mod words;
 
 use crate::script::lines::{read_side, read_turn};
+use memchr::memchr;
 use std::alloc::Global;
 use std::marker::Model;
 use wt_turn::turn::Turns;
@@ -121,7 +122,7 @@ fn end_script(
     line: &[u8],
 ) -> Result<Result<Script, ScriptRefused>, OutOfMemory>
     requires { number + 1 < 2 ^ 64 }
-    ensures { IfOk result (λ r. r ≡ read_lines number draft (lines_from line.now [])) }
+    ensures { IfOk result (λ r. r ≡ read_lines number draft (last_line line.now)) }
 {
     let mut draft = draft;
     if line.is_empty() {
@@ -162,7 +163,19 @@ pub fn read_more_turns(
     read_on(alloc, draft, input)
 }
 
+/// The first line that a line feed ends, and what stands after that.
+fn split_line(script: &[u8]) -> Option<(&[u8], &[u8])>
+    ensures lines { MatchOption result (lines script.now ≡ last_line script.now) (λ p. lines script.now ≡ p.0.now ∷ lines p.1.now) }
+    ensures shorter { IfSome result (λ p. length p.1.now < length script.now) }
+{
+    match memchr(b'\n', script) {
+        Some(end) => Some((&script[..end], &script[end + 1..])),
+        None => None,
+    }
+}
+
 /// Reads further lines, the first of which has the number 1.
+#[tactic(auto, using(crate::proofs::ScriptLaws::refused_here, crate::proofs::ScriptLaws::accepted_here))]
 fn read_on(
     alloc: Global,
     draft: Draft,
@@ -172,15 +185,13 @@ fn read_on(
 {
     let mut draft = draft;
     let mut number: u64 = 1;
-    let mut start = 0;
-    for (offset, byte) in script.iter().enumerate() {
-        if *byte == b'\n' {
-            if !draft.take_line(alloc, &script[start..offset])? {
-                return Ok(Err(ScriptRefused { line: number }));
-            }
-            number += 1;
-            start = offset + 1;
+    let mut rest = script;
+    while let Some((line, later)) = split_line(rest) {
+        if !draft.take_line(alloc, line)? {
+            return Ok(Err(ScriptRefused { line: number }));
         }
+        number += 1;
+        rest = later;
     }
-    end_script(alloc, draft, number, &script[start..])
+    end_script(alloc, draft, number, rest)
 }

@@ -3,6 +3,7 @@ ghost use Rattle.std.specs.Prelude.{◌≡◌, ◌∷◌, [], List, ℕ, Some, N
 ghost use Rattle.std.specs.Option.{option_map};
 ghost use Rattle.wt_script.specs.Words.{alone, is_word, one, parts, parts_after, two, words};
 
+use memchr::memchr;
 use std::marker::Model;
 
 /// The parts of a line or of a word that are left. Contracts see the list of them.
@@ -95,16 +96,22 @@ impl<'a> Parts<'a> {
 fn split_at_separator(separator: u8, bytes: &[u8]) -> (&[u8], Option<&[u8]>)
     ensures { result.0.now ∷ parts_after separator (option_map (λ r. r.now) result.1) ≡ parts separator bytes.now }
 {
-    for (offset, byte) in bytes.iter().enumerate() {
-        if *byte == separator {
-            return (&bytes[..offset], Some(&bytes[offset + 1..]));
-        }
+    match memchr(separator, bytes) {
+        Some(offset) => (&bytes[..offset], Some(&bytes[offset + 1..])),
+        None => (bytes, None),
     }
-    (bytes, None)
 }
 
-/// Whether the word is this text.
+/// Whether the word is this text: most words differ from most texts in their length alone.
+#[inline(always)]
 pub fn is_name(word: &[u8], text: &[u8]) -> bool
+    ensures { result ≡ is_word word.now text.now }
+{
+    word.len() == text.len() && are_same(word, text)
+}
+
+#[inline(never)]
+fn are_same(word: &[u8], text: &[u8]) -> bool
     ensures { result ≡ is_word word.now text.now }
 {
     word == text

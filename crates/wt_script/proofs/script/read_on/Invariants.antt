@@ -1,11 +1,13 @@
-use Rattle.std.proofs.Common.{◌≡◌, ◌≤◌, ◌+◌, ◌-◌, take, drop}
-use Rattle.wt_script.specs.Words.{lines, lines_from}
+use Rattle.std.proofs.Common.{◌≡◌, ◌≤◌, ◌+◌, length}
+use Rattle.wt_script.specs.Words.{lines}
 use Rattle.wt_script.specs.Script.{read_lines}
 use Rattle.wt_script.proofs.script.read_on.Given as goal
 
-abbrev pub invariant-loop-offset : goal.invariant-loop-offset
-invariant-loop-offset l = record {
-  joined : read_lines l.number l.draft (lines_from (take (l.offset - l.start) (drop l.start l.script)) (drop l.offset l.script)) ≡ read_lines 1 l.fn.draft (lines l.script);
-  begun : l.start ≤ l.offset;
-  count_is : l.number ≤ l.offset + 1;
+abbrev pub invariant-loop-line : goal.invariant-loop-line
+invariant-loop-line l = record {
+  joined : read_lines l.number l.draft (lines l.rest) ≡ read_lines 1 l.fn.draft (lines l.script);
+  count_is : l.number + length l.rest ≤ length l.script + 1;
 }
+
+abbrev pub decreases-loop-line : goal.decreases-loop-line
+decreases-loop-line l = length l.rest
