@@ -80,25 +80,20 @@ fn push_request(
 ) -> Result<(), OutOfMemory>
     ensures { OnOk result (string_bytes out.new ≡ string_bytes out.old ++ (name.now ++ request_text id headers.now)) }
 {
-    push_session(alloc, out, name, id)?;
+    push_session(out, name, id)?;
     push_fields(alloc, out, headers)
 }
 
-fn push_session(
-    alloc: Global,
-    out: &mut String,
-    name: &str,
-    id: SessionId,
-) -> Result<(), OutOfMemory>
+fn push_session(out: &mut String, name: &str, id: SessionId) -> Result<(), OutOfMemory>
     ensures { OnOk result (string_bytes out.new ≡ string_bytes out.old ++ (name.now ++ decimal id)) }
 {
-    push_numbered(alloc, out, name, id.session_stream().into_u64())
+    push_numbered(out, name, id.session_stream().into_u64())
 }
 
-fn push_stream(alloc: Global, out: &mut String, name: &str, id: StreamId) -> Result<(), OutOfMemory>
+fn push_stream(out: &mut String, name: &str, id: StreamId) -> Result<(), OutOfMemory>
     ensures { OnOk result (string_bytes out.new ≡ string_bytes out.old ++ (name.now ++ decimal id)) }
 {
-    push_numbered(alloc, out, name, id.into_u64())
+    push_numbered(out, name, id.into_u64())
 }
 
 fn push_read(alloc: Global, out: &mut String, read: &Option<Piece>) -> Result<(), OutOfMemory>
@@ -134,7 +129,6 @@ fn push_opening_failed(
 }
 
 fn push_write_failed(
-    alloc: Global,
     out: &mut String,
     name: &str,
     error: StreamWriteError,
@@ -142,19 +136,14 @@ fn push_write_failed(
     ensures { OnOk result (string_bytes out.new ≡ string_bytes out.old ++ (name.now ++ write_text error)) }
 {
     push_text(out, name)?;
-    push_write(alloc, out, error)
+    push_write(out, error)
 }
 
-fn push_read_failed(
-    alloc: Global,
-    out: &mut String,
-    name: &str,
-    error: StreamReadError,
-) -> Result<(), OutOfMemory>
+fn push_read_failed(out: &mut String, name: &str, error: StreamReadError) -> Result<(), OutOfMemory>
     ensures { OnOk result (string_bytes out.new ≡ string_bytes out.old ++ (name.now ++ read_error_text error)) }
 {
     push_text(out, name)?;
-    push_read_error(alloc, out, error)
+    push_read_error(out, error)
 }
 
 fn push_exact_failed(
@@ -181,28 +170,18 @@ fn push_datagram_failed(
     push_datagram(out, error)
 }
 
-fn push_size(
-    alloc: Global,
-    out: &mut String,
-    name: &str,
-    size: Option<u64>,
-) -> Result<(), OutOfMemory>
+fn push_size(out: &mut String, name: &str, size: Option<u64>) -> Result<(), OutOfMemory>
     ensures { OnOk result (string_bytes out.new ≡ string_bytes out.old ++ (name.now ++ code_text size)) }
 {
     push_text(out, name)?;
-    push_optional(alloc, out, size)
+    push_optional(out, size)
 }
 
-fn push_priority(
-    alloc: Global,
-    out: &mut String,
-    name: &str,
-    priority: i32,
-) -> Result<(), OutOfMemory>
+fn push_priority(out: &mut String, name: &str, priority: i32) -> Result<(), OutOfMemory>
     ensures { OnOk result (string_bytes out.new ≡ string_bytes out.old ++ (name.now ++ signed_decimal priority)) }
 {
     push_text(out, name)?;
-    push_signed(alloc, out, priority)
+    push_signed(out, priority)
 }
 
 fn push_reply(alloc: Global, out: &mut String, reply: &Reply) -> Result<(), OutOfMemory>
@@ -214,21 +193,21 @@ fn push_reply(alloc: Global, out: &mut String, reply: &Reply) -> Result<(), OutO
         Reply::NoSession => push_text(out, "no_session"),
         Reply::NoStream => push_text(out, "no_stream"),
         Reply::Request { id, headers } => push_request(alloc, out, "request ", *id, headers),
-        Reply::Session(id) => push_session(alloc, out, "session ", *id),
+        Reply::Session(id) => push_session(out, "session ", *id),
         Reply::Rejected => push_text(out, "rejected"),
-        Reply::Uni(id) => push_stream(alloc, out, "uni ", *id),
-        Reply::Bi(id) => push_stream(alloc, out, "bi ", *id),
-        Reply::Opening(id) => push_stream(alloc, out, "opening ", *id),
-        Reply::SendReady(id) => push_stream(alloc, out, "send_ready ", *id),
-        Reply::BiReady(id) => push_stream(alloc, out, "bi_ready ", *id),
-        Reply::Id(id) => push_session(alloc, out, "id ", *id),
+        Reply::Uni(id) => push_stream(out, "uni ", *id),
+        Reply::Bi(id) => push_stream(out, "bi ", *id),
+        Reply::Opening(id) => push_stream(out, "opening ", *id),
+        Reply::SendReady(id) => push_stream(out, "send_ready ", *id),
+        Reply::BiReady(id) => push_stream(out, "bi_ready ", *id),
+        Reply::Id(id) => push_session(out, "id ", *id),
         Reply::Datagram(piece) => push_named_piece(alloc, out, "datagram ", piece),
-        Reply::Size(size) => push_size(alloc, out, "size ", *size),
-        Reply::Written(count) => push_numbered(alloc, out, "written ", *count),
+        Reply::Size(size) => push_size(out, "size ", *size),
+        Reply::Written(count) => push_numbered(out, "written ", *count),
         Reply::AllWritten => push_text(out, "all_written"),
-        Reply::Count(count) => push_numbered(alloc, out, "count ", *count),
+        Reply::Count(count) => push_numbered(out, "count ", *count),
         Reply::Finished => push_text(out, "finished"),
-        Reply::Priority(priority) => push_priority(alloc, out, "priority ", *priority),
+        Reply::Priority(priority) => push_priority(out, "priority ", *priority),
         Reply::ClosedStream => push_text(out, "closed_stream"),
         Reply::Read(read) => push_read(alloc, out, read),
         Reply::Exact(piece) => push_named_piece(alloc, out, "exact ", piece),
@@ -236,9 +215,9 @@ fn push_reply(alloc: Global, out: &mut String, reply: &Reply) -> Result<(), OutO
         Reply::Closed(error) => push_ended(alloc, out, "closed ", error),
         Reply::ConnectFailed(error) => push_connect_failed(alloc, out, "connect_failed ", error),
         Reply::OpeningFailed(error) => push_opening_failed(out, "opening_failed ", *error),
-        Reply::WriteFailed(error) => push_write_failed(alloc, out, "write_failed ", *error),
-        Reply::StoppedBy(error) => push_write_failed(alloc, out, "stopped_by ", *error),
-        Reply::ReadFailed(error) => push_read_failed(alloc, out, "read_failed ", *error),
+        Reply::WriteFailed(error) => push_write_failed(out, "write_failed ", *error),
+        Reply::StoppedBy(error) => push_write_failed(out, "stopped_by ", *error),
+        Reply::ReadFailed(error) => push_read_failed(out, "read_failed ", *error),
         Reply::ExactFailed(error, piece) => push_exact_failed(
             alloc,
             out,
@@ -269,16 +248,16 @@ fn push_action(alloc: Global, out: &mut String, action: &Action) -> Result<(), O
 {
     match action {
         Action::Dial { address, name } => push_dial(alloc, out, "dial ", *address, name),
-        Action::Opened { id } => push_stream(alloc, out, "opened ", *id),
+        Action::Opened { id } => push_stream(out, "opened ", *id),
         Action::Send { id, piece } => {
             push_coded(alloc, out, "send ", id.into_u64(), piece.as_slice())
         }
-        Action::Finish { id } => push_stream(alloc, out, "finish ", *id),
+        Action::Finish { id } => push_stream(out, "finish ", *id),
         Action::ResetOut { id, code } => {
-            push_two_numbers(alloc, out, "reset ", id.into_u64(), code.into_inner())
+            push_two_numbers(out, "reset ", id.into_u64(), code.into_inner())
         }
         Action::StopOut { id, code } => {
-            push_two_numbers(alloc, out, "stop ", id.into_u64(), code.into_inner())
+            push_two_numbers(out, "stop ", id.into_u64(), code.into_inner())
         }
         Action::DatagramOut { piece } => { push_named_piece(alloc, out, "datagram_out ", piece) }
         Action::Close { code, reason } => {

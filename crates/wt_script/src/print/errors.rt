@@ -53,7 +53,7 @@ fn push_proto_error(
         None => None,
     };
     push_text(out, name)?;
-    push_optional(alloc, out, code)?;
+    push_optional(out, code)?;
     push_named_bytes(alloc, out, " ", error.reason().as_bytes())
 }
 
@@ -99,7 +99,7 @@ fn push_connection(
         }
         ConnectionError::LocallyClosed => push_text(out, "locally_closed"),
         ConnectionError::LocalH3Error(error) => {
-            push_numbered(alloc, out, "local_h3 ", error.code().to_code().into_inner())
+            push_numbered(out, "local_h3 ", error.code().to_code().into_inner())
         }
         ConnectionError::TimedOut => push_text(out, "timed_out"),
         ConnectionError::QuicProto(error) => push_proto_error(alloc, out, "quic_proto ", error),
@@ -147,34 +147,24 @@ pub fn push_opening(out: &mut String, error: StreamOpeningError) -> Result<(), O
 }
 
 /// Adds why nothing could be written.
-pub fn push_write(
-    alloc: Global,
-    out: &mut String,
-    error: StreamWriteError,
-) -> Result<(), OutOfMemory>
+pub fn push_write(out: &mut String, error: StreamWriteError) -> Result<(), OutOfMemory>
     ensures { OnOk result (string_bytes out.new ≡ string_bytes out.old ++ write_text error) }
 {
     match error {
         StreamWriteError::NotConnected => push_text(out, "not_connected"),
         StreamWriteError::Closed => push_text(out, "closed"),
-        StreamWriteError::Stopped(code) => {
-            push_numbered(alloc, out, "stopped ", code.into_inner())
-        }
+        StreamWriteError::Stopped(code) => { push_numbered(out, "stopped ", code.into_inner()) }
         StreamWriteError::QuicProto => push_text(out, "quic_proto"),
     }
 }
 
 /// Adds why nothing could be read.
-pub fn push_read_error(
-    alloc: Global,
-    out: &mut String,
-    error: StreamReadError,
-) -> Result<(), OutOfMemory>
+pub fn push_read_error(out: &mut String, error: StreamReadError) -> Result<(), OutOfMemory>
     ensures { OnOk result (string_bytes out.new ≡ string_bytes out.old ++ read_error_text error) }
 {
     match error {
         StreamReadError::NotConnected => push_text(out, "not_connected"),
-        StreamReadError::Reset(code) => push_numbered(alloc, out, "reset ", code.into_inner()),
+        StreamReadError::Reset(code) => push_numbered(out, "reset ", code.into_inner()),
         StreamReadError::QuicProto => push_text(out, "quic_proto"),
     }
 }
@@ -192,7 +182,7 @@ pub fn push_exact(
         StreamReadExactError::FinishedEarly(count) => {
             push_finished_early(alloc, out, "finished_early ", count, bytes)
         }
-        StreamReadExactError::Read(error) => push_read_error(alloc, out, error),
+        StreamReadExactError::Read(error) => push_read_error(out, error),
     }
 }
 

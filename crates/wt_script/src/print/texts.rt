@@ -4,6 +4,7 @@ ghost use Rattle.std.specs.Fmt.{decimal, signed_decimal};
 ghost use Rattle.hex.specs.Hex.{encode_lower};
 ghost use Rattle.wt_script.specs.PrintErrors.{hex_text, coded_text, numbers_text, socket_text, code_text, versioned_address_text};
 
+use itoa::Buffer;
 use std::alloc::Global;
 use wt_turn::piece::Piece;
 use wt_wire::addr::Addr;
@@ -19,37 +20,31 @@ pub fn push_text(out: &mut String, text: &str) -> Result<(), OutOfMemory>
 }
 
 /// Adds a number in decimal.
-pub fn push_number(alloc: Global, out: &mut String, number: u64) -> Result<(), OutOfMemory>
+pub fn push_number(out: &mut String, number: u64) -> Result<(), OutOfMemory>
     ensures { OnOk result (string_bytes out.new ≡ string_bytes out.old ++ decimal number) }
 {
-    out.push_str(number.to_string(alloc)?.as_str())?;
+    out.push_str(Buffer::new().format(number))?;
     Ok(())
 }
 
 /// Adds a signed number in decimal.
-pub fn push_signed(alloc: Global, out: &mut String, number: i32) -> Result<(), OutOfMemory>
+pub fn push_signed(out: &mut String, number: i32) -> Result<(), OutOfMemory>
     ensures { OnOk result (string_bytes out.new ≡ string_bytes out.old ++ signed_decimal number) }
 {
-    out.push_str(number.to_string(alloc)?.as_str())?;
+    out.push_str(Buffer::new().format(number))?;
     Ok(())
 }
 
 /// Adds a name, and a number in decimal.
-pub fn push_numbered(
-    alloc: Global,
-    out: &mut String,
-    name: &str,
-    number: u64,
-) -> Result<(), OutOfMemory>
+pub fn push_numbered(out: &mut String, name: &str, number: u64) -> Result<(), OutOfMemory>
     ensures { OnOk result (string_bytes out.new ≡ string_bytes out.old ++ (name.now ++ decimal number)) }
 {
     push_text(out, name)?;
-    push_number(alloc, out, number)
+    push_number(out, number)
 }
 
 /// Adds a name, and two numbers in decimal.
 pub fn push_two_numbers(
-    alloc: Global,
     out: &mut String,
     name: &str,
     first: u64,
@@ -57,9 +52,9 @@ pub fn push_two_numbers(
 ) -> Result<(), OutOfMemory>
     ensures { OnOk result (string_bytes out.new ≡ string_bytes out.old ++ (name.now ++ numbers_text first second)) }
 {
-    push_numbered(alloc, out, name, first)?;
+    push_numbered(out, name, first)?;
     push_text(out, " ")?;
-    push_number(alloc, out, second)
+    push_number(out, second)
 }
 
 /// Adds the digits of bytes, nothing where there are none.
@@ -127,21 +122,17 @@ pub fn push_coded(
 ) -> Result<(), OutOfMemory>
     ensures { OnOk result (string_bytes out.new ≡ string_bytes out.old ++ (name.now ++ coded_text code bytes.now)) }
 {
-    push_numbered(alloc, out, name, code)?;
+    push_numbered(out, name, code)?;
     push_named_bytes(alloc, out, " ", bytes)
 }
 
 /// Adds a number, `none` where there is none.
-pub fn push_optional(
-    alloc: Global,
-    out: &mut String,
-    number: Option<u64>,
-) -> Result<(), OutOfMemory>
+pub fn push_optional(out: &mut String, number: Option<u64>) -> Result<(), OutOfMemory>
     ensures { OnOk result (string_bytes out.new ≡ string_bytes out.old ++ code_text number) }
 {
     match number {
         None => push_text(out, "none"),
-        Some(number) => push_number(alloc, out, number),
+        Some(number) => push_number(out, number),
     }
 }
 
@@ -156,7 +147,7 @@ fn push_address_parts(
 {
     push_text(out, version)?;
     push_digits(alloc, out, ip)?;
-    push_numbered(alloc, out, ":", port as u64)
+    push_numbered(out, ":", port as u64)
 }
 
 /// Adds an address.

@@ -1,4 +1,4 @@
-use Rattle.std.proofs.Common.{arith, ◌≡◌, ◌+◌, ◌-◌, ◌<◌, ◌∷◌, [], sym, ap, ◌∙◌, length, take, drop, length-drop, length-take, take_all, add-one}
+use Rattle.std.proofs.Common.{arith, ◌+◌, ◌-◌, ◌∷◌, [], sym, ap, ◌∙◌, length, take, drop, length-drop, take_all, add-one}
 use Rattle.std.proofs.lemmas.Bool.{eqb-true, eq-eqb}
 use Rattle.wt_script.specs.Words.{last_line, split_from}
 use Rattle.wt_script.proofs.Splitting.{split_at, split_nowhere}
