@@ -7,6 +7,7 @@ ghost use Rattle.wt_driver_state.specs.Tie.{Follows};
 mod accepts;
 mod arrivals;
 mod calls;
+mod pieces;
 mod scan_and_flush;
 mod sessions;
 

@@ -22,3 +22,5 @@ pub mod Theorems
 pub mod ControlStream
 pub mod StateSays
 pub mod Fair
+pub mod ScanRests
+pub mod Silent

@@ -36,15 +36,15 @@ module _ (t : TransportView) (bytes : ℕ → List ℕ) (id : ℕ) (others : (j 
       by true e = still e refl
       by false e = ap (λ (xs : List ℕ). is_final (verdict xs (t.end j))) (others j e) ∙ r
 
-  all-rest-on : (n : ℕ) (ls : List Slot) → StillReads (rule_by (with_contents t bytes)) id ls → Rests t.ready (rule_by t) n ls → Rests t.ready (rule_by (with_contents t bytes)) n ls
+  pub all-rest-on : (n : ℕ) (ls : List Slot) → StillReads (rule_by (with_contents t bytes)) id ls → Rests t.ready (rule_by t) n ls → Rests t.ready (rule_by (with_contents t bytes)) n ls
   all-rest-on n [] still r = tt
   all-rest-on n (l ∷ ls) still r = (rests-on l.phase n l.id still.0 r.0, all-rest-on (suc n) ls still.1 r.1)
 
-datagrams-same : (t : TransportView) (bytes : ℕ → List ℕ) (b : Bool) (c : DriverProgress) → check_datagram b (with_contents t bytes) c ≡ check_datagram b t c
+pub datagrams-same : (t : TransportView) (bytes : ℕ → List ℕ) (b : Bool) (c : DriverProgress) → check_datagram b (with_contents t bytes) c ≡ check_datagram b t c
 datagrams-same t bytes true c = refl
 datagrams-same t bytes false c = refl
 
-critical-same : (t : TransportView) (bytes : ℕ → List ℕ) (x : Option (ℕ × ℕ)) (c : DriverProgress) → check_qpack (with_contents t bytes) x c ≡ check_qpack t x c
+pub critical-same : (t : TransportView) (bytes : ℕ → List ℕ) (x : Option (ℕ × ℕ)) (c : DriverProgress) → check_qpack (with_contents t bytes) x c ≡ check_qpack t x c
 critical-same t bytes None c = refl
 critical-same t bytes (Some x) c = refl
 
@@ -78,7 +78,7 @@ sent-rests t k e =
     let r = scanned-rest t k e in
     subst (λ (j : DriverState). Resting t j) (sym (sends-are t (step_actions t w) w)) (record { unis = r.unis; bis = r.bis; stay = r.stay })
 
-where-open : (b : Bool) (t : TransportView) (k : DriverState) → b ≡ true → apply_if b (scan_state t) k ≡ scan_state t k
+pub where-open : (b : Bool) (t : TransportView) (k : DriverState) → b ≡ true → apply_if b (scan_state t) k ≡ scan_state t k
 where-open true t k e = refl
 where-open false t k e = absurd cc
 
@@ -96,10 +96,10 @@ quiet-byte side log id b fits runs r q =
 
 -- ---- in the words of logs
 
-nothing-out : (side : Side) (g : Log) (k : DriverState) → state_of side g ≡ k → step_actions (transport_view side g) k ≡ [] → pending_actions side g ≡ []
+pub nothing-out : (side : Side) (g : Log) (k : DriverState) → state_of side g ≡ k → step_actions (transport_view side g) k ≡ [] → pending_actions side g ≡ []
 nothing-out side g k e silent = scanned-out side g ∙ ap (step_actions (transport_view side g)) e ∙ silent
 
-quiet-where : (b : Bool) (side : Side) (g : Log) → pending_actions side g ≡ [] → apply_if b (with_actions (pending_actions side g)) g ≡ g
+pub quiet-where : (b : Bool) (side : Side) (g : Log) → pending_actions side g ≡ [] → apply_if b (with_actions (pending_actions side g)) g ≡ g
 quiet-where true side g e = ap (λ (acts : List Action). with_actions acts g) e
 quiet-where false side g e = refl
 

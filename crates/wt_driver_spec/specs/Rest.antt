@@ -1,5 +1,5 @@
 -- A driver at rest: no slot, no check and no action is left for a scan, until something new comes.
-use Rattle.std.specs.Prelude.{[], ◌&&◌, ◌==◌, ◌∷◌, ◌≡◌, Bool, List, false, nat_lt, suc, true, ℕ}
+use Rattle.std.specs.Prelude.{[], ◌&&◌, ◌==◌, ◌∷◌, ◌≡◌, Bool, List, false, if◌then◌else◌, nat_lt, suc, true, ℕ}
 use Rattle.wt_proto.specs.Uni.{is_final}
 use Rattle.wt_spec.specs.Driver.{transport_view}
 use Rattle.wt_spec.specs.Scan.{SlotRule, bi_rule, check_control, check_session, checks, uni_rule}
@@ -74,3 +74,29 @@ pub record IsQuiet (t : TransportView) (bytes : ℕ → List ℕ) (id : ℕ) (s 
   pub bis : StillReads (bi_rule (with_contents t bytes)) id s.bis
   pub session : check_session (with_contents t bytes) s.session (with_no_stops s.progress) ≡ with_no_stops s.progress
   pub control : check_control (with_contents t bytes) s.dispatched.control (with_no_stops s.progress) ≡ with_no_stops s.progress
+
+-- ---- more bytes of one stream, with which the peer's SETTINGS may have come
+
+-- SETTINGS came, or not
+abbrev pub with_came : DriverProgress → Bool → DriverProgress
+with_came p came = record p { settings = came }
+
+-- the state after a moment that only notes whether SETTINGS came
+abbrev pub silent_state : Bool → DriverState → DriverState
+silent_state came s = record (begin_scan s) { progress = with_came (with_no_stops s.progress) came }
+
+-- with these bytes of one stream no header is read to its end, no walk ends, and SETTINGS came, or not
+pub record IsSilent (t : TransportView) (bytes : ℕ → List ℕ) (id : ℕ) (s : DriverState) (came : Bool) : Type 0 where
+  pub others : (j : ℕ) → (id == j) ≡ false → bytes j ≡ t.contents j
+  pub unis : StillReads (uni_rule (with_contents t bytes)) id s.unis
+  pub bis : StillReads (bi_rule (with_contents t bytes)) id s.bis
+  pub session : check_session (with_contents t bytes) s.session (with_no_stops s.progress) ≡ with_no_stops s.progress
+  pub control : check_control (with_contents t bytes) s.dispatched.control (with_no_stops s.progress) ≡ with_came (with_no_stops s.progress) came
+
+-- these bytes in the place of what came for stream id
+abbrev pub contents_with : TransportView → ℕ → List ℕ → ℕ → List ℕ
+contents_with t id bytes k = if id == k then bytes else t.contents k
+
+-- Were these all bytes of stream id, no header would be read to its end, no walk would end, and SETTINGS would have come, or not.
+abbrev pub SaysNothing : TransportView → ℕ → List ℕ → DriverState → Bool → Type 0
+SaysNothing t id bytes s came = IsSilent t (contents_with t id bytes) id s came

@@ -1,5 +1,5 @@
 -- What a driver follows after its calls for a session.
-use Rattle.std.proofs.Common.{arith, ◌≡◌, ℕ, ◌+◌, ◌*◌, ◌%◌, Bool, true, false, List, [], ◌∷◌, ◌⊎◌, inl, refl, sym, ap, subst, ◌∙◌}
+use Rattle.std.proofs.Common.{arith, ◌≡◌, ℕ, ◌+◌, ◌*◌, ◌%◌, Bool, true, false, List, [], ◌∷◌, inl, refl, sym, ap, subst, ◌∙◌}
 use Rattle.std.specs.Prelude.{◌&&◌, ◌==◌, Option, Some, None, Result, OnOk, if◌then◌else◌, is_some, not}
 use Rattle.std.proofs.lemmas.Bool.{true≢false}
 use Rattle.wt_dispatch.specs.Requests.{first_request, request_in}

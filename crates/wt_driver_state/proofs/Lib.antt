@@ -27,3 +27,9 @@ pub mod Answering
 pub mod AtRest
 pub mod SettingsKept
 pub mod ForSessions
+pub mod Pieces
+pub mod OneReader
+pub mod Walks
+pub mod Readings
+pub mod ControlFault
+pub mod ControlPieces

@@ -58,11 +58,11 @@ with-piece-added k (Received id byte) before = by (id == k)
     by false = sym (append-nil before)
 with-piece-added k _ before = sym (append-nil before)
 
-drop-stays : (offset : ℕ) (xs more : List ℕ) (end later : StreamEnd) (s : Settings) → (control_walk_of (drop offset xs) end).settings ≡ Some s → (control_walk_of (drop offset (xs ++ more)) later).settings ≡ Some s
+pub drop-stays : (offset : ℕ) (xs more : List ℕ) (end later : StreamEnd) (s : Settings) → (control_walk_of (drop offset xs) end).settings ≡ Some s → (control_walk_of (drop offset (xs ++ more)) later).settings ≡ Some s
 drop-stays offset xs more end later s e =
     ap (λ (ys : List ℕ). (control_walk_of ys later).settings) (drop-after offset xs more) ∙ settings_stay (drop offset xs) (left_after offset xs more) end later s e
 
-read-stays : (side : Side) (log : Log) (e : Entry) (o : Option (ℕ × ℕ)) (s : Settings) → settings_read (transport_view side log) o ≡ Some s → settings_read (transport_view side (e ∷ log)) o ≡ Some s
+pub read-stays : (side : Side) (log : Log) (e : Entry) (o : Option (ℕ × ℕ)) (s : Settings) → settings_read (transport_view side log) o ≡ Some s → settings_read (transport_view side (e ∷ log)) o ≡ Some s
 read-stays side log e None s f = absurd cc
 read-stays side log e (Some c) s f =
     ap (λ (ys : List ℕ). (control_walk_of (drop c.1 ys) (end_of (events_of (e ∷ log)) c.0)).settings) (with-piece-added c.0 e (contents log c.0))
@@ -136,6 +136,15 @@ module _ (ready : Bool) (rule : SlotRule) where
       by None g = g
       by (Some x) g = goes-same c
 
+-- the scans of both kinds leave whether SETTINGS came, and the control stream that was classified
+pub scans-go-on : (t : TransportView) (s : DriverState) → ((scan_bi_slots t (scan_uni_slots t s)).progress.settings ≡ s.progress.settings)
+    × ((x : ℕ × ℕ) → s.dispatched.control ≡ Some x → (scan_bi_slots t (scan_uni_slots t s)).dispatched.control ≡ Some x)
+scans-go-on t s =
+    let a : DriverState = scan_uni_slots t s in
+    let unis = slots-go-on t.ready (uni_rule t) s.unis 0 (known_of s) in
+    let bis = slots-go-on t.ready (bi_rule t) a.bis 0 (known_of a) in
+    (bis.has_come ∙ unis.has_come, λ x e. bis.control x (unis.control x e))
+
 -- ---- the checks: only that of the control stream tells that SETTINGS came
 
 or-false : (b : Bool) → (b || false) ≡ b
@@ -183,12 +192,12 @@ fault-came : (o : Option ErrorCode) (p : DriverProgress) → (with_fault o p).se
 fault-came None p = refl
 fault-came (Some code) p = refl
 
-control-came : (t : TransportView) (o : Option (ℕ × ℕ)) (p : DriverProgress) → (check_control t o p).settings ≡ (p.settings || is_some (settings_read t o))
+pub control-came : (t : TransportView) (o : Option (ℕ × ℕ)) (p : DriverProgress) → (check_control t o p).settings ≡ (p.settings || is_some (settings_read t o))
 control-came t None p = sym (or-false p.settings)
 control-came t (Some c) p =
     fault-came (control_walk_of (drop c.1 (t.contents c.0)) (t.end c.0)).fault (record p { settings = p.settings || is_some (control_walk_of (drop c.1 (t.contents c.0)) (t.end c.0)).settings })
 
-three-came : (t : TransportView) (s : DriverState) → (session_checked t s.session (datagram_checked t s.datagrams s.progress)).settings ≡ s.progress.settings
+pub three-came : (t : TransportView) (s : DriverState) → (session_checked t s.session (datagram_checked t s.datagrams s.progress)).settings ≡ s.progress.settings
 three-came t s =
     let p : DriverProgress = datagram_checked t s.datagrams s.progress in
     let q : DriverProgress = unless_ended p.ending (check_session t s.session) p in
@@ -255,18 +264,18 @@ scanned-agrees t s kept k =
 -- ---- a moment
 
 -- an entry changes neither whether SETTINGS came nor which stream is the control stream
-entry-keeps : (t : TransportView) (m : Entry) (s : DriverState) → ((after_entry t m s).progress.settings ≡ s.progress.settings) × ((after_entry t m s).dispatched.control ≡ s.dispatched.control)
+pub entry-keeps : (t : TransportView) (m : Entry) (s : DriverState) → ((after_entry t m s).progress.settings ≡ s.progress.settings) × ((after_entry t m s).dispatched.control ≡ s.dispatched.control)
 entry-keeps t (Reported PeerUni) s = (refl, refl)
 entry-keeps t (Reported _) s = (refl, refl)
 entry-keeps t (Called (StreamAccepted id)) s = (refl, refl)
 entry-keeps t (Called _) s = (refl, refl)
 entry-keeps t _ s = (refl, refl)
 
-came-says : (side : Side) (log : Log) → (state_of side log).progress.settings ≡ settings_came side log
+pub came-says : (side : Side) (log : Log) → (state_of side log).progress.settings ≡ settings_came side log
 unfolding state_of
 came-says side log = refl
 
-control-says : (side : Side) (log : Log) → (state_of side log).dispatched.control ≡ peer_control side log
+pub control-says : (side : Side) (log : Log) → (state_of side log).dispatched.control ≡ peer_control side log
 unfolding state_of
 control-says side log = refl
 

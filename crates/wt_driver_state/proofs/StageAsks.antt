@@ -38,7 +38,7 @@ pub record ChecksAsk (t : TransportView) (s : DriverState) (stage : ℕ → Stag
       → control_offset (unless_ended_stage (datagram_checked t s.datagrams s.progress).ending (session_stages t s.session stage) stage id) ≡ Some offset
 
 -- the session's stream can be read where its part begins
-session-read : (side : Side) (role : StreamRole) (o : Option Classified) (done : CallUse) (s : ℕ × ℕ) (ending : Option Ending) (stage : Stage) → (side ≡ Client → o ≡ None) → done.session ≡ Some s
+pub session-read : (side : Side) (role : StreamRole) (o : Option Classified) (done : CallUse) (s : ℕ × ℕ) (ending : Option Ending) (stage : Stage) → (side ≡ Client → o ≡ None) → done.session ≡ Some s
     → session_at side role o s.1 ≡ Some s.1 → ending ≡ None → StageSays role done ending o stage → session_offset stage ≡ Some s.1
 session-read Client role o done s ending stage own is offset e f = by role offset (rw (own refl) at f)
   where
@@ -54,7 +54,7 @@ session-read Server role (Some c) done s ending stage own is offset e f = by c.s
     by false _ g f = absurd cc
 
 -- the control stream's walk begins after its type
-control-read : (role : StreamRole) (o : Option Classified) (done : CallUse) (ending : Option Ending) (offset : ℕ) (stage : Stage) → verdict_in o ≡ Some (verdicts.Control offset) → StageSays role done ending o stage → control_offset stage ≡ Some offset
+pub control-read : (role : StreamRole) (o : Option Classified) (done : CallUse) (ending : Option Ending) (offset : ℕ) (stage : Stage) → verdict_in o ≡ Some (verdicts.Control offset) → StageSays role done ending o stage → control_offset stage ≡ Some offset
 control-read role None done ending offset stage e f = absurd cc
 control-read role (Some c) done ending offset stage e f = let same : c.verdict ≡ verdicts.Control offset = cc in subst (λ v. ClassifiedSays c.surplus v done ending stage) same f
 

@@ -48,7 +48,7 @@ own-none Server cs id offset own e is = absurd cc
 
 -- ---- what is said of the session's stream, and of the control stream
 
-session-says : (side : Side) (role : StreamRole) (o : Option Classified) (done : CallUse) (s : ℕ × ℕ) (ending : Option Ending) (stage : Stage) → (side ≡ Client → o ≡ None) → done.session ≡ Some s
+pub session-says : (side : Side) (role : StreamRole) (o : Option Classified) (done : CallUse) (s : ℕ × ℕ) (ending : Option Ending) (stage : Stage) → (side ≡ Client → o ≡ None) → done.session ≡ Some s
     → session_at side role o s.1 ≡ Some s.1 → (ending ≡ None → session_offset stage ≡ Some s.1) → StageSays role done ending o stage
 session-says Client role o done s ending stage own is offset f = rw (own refl) (by role offset)
   where
@@ -64,7 +64,7 @@ session-says Server role (Some c) done s ending stage own is offset f = by c.sur
     by false _ e = absurd cc
 
 -- what is said of the control stream, once its walk began
-control-says : (role : StreamRole) (o : Option Classified) (done : CallUse) (ending : Option Ending) (offset : ℕ) → verdict_in o ≡ Some (verdicts.Control offset) → StageSays role done ending o (ControlBody offset)
+pub control-says : (role : StreamRole) (o : Option Classified) (done : CallUse) (ending : Option Ending) (offset : ℕ) → verdict_in o ≡ Some (verdicts.Control offset) → StageSays role done ending o (ControlBody offset)
 control-says role None done ending offset e = absurd cc
 control-says role (Some c) done ending offset e = let same : c.verdict ≡ verdicts.Control offset = cc in subst (λ v. ClassifiedSays c.surplus v done ending (ControlBody offset)) (sym same) refl
 

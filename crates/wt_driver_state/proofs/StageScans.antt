@@ -102,12 +102,12 @@ newly half t d k (verdicts.Decoder offset) done ending e f = let-go ((rule_of ha
 newly half t d k _ done ending e f = tt
 
 -- of a stream that isn't classified and that the peer opened
-first-of : (half : Half) (role : StreamRole) (done : CallUse) (ending : Option Ending) (stage : Stage) → role ≡ peer_role half → FirstSays role done ending stage
+pub first-of : (half : Half) (role : StreamRole) (done : CallUse) (ending : Option Ending) (stage : Stage) → role ≡ peer_role half → FirstSays role done ending stage
     → (awaits half stage ≡ true) × (done.read ≡ 0) × (done.is_dropped ≡ false)
 first-of Uni role done ending stage e f = rw e at f
 first-of Bi role done ending stage e f = rw e at f
 
-header-says : (half : Half) (role : StreamRole) (done : CallUse) (ending : Option Ending) → role ≡ peer_role half → done.read ≡ 0 → done.is_dropped ≡ false → FirstSays role done ending (header_stage half)
+pub header-says : (half : Half) (role : StreamRole) (done : CallUse) (ending : Option Ending) → role ≡ peer_role half → done.read ≡ 0 → done.is_dropped ≡ false → FirstSays role done ending (header_stage half)
 header-says Uni role done ending e f g = rw e (refl, f, g)
 header-says Bi role done ending e f g = rw e (refl, f, g)
 

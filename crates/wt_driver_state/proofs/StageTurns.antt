@@ -33,7 +33,7 @@ use Rattle.wt_spec.specs.Effect.{Effect, close_when_open, driver_error, head_lef
 use Rattle.wt_spec.specs.Halves.{all_written_reply, exact_at_end, finish_once, has_receiving_half, has_sending_half, is_done, on_half, read, read_exact, read_reply, reset, set_priority, take_bytes, unread_body, write_by, write_error, written_reply}
 use Rattle.wt_spec.specs.Handshake.{Connecting, HandshakeState, Requested, Responding, accept_response, await_or_fail, await_response, awaits_answer, continue_by, deliver, establish, fail_handshake, handshake_state, has_success, incoming, is_refused, open_request, queued_requests, read_response, reject_response, request_end, requested_stream, respond, send_request, start_response, unless_reserved}
 use Rattle.wt_spec.specs.StreamTable.{Classified, dispatched_streams, verdict_of}
-use Rattle.wt_turn.specs.Log.{BytesRead, CallRecord, Called, ConnectStarted, DatagramPassed, DatagramReceived, Event, HandshakeOver, Log, OpeningFailed, OpeningStarted, Polled, PrioritySet, Received, Reported, RequestDelivered, Reset, ResetUnsent, ResponseStarted, Sent, SessionEstablished, StreamAccepted, StreamGivenUp, StreamPassed, actions_of, calls_of, events_of, is_open, with_actions}
+use Rattle.wt_turn.specs.Log.{BytesRead, CallRecord, Called, ConnectStarted, DatagramPassed, DatagramReceived, Event, HandshakeOver, Log, OpeningFailed, OpeningStarted, Polled, PrioritySet, Received, Reported, RequestDelivered, ResetUnsent, ResponseStarted, Sent, SessionEstablished, StreamAccepted, StreamGivenUp, StreamPassed, actions_of, calls_of, events_of, is_open, with_actions}
 use Rattle.wt_turn.specs.declared.action.Action.{Action}
 use Rattle.wt_turn.specs.declared.call.Call.{Call}
 use Rattle.wt_turn.specs.declared.connecting_error.ConnectingError.{ConnectingError}

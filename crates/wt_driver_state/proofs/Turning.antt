@@ -1,8 +1,7 @@
 -- Turns of the transport, from what the driver's parts ensure: what it follows once it took one in.
-use Rattle.std.proofs.Common.{◌≡◌, ◌≤◌, ◌<◌, ◌+◌, ◌*◌, ◌%◌, ◌/◌, ℕ, Bool, true, false, List, [], ◌∷◌, ◌++◌, length, get_or, drop, refl, sym, ap, subst, ◌∙◌}
+use Rattle.std.proofs.Common.{◌≡◌, ◌+◌, ◌*◌, ◌%◌, ◌/◌, ℕ, Bool, true, false, List, [], ◌∷◌, ◌++◌, refl, sym, ap, subst, ◌∙◌}
 use Rattle.std.specs.Prelude.{◌&&◌, ◌==◌, Option, Some, None, Result, Ok, Err, IsTrue, OnOk, not, is_some, if◌then◌else◌}
 use Rattle.std.proofs.lemmas.Bool.{and_parts}
-use Rattle.std.proofs.lemmas.List.{drop_more, drop_all}
 use Rattle.wt_flush.proofs.FlushFacts.{counts-more, receives-on}
 use Rattle.std.proofs.lemmas.Result.{on_ok_weaker}
 use Rattle.wt_driver_state.proofs.Moved.{open-is}
@@ -28,7 +27,7 @@ use Rattle.wt_seam.proofs.Asking.{refined_peer_bis, refined_peer_unis}
 use Rattle.wt_seam.proofs.Refining.{refined_fits}
 use Rattle.wt_seam.specs.State.{TransportState}
 use Rattle.wt_seam.specs.Step.{fits_now}
-use Rattle.wt_seam_spec.specs.Arrivals.{event_entry, fits, log_bytes_if, log_turn, may_receive}
+use Rattle.wt_seam_spec.specs.Arrivals.{event_entry, fits, log_turn, may_receive}
 use Rattle.wt_seam_spec.specs.Reports.{end_of, is_connected, is_running, loss_of, with_datagram}
 use Rattle.wt_seam_spec.specs.Streams.{can_receive, can_send, exists, local_count, peer_bi, peer_count, peer_opens, peer_uni}
 use Rattle.wt_spec.specs.Answers.{log_after, receive}
@@ -112,26 +111,6 @@ module _ (side : Side) (log : Log) (collected : ℕ) (d : DriverValue) (f : Foll
       closed : is_open (ReportedLate e ∷ log) ≡ true → ⊥
       closed later = none (sym o ∙ sym (open-more (ReportedLate e) log) ∙ later)
 
-  -- a byte was noted
-  pub byte-noted : (id byte : ℕ) (new : DriverValue) → is_open log ≡ true → inboxes.Refines side new.inbox (Received id byte ∷ log) f.refines.stage (uncollected_since collected log)
-      → new.state ≡ record d.state { is_open = new.inbox.transport.is_open } → new.queue ≡ d.queue → new.settings ≡ d.settings → EntryNoted side log (Received id byte) new collected
-  byte-noted id byte new o r s q k = record {
-    stage = f.refines.stage;
-    inbox = r;
-    fit = f.refines.staged;
-    state_is = s ∙ (λ i. record (f.refines.state_is i) { is_open = open-after side log (Received id byte) new.inbox f.refines.stage (uncollected_since collected log) r i });
-    queue_is = q ∙ f.refines.queue_is;
-    settings = subst (KeepsSettings side log) (sym k) f.refines.settings;
-    within = f.within;
-    at_moment = refl;
-    may = tt;
-    can = tt;
-    fits = f.refines.fits;
-    uses = f.refines.uses;
-    rests = f.rests;
-    sends = λ later. record { unfinished = (f.sends o).unfinished; unreset = (f.sends o).unreset; session = (f.sends o).session };
-  }
-
   -- bytes that came after the end are left out
   pub unchanged-follows : (new : DriverValue) → inboxes.Refines side new.inbox log f.refines.stage (uncollected_since collected log) → new.state ≡ record d.state { is_open = new.inbox.transport.is_open } → new.queue ≡ d.queue → new.settings ≡ d.settings
       → Follows side new log collected
@@ -178,31 +157,6 @@ fits-on side log k b p q f = by (is_open log) (is_moment (Received k b) && is_op
     by true false = fits-later side (Received k b) log k p q refl f
     by false c = f
 
--- ---- the bytes of a piece, one after another
-
--- so many bytes were taken
-pub record BytesSoFar (side : Side) (log : Log) (collected : ℕ) (id : ℕ) (bytes : List ℕ) (offset : ℕ) (d : DriverValue) : Type 0 where
-  pub log_now : Log
-  pub follows : Follows side d log_now collected
-  pub left : receive side log_now id (drop offset bytes) ≡ receive side log id bytes
-  pub fit : fits side log_now (turns.Bytes id []) ≡ true
-
-module _ (side : Side) (log : Log) (collected id : ℕ) (bytes : List ℕ) where
-  pub bytes-begin : (d : DriverValue) → Follows side d log collected → fits side log (turns.Bytes id bytes) ≡ true → BytesSoFar side log collected id bytes 0 d
-  bytes-begin d f may = record { log_now = log; follows = f; left = refl; fit = may }
-
-  module _ (offset : ℕ) (d : DriverValue) (s : BytesSoFar side log collected id bytes offset d) where
-    pub bytes-on : (new : DriverValue) → offset < length bytes → Follows side new (receive side s.log_now id (get_or bytes offset 0 ∷ [])) collected → BytesSoFar side log collected id bytes (offset + 1) new
-    bytes-on new lt f = record {
-      log_now = receive side s.log_now id (get_or bytes offset 0 ∷ []);
-      follows = f;
-      left = sym (ap (receive side s.log_now id) (drop_more bytes offset 0 lt)) ∙ s.left;
-      fit = fits-on side s.log_now id (get_or bytes offset 0) [] [] s.fit;
-    }
-
-    pub bytes-end : length bytes ≤ offset → Follows side d (receive side log id bytes) collected
-    bytes-end le = subst (λ (l : Log). Follows side d l collected) (sym (ap (receive side s.log_now id) (drop_all offset bytes le)) ∙ s.left) s.follows
-
 -- ---- whole turns
 
 -- the log after a turn that is an event
@@ -216,28 +170,12 @@ after-event-turn side log _ e is = ap (λ (x : Event). flush side (event_entry (
 
 -- an event's moment, by whether the connection is open
 pub event-follows : (side : Side) (log : Log) (collected : ℕ) (turn : Turn) (e : Event) (d new : DriverValue) (r : Result (Unit {0}) OutOfMemory) → event_of turn ≡ Some e → EventNoted side log e d collected
-    → ((m : Entry) → EntryNoted side log m d collected → OnOk r (Follows side new (log_and_flush side log m) collected)) → OnOk r (d.state.is_open ≡ false → new ≡ d) → OnOk r (Follows side new (log_after side log turn) collected)
+    → (EntryNoted side log (Reported e) d collected → OnOk r (Follows side new (log_and_flush side log (Reported e)) collected)) → OnOk r (d.state.is_open ≡ false → new ≡ d) → OnOk r (Follows side new (log_after side log turn) collected)
 event-follows side log collected turn e d new r is t flushed same = subst (λ (l : Log). OnOk r (Follows side new l collected)) (sym (after-event-turn side log turn e is)) (by (is_open log) refl)
   where
     by : (o : Bool) → is_open log ≡ o → OnOk r (Follows side new (flush side (event_entry o e ∷ log)) collected)
-    by true o = flushed (Reported e) (t.count_is o)
+    by true o = flushed (t.count_is o)
     by false o = on_ok_weaker r (λ (g : d.state.is_open ≡ false → new ≡ d). subst (λ (v : DriverValue). Follows side v (log_and_flush side log (ReportedLate e)) collected) (sym (g (t.ended o))) (t.late o)) same
-
--- a byte's moment
-pub byte-follows : (side : Side) (log : Log) (collected : ℕ) (d : DriverValue) (f : Follows side d log collected) (id byte : ℕ) (mid new : DriverValue) (r : Result (Unit {0}) OutOfMemory)
-    → inboxes.Refines side mid.inbox (log_turn log (turns.Bytes id (byte ∷ []))) f.refines.stage (uncollected_since collected log) → mid.state ≡ record d.state { is_open = mid.inbox.transport.is_open } → mid.queue ≡ d.queue → mid.settings ≡ d.settings
-    → ((m : Entry) → EntryNoted side log m mid collected → OnOk r (Follows side new (log_and_flush side log m) collected)) → OnOk r (mid.state.is_open ≡ false → new ≡ mid) → OnOk r (Follows side new (receive side log id (byte ∷ [])) collected)
-byte-follows side log collected d f id byte mid new r x s q k flushed same = by (is_open log) refl x
-  where
-    by : (o : Bool) → is_open log ≡ o → inboxes.Refines side mid.inbox (log_bytes_if o log id (byte ∷ [])) f.refines.stage (uncollected_since collected log)
-        → OnOk r (Follows side new (if o then log_and_flush side log (Received id byte) else log) collected)
-    by true o y = flushed (Received id byte) (byte-noted side log collected d f id byte mid o y s q k)
-    by false o y =
-        on_ok_weaker r
-        (λ (g : mid.state.is_open ≡ false → new ≡ mid).
-        subst (λ (v : DriverValue). Follows side v log collected) (sym (g (ap (λ (k : DriverState). k.is_open) s ∙ open-is side log (uncollected_since collected log) mid.inbox f.refines.stage y ∙ o)))
-        (unchanged-follows side log collected d f mid y s q k))
-        same
 
 -- the log after a turn in an event's shape
 pub event-turn-log : (log : Log) (turn : Turn) (e : Event) → event_of turn ≡ Some e → log_turn log turn ≡ event_entry (is_open log) e ∷ log

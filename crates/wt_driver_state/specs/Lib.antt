@@ -9,3 +9,5 @@ pub mod Arriving
 pub mod Calling
 pub mod Sessions
 pub mod OfLog
+pub mod Reads
+pub mod Walks

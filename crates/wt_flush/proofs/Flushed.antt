@@ -2,7 +2,7 @@
 use Rattle.std.proofs.Common.{arith, ◌≡◌, ◌<◌, ◌≤◌, ◌+◌, ◌-◌, ◌/◌, ◌%◌, ℕ, zero, suc, Bool, true, false, List, [], ◌∷◌, ◌++◌, length, get_or, take, drop, refl, sym, ap, subst, ◌∙◌, length-take, add-zero}
 use Rattle.std.specs.Prelude.{Option, Some, None, is_some, min, nat_lt, not, ◌==◌, ◌&&◌, if◌then◌else◌}
 use Rattle.std.proofs.lemmas.Bool.{lt-ltb, ltb-true, and_parts}
-use Rattle.std.proofs.lemmas.List.{drop_more, drop_all}
+use Rattle.std.proofs.lemmas.List.{drop_more, drop_all, length-take}
 use Rattle.wt_flush.specs.Flushing.{CanReset, CanStop, ControlRuns, OpensControl, Sends, SendsControl}
 use Rattle.wt_seam_spec.specs.Acting.{local_kind}
 use Rattle.wt_driver_spec.proofs.ControlStream.{control-opens, control-sends, take-after}
@@ -290,6 +290,15 @@ module _ (side : Side) (log : Log) (stage : ℕ → Stage) (uncollected : List A
     pub sends_nothing : may_send side log (local_uni side) ≡ false → SendsControl side log stage uncollected (send_of (local_uni side) rest) x sent (sent + length rest)
     sends_nothing e =
         let none = nothing-left e in
+        record {
+          inbox = subst (λ (xs : List ℕ). Refines side x (with_actions (send_of (local_uni side) xs) log) stage (newest_first (send_of (local_uni side) xs) uncollected)) (sym none) r;
+          sent_is = sym (ap (λ (xs : List ℕ). sent + length xs) none ∙ add-zero sent);
+        }
+
+    -- where all of it is out, nothing is left
+    pub sends_no_more : length local_control_bytes ≤ sent → SendsControl side log stage uncollected (send_of (local_uni side) rest) x sent (sent + length rest)
+    sends_no_more l =
+        let none : rest ≡ [] = drop_all sent (take (transport_view side log).credit local_control_bytes) (omega (arith, l, length-take (transport_view side log).credit local_control_bytes)) in
         record {
           inbox = subst (λ (xs : List ℕ). Refines side x (with_actions (send_of (local_uni side) xs) log) stage (newest_first (send_of (local_uni side) xs) uncollected)) (sym none) r;
           sent_is = sym (ap (λ (xs : List ℕ). sent + length xs) none ∙ add-zero sent);

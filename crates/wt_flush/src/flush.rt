@@ -28,6 +28,9 @@ use wt_wire::varint::VarInt;
 
 // ---- this end's control stream
 
+/// How long the head of this end's control stream is: its type and its SETTINGS.
+const CONTROL_LENGTH: usize = 25;
+
 /// The bytes from this offset on; none past the end.
 fn bytes_after(bytes: &[u8], offset: usize) -> &[u8]
     ensures { result.now ≡ drop offset bytes.now }
@@ -69,6 +72,9 @@ fn send_control(inbox: &mut Inbox, alloc: Global, sent: &mut usize) -> Result<()
         → (transport_view side log).may_open ≡ true
         → OnOk result (SendsControl side log stage uncollected (send_of (local_uni side) (drop sent.old (take (transport_view side log).credit local_control_bytes))) inbox.new sent.new (sent.old + length (drop sent.old (take (transport_view side log).credit local_control_bytes))))) }
 {
+    if *sent >= CONTROL_LENGTH {
+        return Ok(());
+    }
     let id = control_id(inbox.side());
     if !inbox.may_send(id) {
         return Ok(());

@@ -100,7 +100,7 @@ module _ {S O : Type 0} {start : S} {decide : S → List ℕ → Step S O} {want
   pulled-answered = answered start decide law.steady unfinished final outcome_of law.reaches (kept x) (kept y) x.transport y.transport id p.pulled
 
   -- unless that is final, all was read
-  pulled-read : ((s : S) (b : Bool) → final (unfinished Running s b) ≡ false) → final (outcome_now decide start unfinished (kept x) x.transport id) ≡ false → unread_now y.transport id ≡ []
+  pub pulled-read : ((s : S) (b : Bool) → final (unfinished Running s b) ≡ false) → final (outcome_now decide start unfinished (kept x) x.transport id) ≡ false → unread_now y.transport id ≡ []
   pulled-read goes-on = asked-read start decide law.steady unfinished final outcome_of law.reaches goes-on (kept x) (kept y) x.transport y.transport id p.pulled (end_now x.transport id)
 
   module _ {z : InboxState} (q : RemovedIn start kept with_kept y z id) where

@@ -10,3 +10,5 @@ pub mod Reaching
 pub mod AnswersStay
 pub mod Staging
 pub mod Passing
+pub mod ReadAtOnce
+pub mod Feeding

@@ -88,12 +88,12 @@ reached-none {offset} {bytes} none at_offset within =
 -- ---- which walk may begin
 
 module _ {side : Side} {x : InboxState} {log : Log} {stage : ℕ → Stage} {uncollected : List Action} (r : Refines side x log stage uncollected) (k : ℕ) where
-  uni-opens : (offset : Stage) → awaits_uni offset ≡ true → IsAt x k (contents log k) (r.position k) offset → HasReached tt uni_decides is_final uni_verdict_of (reading_of tt x.unis k) 0 (contents log k) (r.position k) × HasNoWalk x k
+  pub uni-opens : (offset : Stage) → awaits_uni offset ≡ true → IsAt x k (contents log k) (r.position k) offset → HasReached tt uni_decides is_final uni_verdict_of (reading_of tt x.unis k) 0 (contents log k) (r.position k) × HasNoWalk x k
   uni-opens Untouched a h = (reached-none h.1.uni h.0 (r.transport.holds k).within, h.1.walk)
   uni-opens UniHeader a h = h
   uni-opens _ a h = absurd cc
 
-  bi-opens : (offset : Stage) → awaits_bi offset ≡ true → IsAt x k (contents log k) (r.position k) offset → HasReached 0 bi_decides is_final bi_verdict_of (reading_of 0 x.bis k) 0 (contents log k) (r.position k) × HasNoWalk x k
+  pub bi-opens : (offset : Stage) → awaits_bi offset ≡ true → IsAt x k (contents log k) (r.position k) offset → HasReached 0 bi_decides is_final bi_verdict_of (reading_of 0 x.bis k) 0 (contents log k) (r.position k) × HasNoWalk x k
   bi-opens Untouched a h = (reached-none h.1.bi h.0 (r.transport.holds k).within, h.1.walk)
   bi-opens BiHeader a h = h
   bi-opens _ a h = absurd cc
@@ -103,13 +103,13 @@ module _ {side : Side} {x : InboxState} {log : Log} {stage : ℕ → Stage} {unc
   response-opens ResponseHead a h = h
   response-opens _ a h = absurd cc
 
-  control-opens : (offset : Stage) (from : ℕ) → control_offset offset ≡ Some from → IsAt x k (contents log k) (r.position k) offset → HasReached None control_decides (λ (w : ControlWalk). is_some w.fault) control_walk_of (reading_of None x.controls k) from (contents log k) (r.position k)
+  pub control-opens : (offset : Stage) (from : ℕ) → control_offset offset ≡ Some from → IsAt x k (contents log k) (r.position k) offset → HasReached None control_decides (λ (w : ControlWalk). is_some w.fault) control_walk_of (reading_of None x.controls k) from (contents log k) (r.position k)
   control-opens Untouched from a h = (let same : 0 ≡ from = cc in reached-none h.1.walk.control (h.0 ∙ ap AtOffset same) (r.transport.holds k).within)
   control-opens (Body n) from a h = (let same : n ≡ from = cc in reached-none h.1.control (h.0 ∙ ap AtOffset same) (r.transport.holds k).within)
   control-opens (ControlBody n) from a h = (let same : n ≡ from = cc in subst (λ (i : ℕ). HasReached None control_decides (λ (w : ControlWalk). is_some w.fault) control_walk_of (reading_of None x.controls k) i (contents log k) (r.position k)) same h)
   control-opens _ from a h = absurd cc
 
-  session-opens : (offset : Stage) (from : ℕ) → session_offset offset ≡ Some from → IsAt x k (contents log k) (r.position k) offset → HasReached tt session_decides is_over session_walk_of (reading_of tt x.sessions k) from (contents log k) (r.position k)
+  pub session-opens : (offset : Stage) (from : ℕ) → session_offset offset ≡ Some from → IsAt x k (contents log k) (r.position k) offset → HasReached tt session_decides is_over session_walk_of (reading_of tt x.sessions k) from (contents log k) (r.position k)
   session-opens Untouched from a h = (let same : 0 ≡ from = cc in reached-none h.1.walk.session (h.0 ∙ ap AtOffset same) (r.transport.holds k).within)
   session-opens (Body n) from a h = (let same : n ≡ from = cc in reached-none h.1.session (h.0 ∙ ap AtOffset same) (r.transport.holds k).within)
   session-opens (SessionBody n) from a h = (let same : n ≡ from = cc in subst (λ (i : ℕ). HasReached tt session_decides is_over session_walk_of (reading_of tt x.sessions k) i (contents log k) (r.position k)) same h)
@@ -118,14 +118,14 @@ module _ {side : Side} {x : InboxState} {log : Log} {stage : ℕ → Stage} {unc
 -- ---- a reader of any kind
 
 -- what is read in front of the walks: its readers are kept beside theirs, and its outcome tells the offset where they stop
-record IsHeader {S O : Type 0} (final : O → Bool) (outcome_of : List ℕ → StreamEnd → O) (with_kept : InboxState → List (KeptReader S O) → InboxState) (offset : O → Option ℕ) : Type 0 where
+pub record IsHeader {S O : Type 0} (final : O → Bool) (outcome_of : List ℕ → StreamEnd → O) (with_kept : InboxState → List (KeptReader S O) → InboxState) (offset : O → Option ℕ) : Type 0 where
   pub walks : (x : InboxState) (l : List (KeptReader S O)) (t : TransportState) (k : ℕ) → HasNoWalk x k → HasNoWalk (with_transport (with_kept x l) t) k
   pub says : IsOffset final outcome_of offset
 
-uni-header : IsHeader is_final uni_verdict_of (λ (x : InboxState) kept. record x { unis = kept }) verdict_offset
+pub uni-header : IsHeader is_final uni_verdict_of (λ (x : InboxState) kept. record x { unis = kept }) verdict_offset
 uni-header = record { walks = λ x l t k n. record { control = n.control; session = n.session }; says = uni_offset }
 
-bi-header : IsHeader is_final bi_verdict_of (λ (x : InboxState) kept. record x { bis = kept }) verdict_offset
+pub bi-header : IsHeader is_final bi_verdict_of (λ (x : InboxState) kept. record x { bis = kept }) verdict_offset
 bi-header = record { walks = λ x l t k n. record { control = n.control; session = n.session }; says = bi_offset }
 
 response-header : IsHeader is_response_final response_walk_of (λ (x : InboxState) kept. record x { responses = kept }) response_offset
@@ -142,12 +142,12 @@ module _ {S O : Type 0} {start : S} {decide : S → List ℕ → Step S O} {want
     kept-says-by : (end : StreamEnd) → outcome_by decide start unfinished (kept x) x.transport id end ≡ outcome_of (drop from (contents log id)) end
     kept-says-by end = outcome-is start decide law.steady unfinished final outcome_of law.reaches (reading_of start (kept x) id) from (contents log id) (r.position id) h (unread_now x.transport id) end unread-is
 
-    kept-says : outcome_now decide start unfinished (kept x) x.transport id ≡ outcome_of (drop from (contents log id)) (end_of (events_of log) id)
+    pub kept-says : outcome_now decide start unfinished (kept x) x.transport id ≡ outcome_of (drop from (contents log id)) (end_of (events_of log) id)
     kept-says = ap (λ (e : StreamEnd). outcome_by decide start unfinished (kept x) x.transport id e) (refined_end side x.transport log r.position uncollected r.transport id) ∙ kept-says-by (end_of (events_of log) id)
 
     module _ {y : InboxState} (p : PulledIn start decide unfinished final outcome_of kept with_kept x y id) where
       -- it read on: it stands further on
-      reached-then : HasReached start decide final outcome_of (reading_of start (kept y) id) from (contents log id) (position_after r.position id p.pulled.pulls.count id)
+      pub reached-then : HasReached start decide final outcome_of (reading_of start (kept y) id) from (contents log id) (position_after r.position id p.pulled.pulls.count id)
       reached-then = subst (λ (q : ReadPosition). HasReached start decide final outcome_of (reading_of start (kept y) id) from (contents log id) q) (sym (here-consumed r.position id p.pulled.pulls.count))
           (reached-on start decide law.steady unfinished final outcome_of law.reaches (reading_of start (kept x) id) from (contents log id) (r.position id) h (reading_of start (kept y) id) x.transport y.transport id p.pulled.pulls unread-is)
 
@@ -176,7 +176,7 @@ module _ {S O : Type 0} {start : S} {decide : S → List ℕ → Step S O} {want
   module _ {offset : O → Option ℕ} (header : IsHeader final outcome_of with_kept offset) (h : HasReached start decide final outcome_of (reading_of start (kept x) id) 0 (contents log id) (r.position id) × HasNoWalk x id)
       {y : InboxState} (p : PulledIn start decide unfinished final outcome_of kept with_kept x y id) where
     -- it read on: no walk has read its stream yet
-    header-then : HasReached start decide final outcome_of (reading_of start (kept y) id) 0 (contents log id) (position_after r.position id p.pulled.pulls.count id) × HasNoWalk y id
+    pub header-then : HasReached start decide final outcome_of (reading_of start (kept y) id) 0 (contents log id) (position_after r.position id p.pulled.pulls.count id) × HasNoWalk y id
     header-then = (reached-then 0 h.0 p, subst (λ (w : InboxState). HasNoWalk w id) (sym p.rest) (header.walks x (kept y) y.transport id h.1))
 
     -- it was let go then: its stream stands where its outcome tells

@@ -99,3 +99,15 @@ pub record Pulled {S O : Type 0} (start : S) (decide : S → List ℕ → Step S
   pub others : (k : ℕ) → (id == k) ≡ false → reading_of start new k ≡ reading_of start old k
   pub kept : is_kept new id ≡ true
   pub count : length new ≡ (if is_kept old id then length old else length old + 1)
+
+-- The reader of one stream among those that are kept was fed a piece: it took so many bytes of it, up to the one with which its
+-- outcome is final, else all of them.
+pub record Fed {S O : Type 0} (start : S) (decide : S → List ℕ → Step S O) (final : O → Bool) (outcome_of : List ℕ → StreamEnd → O)
+    (old new : List (KeptReader S O)) (id : ℕ) (piece : List ℕ) (count : ℕ) : Type 0 where
+  pub within : count ≤ length piece
+  pub fed : reading_of start new id ≡ fed_reading decide (reading_of start old id) (take count piece)
+  pub running : (bytes : List ℕ) (end : StreamEnd) → HasRead decide start (reading_of start old id) bytes end → (m : ℕ) → m < count
+      → final (outcome_of (bytes ++ take m piece) end) ≡ false
+  pub stopped : (bytes : List ℕ) (end : StreamEnd) → HasRead decide start (reading_of start old id) bytes end → count < length piece
+      → final (outcome_of (bytes ++ take count piece) end) ≡ true
+  pub others : (k : ℕ) → (id == k) ≡ false → reading_of start new k ≡ reading_of start old k

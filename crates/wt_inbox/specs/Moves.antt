@@ -7,7 +7,7 @@ use Rattle.wt_proto.specs.Bi.{bi_decides, bi_unfinished, bi_verdict_of}
 use Rattle.wt_proto.specs.ControlWalk.{control_decides, control_unfinished, control_walk_of}
 use Rattle.wt_proto.specs.SessionWalk.{is_over, session_decides, session_unfinished, session_walk_of}
 use Rattle.wt_proto.specs.ResponseWalk.{is_response_final, response_decides, response_unfinished, response_walk_of}
-use Rattle.wt_inbox.specs.KeptReaders.{KeptReader, Pulled, is_kept, reading_of}
+use Rattle.wt_inbox.specs.KeptReaders.{Fed, KeptReader, Pulled, is_kept, reading_of}
 use Rattle.wt_inbox.specs.State.{InboxState, with_transport}
 
 -- the readers of a stream are the same
@@ -24,6 +24,12 @@ pub record PulledIn {S O : Type 0} (start : S) (decide : S → List ℕ → Step
     (kept : InboxState → List (KeptReader S O)) (with_kept : InboxState → List (KeptReader S O) → InboxState) (x y : InboxState) (id : ℕ) : Type 0 where
   pub pulled : Pulled start decide unfinished final outcome_of (kept x) (kept y) x.transport y.transport id
   pub rest : y ≡ with_transport (with_kept x (kept y)) y.transport
+
+-- the reader of a stream among those of one kind was fed a piece, of which it took so many bytes, and nothing else changed
+pub record FedIn {S O : Type 0} (start : S) (decide : S → List ℕ → Step S O) (final : O → Bool) (outcome_of : List ℕ → StreamEnd → O)
+    (kept : InboxState → List (KeptReader S O)) (with_kept : InboxState → List (KeptReader S O) → InboxState) (x y : InboxState) (id : ℕ) (piece : List ℕ) (count : ℕ) : Type 0 where
+  pub fed : Fed start decide final outcome_of (kept x) (kept y) id piece count
+  pub rest : y ≡ with_kept x (kept y)
 
 -- the reader of a stream among those of one kind was let go, and nothing else changed
 pub record RemovedIn {S O : Type 0} (start : S) (kept : InboxState → List (KeptReader S O)) (with_kept : InboxState → List (KeptReader S O) → InboxState) (x y : InboxState) (id : ℕ) : Type 0 where
@@ -67,3 +73,19 @@ SessionPulled x y id = PulledIn tt session_decides session_unfinished is_over se
 -- the reader of a session's stream was let go
 abbrev pub SessionRemoved : InboxState → InboxState → ℕ → Type 0
 SessionRemoved x y id = RemovedIn tt (λ (x : InboxState). x.sessions) (λ (x : InboxState) kept. record x { sessions = kept }) x y id
+
+-- the reader of the header of a unidirectional stream was fed a piece
+abbrev pub UniFed : InboxState → InboxState → ℕ → List ℕ → ℕ → Type 0
+UniFed x y id piece count = FedIn tt uni_decides is_final uni_verdict_of (λ (x : InboxState). x.unis) (λ (x : InboxState) kept. record x { unis = kept }) x y id piece count
+
+-- the reader of the header of a bidirectional stream was fed a piece
+abbrev pub BiFed : InboxState → InboxState → ℕ → List ℕ → ℕ → Type 0
+BiFed x y id piece count = FedIn 0 bi_decides is_final bi_verdict_of (λ (x : InboxState). x.bis) (λ (x : InboxState) kept. record x { bis = kept }) x y id piece count
+
+-- the reader of the control stream was fed a piece
+abbrev pub ControlFed : InboxState → InboxState → ℕ → List ℕ → ℕ → Type 0
+ControlFed x y id piece count = FedIn None control_decides (λ w. is_some w.fault) control_walk_of (λ (x : InboxState). x.controls) (λ (x : InboxState) kept. record x { controls = kept }) x y id piece count
+
+-- the reader of a session's stream was fed a piece
+abbrev pub SessionFed : InboxState → InboxState → ℕ → List ℕ → ℕ → Type 0
+SessionFed x y id piece count = FedIn tt session_decides is_over session_walk_of (λ (x : InboxState). x.sessions) (λ (x : InboxState) kept. record x { sessions = kept }) x y id piece count

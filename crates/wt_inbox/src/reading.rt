@@ -32,18 +32,25 @@ fn feed_counted<W: Walk, L: Ledger>(
     ensures running { (bytes : List ℕ) (end : StreamEnd) (k : ℕ) → HasRead W.decides W.start_state reader.old bytes end
         → IfOk result (λ n. k < n → W.is_final_outcome (W.outcome_of (bytes ++ take k piece.now) end) ≡ false) }
     ensures stops_short { IfOk result (λ n. n < length piece.now → W.is_final_outcome (outcome_in W.unfinished_at reader.new) ≡ true) }
+    ensures stopped { (bytes : List ℕ) (end : StreamEnd) → HasRead W.decides W.start_state reader.old bytes end
+        → IfOk result (λ n. n < length piece.now → W.is_final_outcome (W.outcome_of (bytes ++ take n piece.now) end) ≡ true) }
 {
     let mut steps = Steps::<L>::new(blank);
     reader.feed(piece, &mut steps)
 }
 
 /// The same, where nobody counts.
-fn feed<W: Walk>(reader: &mut StreamReader<W>, piece: &[u8]) -> Result<usize, OutOfMemory>
+pub(crate) fn feed<W: Walk>(
+    reader: &mut StreamReader<W>,
+    piece: &[u8],
+) -> Result<usize, OutOfMemory>
     ensures within { IfOk result (λ n. n ≤ length piece.now) }
     ensures fed { IfOk result (λ n. reader.new ≡ fed_reading W.decides reader.old (take n piece.now)) }
     ensures running { (bytes : List ℕ) (end : StreamEnd) (k : ℕ) → HasRead W.decides W.start_state reader.old bytes end
         → IfOk result (λ n. k < n → W.is_final_outcome (W.outcome_of (bytes ++ take k piece.now) end) ≡ false) }
     ensures stops_short { IfOk result (λ n. n < length piece.now → W.is_final_outcome (outcome_in W.unfinished_at reader.new) ≡ true) }
+    ensures stopped { (bytes : List ℕ) (end : StreamEnd) → HasRead W.decides W.start_state reader.old bytes end
+        → IfOk result (λ n. n < length piece.now → W.is_final_outcome (W.outcome_of (bytes ++ take n piece.now) end) ≡ true) }
 {
     feed_counted::<W, Brand>(reader, piece, Blank::new(1))
 }

@@ -1,13 +1,15 @@
 //! The readers of one kind, each with its stream.
-ghost use Rattle.std.specs.Prelude.{◌≡◌, ◌==◌, ◌+◌, ◌-◌, ℕ, Bool, [], None, IfOk, IfSome, OnOk, if◌then◌else◌, length, false};
+ghost use Rattle.std.specs.Prelude.{◌≡◌, ◌≤◌, ◌<◌, ◌++◌, ◌==◌, ◌+◌, ◌-◌, ℕ, Bool, List, [], None, IfOk, IfSome, OnOk, if◌then◌else◌, length, take, false, true};
+ghost use Rattle.wt_wire.specs.declared.side.StreamEnd.{StreamEnd};
+ghost use Rattle.wt_proto.specs.WalkProgress.{HasRead, fed_reading};
 ghost use Rattle.std.specs.List.{position};
 ghost use Rattle.wt_wire.specs.declared.side.StreamEnd.TheVariants.{Running};
 ghost use Rattle.wt_proto.specs.Reading.{outcome_in};
 ghost use Rattle.wt_proto.specs.Steady.{IsSteady};
 ghost use Rattle.wt_seam.specs.Step.{unread_now};
-ghost use Rattle.wt_inbox.specs.KeptReaders.{Pulled, Pulls, StandsAt, is_kept, no_reading, outcome_after, outcome_by, reading_of};
+ghost use Rattle.wt_inbox.specs.KeptReaders.{Fed, Pulled, Pulls, StandsAt, is_kept, no_reading, outcome_after, outcome_by, reading_of};
 
-use crate::reading::read_all;
+use crate::reading::{feed, read_all};
 use std::alloc::Global;
 use std::marker::Model;
 use wt_proto::reader::StreamReader;
@@ -65,6 +67,20 @@ impl<W: Walk> Entry<W> {
             ≡ W.is_final_outcome (outcome_after W.decides W.unfinished_at self.old.reading (unread_now transport.old self.old.id) Running)) }
     {
         read_all(transport, self.id, &mut self.reader)
+    }
+
+    /// Takes bytes of a piece, and reports how many.
+    fn feed(&mut self, piece: &[u8]) -> Result<usize, OutOfMemory>
+        ensures id { self.new.id ≡ self.old.id }
+        ensures within { IfOk result (λ n. n ≤ length piece.now) }
+        ensures fed { IfOk result (λ n. self.new.reading ≡ fed_reading W.decides self.old.reading (take n piece.now)) }
+        ensures running { (bytes : List ℕ) (end : StreamEnd) (k : ℕ) → HasRead W.decides W.start_state self.old.reading bytes end
+            → IfOk result (λ n. k < n → W.is_final_outcome (W.outcome_of (bytes ++ take k piece.now) end) ≡ false) }
+        ensures stopped { (bytes : List ℕ) (end : StreamEnd) → HasRead W.decides W.start_state self.old.reading bytes end
+            → IfOk result (λ n. n < length piece.now → W.is_final_outcome (W.outcome_of (bytes ++ take n piece.now) end) ≡ true) }
+    {
+        let _ = &self.id;
+        feed(&mut self.reader, piece)
     }
 
     fn outcome(&self) -> &W::Outcome
@@ -140,6 +156,22 @@ impl<W: Walk> Shelf<W> {
         let index = self.index_for(id, fresh)?;
         let entry = &mut self.entries[index];
         entry.read(transport)
+    }
+
+    /// Feeds a piece to the reader of a stream, the fresh one where there was none, and reports how many bytes
+    /// it took: up to the one with which its outcome is final, else all.
+    pub(crate) fn feed(
+        &mut self,
+        id: StreamId,
+        fresh: StreamReader<W>,
+        piece: &[u8],
+    ) -> Result<usize, OutOfMemory>
+        requires { fresh ≡ no_reading W.start_state }
+        ensures { IfOk result (λ n. Fed W.start_state W.decides W.is_final_outcome W.outcome_of self.old self.new id piece.now n) }
+    {
+        let index = self.index_for(id, fresh)?;
+        let entry = &mut self.entries[index];
+        entry.feed(piece)
     }
 
     /// The outcome of a stream's reader, where there is one.

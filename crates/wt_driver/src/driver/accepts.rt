@@ -122,7 +122,7 @@ impl Driver {
         ensures has_given { OnOk result (self.new.has_given_settings ≡ self.old.has_given_settings) }
     {
         self.release(id);
-        self.scan_and_flush()
+        self.scan_and_flush(false)
     }
 
     fn next_due(&self, kind: u64, session: SessionId) -> Option<(StreamId, bool)>
@@ -272,7 +272,7 @@ impl Driver {
         ensures has_given { OnOk result (self.new.has_given_settings ≡ self.old.has_given_settings) }
     {
         let piece = self.take_front()?;
-        self.scan_and_flush()?;
+        self.scan_and_flush(false)?;
         Ok(piece)
     }
 

@@ -4,13 +4,13 @@ ghost use Rattle.wt_driver_state.specs.OfLog.{OfEachLog, Tells};
 ghost use Rattle.wt_driver_state.specs.Arriving.{EventNoted, after_arrival};
 ghost use Rattle.wt_turn.specs.Turns.{event_of, is_call};
 ghost use Rattle.wt_driver_state.specs.Tie.{Follows};
+ghost use Rattle.wt_driver_state.specs.Walks.{is_walked, turn_ends_walk};
 ghost use Rattle.wt_inbox.specs.Stage.{Refines, Stage};
 ghost use Rattle.wt_seam_spec.specs.Arrivals.{fits, log_turn};
-ghost use Rattle.wt_spec.specs.Answers.{log_after, receive};
+ghost use Rattle.wt_spec.specs.Answers.{log_after};
 ghost use Rattle.wt_spec.specs.Driver.{transport_view};
 ghost use Rattle.wt_turn.specs.Log.{Event, Log, is_open};
 ghost use Rattle.wt_turn.specs.declared.action.Action.{Action};
-ghost use Rattle.wt_turn.specs.declared.turn.Turn.TheVariants as turns;
 ghost use Rattle.wt_wire.specs.declared.side.Side.{Side};
 ghost use Rattle.wt_seam_spec.specs.Streams.{peer_bi, peer_uni};
 ghost use Rattle.wt_seam.specs.Step.{fits_now};
@@ -19,6 +19,7 @@ ghost use Rattle.wt_driver_spec.specs.Step.{new_slot};
 ghost use Rattle.wt_driver_state.specs.DriverValue.{with_state};
 
 use super::Driver;
+use super::pieces::is_stream;
 use wt_dispatch::slot::{Slot, peer_bi, peer_uni};
 use wt_turn::piece::Piece;
 use wt_turn::turn::Turn;
@@ -143,6 +144,23 @@ impl Driver {
         self.record_turn(turn)
     }
 
+    /// Whether a walk goes over the stream: that over the session's stream, or that over the peer's control stream.
+    fn is_walked(&self, id: StreamId) -> bool
+        ensures { result ≡ is_walked id self.now.state }
+    {
+        is_stream(id, self.session) || is_stream(id, self.dispatched.control())
+    }
+
+    /// Whether the turn ends a stream that a walk goes over.
+    fn ends_walk(&self, turn: &Turn) -> bool
+        ensures { result ≡ turn_ends_walk (event_of turn.now) self.now.state }
+    {
+        match turn {
+            Turn::End { id } | Turn::Reset { id, .. } => self.is_walked(*id),
+            _ => false,
+        }
+    }
+
     /// Takes in an event, and does the work of its moment.
     fn take_event(&mut self, turn: &Turn) -> Result<(), OutOfMemory>
         requires { IsTrue (fits_now self.old.inbox.transport turn.now) }
@@ -150,51 +168,12 @@ impl Driver {
             → OnOk result (Follows side self.new (log_after side log turn.now) collected) }
         ensures has_given { OnOk result (self.new.has_given_settings ≡ self.old.has_given_settings) }
     {
+        let walk = self.ends_walk(turn);
         self.note_turn(turn)?;
-        self.scan_and_flush()
+        self.scan_and_flush(walk)
     }
 
-    /// Takes in one byte of a stream.
-    fn note_byte(&mut self, id: StreamId, byte: u8) -> Result<(), OutOfMemory>
-        ensures log { (side : Side) (log : Log) (stage : ℕ → Stage) (uncollected : List Action) → Refines side self.old.inbox log stage uncollected
-            → fits side log (turns.Bytes id (byte ∷ [])) ≡ true
-            → OnOk result (Refines side self.new.inbox (log_turn log (turns.Bytes id (byte ∷ []))) stage uncollected) }
-        ensures state { OnOk result (self.new.state ≡ record self.old.state { is_open = self.new.inbox.transport.is_open }) }
-        ensures queue { OnOk result (self.new.queue ≡ self.old.queue) }
-        ensures settings { OnOk result (self.new.settings ≡ self.old.settings) }
-        ensures has_given { OnOk result (self.new.has_given_settings ≡ self.old.has_given_settings) }
-    {
-        if self.inbox.bytes_fit(id) {
-            self.inbox.take_bytes(id, &[byte])?;
-        }
-        Ok(())
-    }
-
-    /// One byte of a stream, with the work of its moment.
-    fn take_byte(&mut self, id: StreamId, byte: u8) -> Result<(), OutOfMemory>
-        ensures log { OfEachLog self.old (λ side log collected. fits side log (turns.Bytes id (byte ∷ [])) ≡ true
-            → OnOk result (Follows side self.new (receive side log id (byte ∷ [])) collected)) }
-        ensures has_given { OnOk result (self.new.has_given_settings ≡ self.old.has_given_settings) }
-    {
-        self.note_byte(id, byte)?;
-        self.scan_and_flush()
-    }
-
-    /// Bytes of a stream, one after another.
-    fn take_bytes(&mut self, id: StreamId, bytes: &[u8]) -> Result<(), OutOfMemory>
-        ensures log { OfEachLog self.old (λ side log collected. fits side log (turns.Bytes id bytes.now) ≡ true
-            → OnOk result (Follows side self.new (receive side log id bytes.now) collected)) }
-        ensures has_given { OnOk result (self.new.has_given_settings ≡ self.old.has_given_settings) }
-    {
-        let mut index = 0;
-        while index < bytes.len() {
-            self.take_byte(id, bytes[index])?;
-            index += 1;
-        }
-        Ok(())
-    }
-
-    /// Takes a turn of the transport, and does the work of its moments: bytes come one after another.
+    /// Takes a turn of the transport, and does the work of its moments: each byte of a piece is one.
     pub fn turn(&mut self, turn: &Turn) -> Result<(), OutOfMemory>
         requires { IsTrue (fits_now self.old.inbox.transport turn.now) }
         ensures log { OfEachLog self.old (λ side log collected. is_call turn.now ≡ false

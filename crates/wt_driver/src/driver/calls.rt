@@ -14,7 +14,7 @@ ghost use Rattle.wt_seam_spec.specs.Joined.{joined_actions, newest_first};
 ghost use Rattle.wt_seam_spec.specs.Outgoing.{if_open};
 ghost use Rattle.wt_seam_spec.specs.Streams.{can_send, contents};
 ghost use Rattle.wt_spec.specs.Connection.{close_connection};
-ghost use Rattle.wt_spec.specs.Driver.{log_and_flush};
+ghost use Rattle.wt_spec.specs.Driver.{establishes, log_and_flush};
 ghost use Rattle.wt_turn.specs.Log.{Called, Log, actions_of, events_of, PrioritySet, ResetUnsent, Sent, is_open, with_actions};
 ghost use Rattle.wt_turn.specs.declared.action.Action.{Action};
 ghost use Rattle.wt_turn.specs.declared.action.Action.TheVariants as actions;
@@ -44,6 +44,13 @@ use wt_wire::ids::StreamId;
 use wt_wire::side::Side;
 use wt_wire::text::Text;
 use wt_wire::varint::VarInt;
+
+/// Whether the call establishes the session.
+fn establishes_session(call: &Record) -> bool
+    ensures { result ≡ is_some (establishes (record_of call.now)) }
+{
+    matches!(call, Record::SessionEstablished(..))
+}
 
 impl Driver {
     // ---- how the connection ended
@@ -254,7 +261,7 @@ impl Driver {
         ensures has_given { OnOk result (self.new.has_given_settings ≡ self.old.has_given_settings) }
     {
         self.note_call(call)?;
-        self.scan_and_flush()
+        self.scan_and_flush(establishes_session(call))
     }
 
     /// Takes in what a call did of which no work comes: a driver at rest stays so. It takes no memory.

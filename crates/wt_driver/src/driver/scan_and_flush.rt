@@ -1,5 +1,5 @@
 //! The work of a moment.
-ghost use Rattle.std.specs.Prelude.{◌≡◌, ◌↔◌, None, IsTrue, ◌==◌, ◌&&◌, List, ℕ, Some, IfOk, OnOk, drop, false, true, not};
+ghost use Rattle.std.specs.Prelude.{◌||◌, ◌≡◌, ◌↔◌, None, IsTrue, ◌==◌, ◌&&◌, List, ℕ, Some, IfOk, OnOk, drop, false, true, not};
 ghost use Rattle.wt_driver_state.specs.Calling.{leaves_at_rest};
 ghost use Rattle.wt_driver_state.specs.DriverValue.{with_state};
 ghost use Rattle.wt_driver_state.specs.Moving.{CanGiveUp, HasDatagram, MayCheck, MayScan, Moves, WalkFrom, front_of};
@@ -8,6 +8,7 @@ ghost use Rattle.wt_driver_state.specs.PeerSettings.{settings_checked, settings_
 ghost use Rattle.wt_scan.specs.Scanning.{AllAwait, SlotsReceive};
 ghost use Rattle.wt_driver_state.specs.Stages.{bi_stages, check_stages, control_stages, datagram_checked, scanned_stages, session_stage, session_stages, uni_stages, unless_ended_stage};
 ghost use Rattle.wt_driver_state.specs.Tie.{EntryNoted, Follows};
+ghost use Rattle.wt_driver_state.specs.Walks.{ControlGoesOn, LeavesWalks, SessionGoesOn, WalksGoOn};
 ghost use Rattle.wt_dispatch.specs.declared.slot.Half.TheVariants as halves;
 ghost use Rattle.wt_driver_spec.specs.Bounds.{AreDistinct, IsBounded};
 ghost use Rattle.wt_driver_spec.specs.Step.{begin_scan, run_checks, scan_bi_slots, scan_state, scan_uni_slots};
@@ -49,6 +50,14 @@ fn stream_of(start: (StreamId, usize)) -> StreamId
     ensures { result ≡ start.0 }
 {
     start.0
+}
+
+/// Whether the walk over the peer's control stream is asked: something may have come for it, or the scan may have
+/// classified the stream.
+fn asks_control(walk: bool, had_control: bool) -> bool
+    ensures { result ≡ (walk || not had_control) }
+{
+    walk || !had_control
 }
 
 impl Driver {
@@ -216,14 +225,18 @@ impl Driver {
         self.dispatched.decoder()
     }
 
-    /// The peer's end of the session ends the connection.
-    fn check_session(&mut self) -> Result<(), OutOfMemory>
+    /// The peer's end of the session ends the connection. `walk` is false where nothing has come for its walk.
+    fn check_session(&mut self, walk: bool) -> Result<(), OutOfMemory>
         ensures log { OfEachLog self.old.inbox (λ side log stage uncollected. (self.old.state.progress.ending ≡ None
             → WalkFrom session_offset stage self.old.state.session)
+            → (walk ≡ false → SessionGoesOn (transport_view side log) self.old.state.session)
             → OnOk result (Moves side log uncollected self.old self.new (unless_ended_stage self.old.state.progress.ending (session_stages (transport_view side log) self.old.state.session stage) stage)
             (record self.old.state { progress = unless_ended self.old.state.progress.ending (check_session (transport_view side log) self.old.state.session) self.old.state.progress }) self.old.settings)) }
         ensures has_given { OnOk result (self.new.has_given_settings ≡ self.old.has_given_settings) }
     {
+        if !walk {
+            return Ok(());
+        }
         let session = self.session();
         let still_going = self.still_going();
         if still_going {
@@ -242,7 +255,7 @@ impl Driver {
         self.progress.fault_unless_ended(is_stopped);
     }
 
-    fn note_control(&mut self, walk: ControlWalk)
+    pub(super) fn note_control(&mut self, walk: ControlWalk)
         ensures inbox { self.new.inbox ≡ self.old.inbox }
         ensures state { self.new.state ≡ record self.old.state { progress = control_read walk self.old.state.progress } }
         ensures queue { self.new.queue ≡ self.old.queue }
@@ -287,13 +300,17 @@ impl Driver {
         }
     }
 
-    /// The peer's control stream after its type.
-    fn check_control(&mut self) -> Result<(), OutOfMemory>
+    /// The peer's control stream after its type. `walk` is false where nothing has come for its walk.
+    fn check_control(&mut self, walk: bool) -> Result<(), OutOfMemory>
         ensures log { OfEachLog self.old.inbox (λ side log stage uncollected. WalkFrom control_offset stage self.old.state.dispatched.control
+            → (walk ≡ false → ControlGoesOn (transport_view side log) self.old.state.dispatched.control self.old.state.progress.settings self.old.settings)
             → OnOk result (Moves side log uncollected self.old self.new (unless_ended_stage self.old.state.progress.ending (control_stages self.old.state.dispatched.control stage) stage)
             (record self.old.state { progress = unless_ended self.old.state.progress.ending (check_control (transport_view side log) self.old.state.dispatched.control) self.old.state.progress }) (settings_noted (transport_view side log) self.old.state self.old.settings))) }
         ensures has_given { OnOk result (self.new.has_given_settings ≡ self.old.has_given_settings) }
     {
+        if !walk {
+            return Ok(());
+        }
         let control = self.control();
         let still_going = self.still_going();
         if still_going {
@@ -344,50 +361,60 @@ impl Driver {
         self.check_qpack(decoder);
     }
 
-    /// The checks in their order, up to the first that ends the connection.
-    fn run_checks(&mut self) -> Result<(), OutOfMemory>
+    /// The checks in their order, up to the first that ends the connection. The flags are false where nothing has come
+    /// for the walk over the session's stream, and for that over the peer's control stream.
+    fn run_checks(&mut self, session: bool, control: bool) -> Result<(), OutOfMemory>
         ensures log { OfEachLog self.old.inbox (λ side log stage uncollected. is_open log ≡ true → HasDatagram side log self.old
             → MayCheck (transport_view side log) self.old.state stage
+            → (session ≡ false → SessionGoesOn (transport_view side log) self.old.state.session)
+            → (control ≡ false → ControlGoesOn (transport_view side log) self.old.state.dispatched.control self.old.state.progress.settings self.old.settings)
             → OnOk result (Moves side log uncollected self.old self.new (check_stages (transport_view side log) self.old.state stage) (run_checks (transport_view side log) self.old.state) (settings_checked (transport_view side log) self.old.state self.old.settings))) }
         ensures has_given { OnOk result (self.new.has_given_settings ≡ self.old.has_given_settings) }
     {
         self.check_datagram()?;
-        self.check_session()?;
+        self.check_session(session)?;
         self.check_local_control();
-        self.check_control()?;
+        self.check_control(control)?;
         self.check_encoder();
         self.check_decoder();
         Ok(())
     }
 
-    fn begin_scan(&mut self)
+    pub(super) fn begin_scan(&mut self)
         ensures { self.new ≡ with_state self.old (begin_scan self.old.state) }
     {
         self.progress.begin();
     }
 
-    /// The whole scan of a moment.
-    fn scan(&mut self) -> Result<(), OutOfMemory>
+    /// The whole scan of a moment. `walk` is false where nothing has come for the walks; a control stream that this scan
+    /// classifies is walked all the same.
+    fn scan(&mut self, walk: bool) -> Result<(), OutOfMemory>
         ensures log { OfEachLog self.old.inbox (λ side log stage uncollected. is_open log ≡ true → HasDatagram side log self.old
             → MayScan (transport_view side log) self.old.state stage → CanGiveUp side log self.old.state
+            → (walk ≡ false → WalksGoOn (transport_view side log) self.old)
             → OnOk result (Moves side log uncollected self.old self.new (scanned_stages (transport_view side log) self.old.state stage) (scan_state (transport_view side log) self.old.state) (settings_scanned (transport_view side log) self.old.state self.old.settings))) }
         ensures has_given { OnOk result (self.new.has_given_settings ≡ self.old.has_given_settings) }
     {
         self.begin_scan();
+        let had_control = self.control().is_some();
         self.scan_unis()?;
         self.scan_bis()?;
-        self.run_checks()
+        let control = asks_control(walk, had_control);
+        self.run_checks(walk, control)
     }
 
-    /// The work of a moment, as long as the connection is open: the scan, and what goes out then.
-    pub(super) fn scan_and_flush(&mut self) -> Result<(), OutOfMemory>
+    /// The work of a moment, as long as the connection is open: the scan, and what goes out then. `walk` is false where
+    /// the moment brings nothing for the walks over the session's stream and the peer's control stream: a driver at
+    /// rest has read both, so they aren't looked at.
+    pub(super) fn scan_and_flush(&mut self, walk: bool) -> Result<(), OutOfMemory>
         ensures log { (side : Side) (log : Log) (m : Entry) (collected : ℕ) → EntryNoted side log m self.old collected
+            → (walk ≡ false → LeavesWalks side log m)
             → OnOk result (Follows side self.new (log_and_flush side log m) collected) }
         ensures closed { OnOk result (self.old.state.is_open ≡ false → self.new ≡ self.old) }
         ensures has_given { OnOk result (self.new.has_given_settings ≡ self.old.has_given_settings) }
     {
         if self.inbox.is_open() {
-            self.scan()?;
+            self.scan(walk)?;
             self.flush()?;
         }
         Ok(())

@@ -180,3 +180,7 @@ pub fn has_request(driver: &Driver, id: StreamId, offset: usize) -> bool {
 pub fn unread(driver: &Driver, id: StreamId) -> u64 {
     driver.inbox().unread(id)
 }
+
+pub fn unread_pieces(driver: &Driver) -> u64 {
+    driver.inbox().transport().pieces()
+}

@@ -1,5 +1,5 @@
 //! Many streams.
-use super::drivers::{accept_uni, actions};
+use super::drivers::{accept_uni, actions, unread_pieces};
 use super::harness::{Run, SERVER, SESSION};
 use std::alloc::Global;
 use std::process::Abort;
@@ -38,4 +38,18 @@ fn a_thousand_foreign_streams_are_passed(rt: HostRuntime) {
         foreign_stream(&rt, rt.alloc(), &mut run, 4 * index + 2);
     }
     passes(&rt, &mut run, 1000);
+}
+
+/// How many pieces are kept of a stream's five bytes, of which its header's reader takes three.
+fn pieces_kept(rt: &impl Abort, alloc: Global, is_whole: bool) -> u64 {
+    let mut run = Run::new(rt, alloc, Side::Server, is_whole);
+    run.take_lines(rt, SESSION);
+    run.take_lines(rt, "peer_uni\nbytes 6 4054006869");
+    unread_pieces(&run.driver)
+}
+
+#[test]
+fn unread_bytes_stay_in_the_piece_that_came(rt: HostRuntime) {
+    assert_eq!(rt; pieces_kept(&rt, rt.alloc(), true), 1);
+    assert_eq!(rt; pieces_kept(&rt, rt.alloc(), false), 2);
 }

@@ -1,5 +1,6 @@
 //! What streams say: verdicts of headers, responses, the control stream, the end of a session.
-ghost use Rattle.std.specs.Prelude.{◌≡◌, ◌==◌, ◌+◌, ◌-◌, ℕ, [], Some, None, IfOk, OnOk, drop, false, is_some, if◌then◌else◌, true};
+ghost use Rattle.std.specs.Prelude.{◌≡◌, ◌≤◌, ◌<◌, ◌==◌, ◌+◌, ◌-◌, ◌++◌, ℕ, [], Some, None, IfOk, OnOk, drop, false, is_some, if◌then◌else◌, length, take, true};
+ghost use Rattle.wt_seam_spec.specs.Arrivals.{log_bytes};
 ghost use Rattle.wt_turn.specs.Log.{events_of};
 ghost use Rattle.wt_wire.specs.declared.side.StreamEnd.TheVariants.{Running};
 ghost use Rattle.wt_proto.specs.Reading.{outcome_in};
@@ -13,7 +14,7 @@ ghost use Rattle.wt_seam_spec.specs.Reports.{end_of};
 ghost use Rattle.wt_seam.specs.Step.{unread_now};
 ghost use Rattle.wt_inbox.specs.OfLog.{OfEachLog, TellsAt};
 ghost use Rattle.wt_inbox.specs.KeptReaders.{is_kept, reading_of};
-ghost use Rattle.wt_inbox.specs.Moves.{BiPulled, BiRemoved, ControlPulled, ResponsePulled, ResponseRemoved, SessionPulled, SessionRemoved, UniPulled, UniRemoved};
+ghost use Rattle.wt_inbox.specs.Moves.{BiFed, BiPulled, BiRemoved, ControlFed, ControlPulled, ResponsePulled, ResponseRemoved, SessionFed, SessionPulled, SessionRemoved, UniFed, UniPulled, UniRemoved};
 ghost use Rattle.wt_inbox.specs.Quiet.{quiet};
 ghost use Rattle.wt_inbox.specs.State.{SameAt, bi_verdict_now, control_now, is_over_by_bytes, readers_now, response_now, session_now, uni_verdict_now};
 ghost use Rattle.wt_inbox.specs.Stage.{Refines, Stage, awaits_bi, awaits_response, awaits_uni, control_offset, session_offset, stage_from, verdict_offset, with_stage};
@@ -226,6 +227,66 @@ impl Inbox {
         Ok((self.take_session(id), by_bytes))
     }
 
+    // ---- bytes that are read as they come
+
+    /// Feeds bytes that come for a peer's unidirectional stream to the reader of its header, and reports how many
+    /// it took: up to the one with which its verdict is final, else all. Those have then come and are read;
+    /// none of them is copied.
+    pub fn feed_uni(&mut self, id: StreamId, piece: &[u8]) -> Result<usize, OutOfMemory>
+        ensures within { IfOk result (λ n. n ≤ length piece.now) }
+        ensures running { TellsAt self.old (λ side log stage. awaits_uni (stage id) ≡ true
+            → IfOk result (λ n. (m : ℕ) → m < n → is_final (uni_verdict_of (contents log id ++ take m piece.now) (end_of (events_of log) id)) ≡ false)) }
+        ensures stopped { TellsAt self.old (λ side log stage. awaits_uni (stage id) ≡ true
+            → IfOk result (λ n. n < length piece.now → is_final (uni_verdict_of (contents log id ++ take n piece.now) (end_of (events_of log) id)) ≡ true)) }
+        ensures log { OfEachLog self.old (λ side log stage uncollected. awaits_uni (stage id) ≡ true
+            → IfOk result (λ n. Refines side self.new (log_bytes log id (take n piece.now)) (with_stage stage id Stage.UniHeader) uncollected)) }
+    {
+        self.pull_uni(id)?;
+        self.push_uni(id, piece)
+    }
+
+    /// The same for a peer's bidirectional stream.
+    pub fn feed_bi(&mut self, id: StreamId, piece: &[u8]) -> Result<usize, OutOfMemory>
+        ensures within { IfOk result (λ n. n ≤ length piece.now) }
+        ensures running { TellsAt self.old (λ side log stage. awaits_bi (stage id) ≡ true
+            → IfOk result (λ n. (m : ℕ) → m < n → is_final (bi_verdict_of (contents log id ++ take m piece.now) (end_of (events_of log) id)) ≡ false)) }
+        ensures stopped { TellsAt self.old (λ side log stage. awaits_bi (stage id) ≡ true
+            → IfOk result (λ n. n < length piece.now → is_final (bi_verdict_of (contents log id ++ take n piece.now) (end_of (events_of log) id)) ≡ true)) }
+        ensures log { OfEachLog self.old (λ side log stage uncollected. awaits_bi (stage id) ≡ true
+            → IfOk result (λ n. Refines side self.new (log_bytes log id (take n piece.now)) (with_stage stage id Stage.BiHeader) uncollected)) }
+    {
+        self.pull_bi(id)?;
+        self.push_bi(id, piece)
+    }
+
+    /// The same for the peer's control stream after its type, up to the byte that makes it a fault.
+    pub fn feed_control(&mut self, id: StreamId, piece: &[u8]) -> Result<usize, OutOfMemory>
+        ensures within { IfOk result (λ n. n ≤ length piece.now) }
+        ensures running { TellsAt self.old (λ side log stage. (offset : ℕ) → control_offset (stage id) ≡ Some offset
+            → IfOk result (λ n. (m : ℕ) → m < n → is_some (control_walk_of (drop offset (contents log id ++ take m piece.now)) (end_of (events_of log) id)).fault ≡ false)) }
+        ensures stopped { TellsAt self.old (λ side log stage. (offset : ℕ) → control_offset (stage id) ≡ Some offset
+            → IfOk result (λ n. n < length piece.now → is_some (control_walk_of (drop offset (contents log id ++ take n piece.now)) (end_of (events_of log) id)).fault ≡ true)) }
+        ensures log { OfEachLog self.old (λ side log stage uncollected. (offset : ℕ) → control_offset (stage id) ≡ Some offset
+            → IfOk result (λ n. Refines side self.new (log_bytes log id (take n piece.now)) (with_stage stage id (Stage.ControlBody offset)) uncollected)) }
+    {
+        self.pull_control(id)?;
+        self.push_control(id, piece)
+    }
+
+    /// The same for a session's stream, up to the byte that ends the session.
+    pub fn feed_session(&mut self, id: StreamId, piece: &[u8]) -> Result<usize, OutOfMemory>
+        ensures within { IfOk result (λ n. n ≤ length piece.now) }
+        ensures running { TellsAt self.old (λ side log stage. (offset : ℕ) → session_offset (stage id) ≡ Some offset
+            → IfOk result (λ n. (m : ℕ) → m < n → is_over (session_walk_of (drop offset (contents log id ++ take m piece.now)) (end_of (events_of log) id)) ≡ false)) }
+        ensures stopped { TellsAt self.old (λ side log stage. (offset : ℕ) → session_offset (stage id) ≡ Some offset
+            → IfOk result (λ n. n < length piece.now → is_over (session_walk_of (drop offset (contents log id ++ take n piece.now)) (end_of (events_of log) id)) ≡ true)) }
+        ensures log { OfEachLog self.old (λ side log stage uncollected. (offset : ℕ) → session_offset (stage id) ≡ Some offset
+            → IfOk result (λ n. Refines side self.new (log_bytes log id (take n piece.now)) (with_stage stage id (Stage.SessionBody offset)) uncollected)) }
+    {
+        self.pull_session(id)?;
+        self.push_session(id, piece)
+    }
+
     // ---- steps
 
     fn pull_uni(&mut self, id: StreamId) -> Result<bool, OutOfMemory>
@@ -233,6 +294,32 @@ impl Inbox {
     {
         self.unis
             .pull(&mut self.transport, id, UniReader::new(self.alloc))
+    }
+
+    fn push_uni(&mut self, id: StreamId, piece: &[u8]) -> Result<usize, OutOfMemory>
+        ensures { IfOk result (λ n. UniFed self.old self.new id piece.now n) }
+    {
+        self.unis.feed(id, UniReader::new(self.alloc), piece)
+    }
+
+    fn push_bi(&mut self, id: StreamId, piece: &[u8]) -> Result<usize, OutOfMemory>
+        ensures { IfOk result (λ n. BiFed self.old self.new id piece.now n) }
+    {
+        self.bis.feed(id, BiReader::new(self.alloc), piece)
+    }
+
+    fn push_control(&mut self, id: StreamId, piece: &[u8]) -> Result<usize, OutOfMemory>
+        ensures { IfOk result (λ n. ControlFed self.old self.new id piece.now n) }
+    {
+        self.controls
+            .feed(id, ControlReader::new(self.alloc), piece)
+    }
+
+    fn push_session(&mut self, id: StreamId, piece: &[u8]) -> Result<usize, OutOfMemory>
+        ensures { IfOk result (λ n. SessionFed self.old self.new id piece.now n) }
+    {
+        self.sessions
+            .feed(id, FrameReader::for_session(self.alloc), piece)
     }
 
     fn is_uni_final(&self, id: StreamId) -> bool

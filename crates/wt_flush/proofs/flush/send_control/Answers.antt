@@ -1,5 +1,6 @@
-use Rattle.std.proofs.Common.{ap, sym, ◌∙◌, drop}
-use Rattle.wt_flush.proofs.Flushed.{sends_by, sends_nothing}
+use Rattle.std.proofs.Common.{ap, arith, sym, ◌∙◌, drop}
+use Rattle.wt_flush.proofs.Flushed.{sends_by, sends_no_more, sends_nothing}
+use Rattle.wt_inbox.proofs.Passing.{head_length}
 use Rattle.wt_seam_spec.specs.Outgoing.{may_send}
 use Rattle.wt_seam_spec.specs.Streams.{local_uni}
 use Rattle.wt_flush.proofs.flush.send_control.Goals as goal
@@ -22,4 +23,10 @@ returns c = record {
       (c.in_ok-count.ensures.log_count side log stage uncollected r)
       c.in-Some.ensures.1
       (c.in_ok-count.ensures.log side log stage uncollected r);
+}
+
+pub returns-then-sent-ge-CONTROL_LENGTH : goal.returns-then-sent-ge-CONTROL_LENGTH
+returns-then-sent-ge-CONTROL_LENGTH c = record {
+  log = λ side log stage uncollected r o own runs may.
+      sends_no_more side log stage uncollected c.args.inbox.now c.args.sent.now r o own runs may (omega (arith, head_length, c.if-sent-ge-CONTROL_LENGTH.true));
 }

@@ -1,8 +1,11 @@
 use Rattle.wt_driver_state.specs.DriverValue.{DriverValue}
-use Rattle.std.proofs.Common.{◌≡◌, ℕ, List, sym, ap, subst, ◌∙◌}
+use Rattle.std.proofs.Common.{◌≡◌, ℕ, Bool, List, sym, ap, subst, ◌∙◌}
+use Rattle.std.specs.Prelude.{◌||◌, is_some, not}
 use Rattle.std.proofs.lemmas.Result.{on_ok_weaker}
 use Rattle.wt_driver_state.proofs.Moved.{moves-on, reads-on, state-moves}
+use Rattle.wt_driver_state.proofs.Walks.{control-scanned}
 use Rattle.wt_driver_state.specs.PeerSettings.{settings_checked}
+use Rattle.wt_driver_state.specs.Walks.{SessionGoesOn}
 use Rattle.wt_driver_state.specs.Moving.{HasDatagram, MayCheck, Moves, front_of}
 use Rattle.wt_scan.specs.Scanning.{AllAwait, SlotsReceive}
 use Rattle.wt_driver_state.specs.Stages.{bi_stages, check_stages, uni_stages}
@@ -15,7 +18,7 @@ use Rattle.wt_spec.specs.Driver.{transport_view}
 use Rattle.wt_driver.proofs.driver.Driver.scan.Goals as goal
 
 pub returns-clause-log : goal.returns-clause-log
-returns-clause-log c = λ side log stage uncollected r o h w g.
+returns-clause-log c = λ side log stage uncollected r o h w g goes.
     let t = transport_view side log in
     let d0 = c.args.self.now in
     let d1 = c.begin_scan.new.self in
@@ -47,11 +50,17 @@ returns-clause-log c = λ side log stage uncollected r o h w g.
     let due : HasDatagram side log d3 =
     subst (λ (q : List (List ℕ)). t.datagram d3.state.datagrams ≡ front_of q) (sym a3.queue)
     (subst (λ (s : DriverState). t.datagram s.datagrams ≡ front_of d0.queue) (sym a3.state_is) h) in
+    let known : c.is_some-had_control.result ≡ is_some d0.state.dispatched.control =
+    c.is_some-had_control.ensures ∙ ap is_some (c.control.ensures ∙ ap (λ (v : DriverValue). v.state.dispatched.control) c.begin_scan.ensures) in
+    let asks : c.asks_control-control.result ≡ (c.args.walk || not (is_some d0.state.dispatched.control)) =
+    c.asks_control-control.ensures ∙ ap (λ (b : Bool). c.args.walk || not b) known in
     on_ok_weaker c.run_checks.result
     (λ m4.
     subst (λ (z : ℕ → Stage). Moves side log uncollected d0 d4 z (run_checks t s3) (settings_checked t s3 d0.settings)) (ap (λ (s : DriverState). check_stages t s st3) a3.state_is)
     (reads-on side log uncollected d0 d3 d4 st3 (check_stages t d3.state st3) s3 (run_checks t) d0.settings (settings_checked t) a3 m4))
-    (c.run_checks.ensures.log side log st3 uncollected a3.inbox o due (subst (λ (s : DriverState). MayCheck t s st3) (sym a3.state_is) w.checks))
+    (c.run_checks.ensures.log side log st3 uncollected a3.inbox o due (subst (λ (s : DriverState). MayCheck t s st3) (sym a3.state_is) w.checks)
+    (λ e. subst (λ (s : DriverState). SessionGoesOn t s.session) (sym a3.state_is) (goes e).session)
+    (λ e. control-scanned t d0 d3 c.args.walk a3.state_is a3.settings_are (sym asks ∙ e) goes))
 
 pub returns-clause-has_given : goal.returns-clause-has_given
 returns-clause-has_given c =

@@ -1,5 +1,5 @@
-use Rattle.std.proofs.Common.{◌≡◌, ◌-◌, ℕ, true, length}
-use Rattle.wt_driver_state.proofs.Turning.{BytesSoFar}
+use Rattle.std.proofs.Common.{◌≡◌, ◌≤◌, ◌-◌, ℕ, true, length}
+use Rattle.wt_driver_state.specs.Reads.{PieceSoFar}
 use Rattle.wt_driver_state.specs.Tie.{Follows}
 use Rattle.wt_seam_spec.specs.Arrivals.{fits}
 use Rattle.wt_turn.specs.Log.{Log}
@@ -7,12 +7,13 @@ use Rattle.wt_turn.specs.declared.turn.Turn.TheVariants as turns
 use Rattle.wt_wire.specs.declared.side.Side.{Side}
 use Rattle.wt_driver.proofs.driver.Driver.take_bytes.Given as goal
 
-abbrev pub invariant-loop-index : goal.invariant-loop-index
-invariant-loop-index l = record {
+abbrev pub invariant-loop-taken : goal.invariant-loop-taken
+invariant-loop-taken l = record {
+  within : l.taken ≤ length l.bytes;
   noted : (side : Side) (log : Log) (collected : ℕ) → Follows side l.fn.self log collected → fits side log (turns.Bytes l.id l.bytes) ≡ true
-      → BytesSoFar side log collected l.id l.bytes l.index l.self;
+      → PieceSoFar side log collected l.id l.bytes l.taken l.self;
   has_given : l.self.has_given_settings ≡ l.fn.self.has_given_settings;
 }
 
-abbrev pub decreases-loop-index : goal.decreases-loop-index
-decreases-loop-index l = length l.bytes - l.index
+abbrev pub decreases-loop-taken : goal.decreases-loop-taken
+decreases-loop-taken l = length l.bytes - l.taken
