@@ -11,7 +11,7 @@ use Rattle.wt_channel.specs.declared.bichannel.TrySendError.TheVariants as error
 use Rattle.wt_channel.specs.declared.bichannel.SendOutcome.{SendOutcome}
 use Rattle.wt_channel.specs.declared.bichannel.SendOutcome.TheVariants as outcomes
 
--- the queue holds no more values than this, and has room for so many
+-- the queue holds no more values than this, and has room for this many
 pub record HasRoom {T A : Type 0} (capacity : ℕ) (queue : VecDeque T A) : Type 0 where
   pub within : length queue.items ≤ capacity
   pub reserved : capacity ≤ deque_capacity queue

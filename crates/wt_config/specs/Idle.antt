@@ -8,7 +8,7 @@ abbrev pub is_too_long : Option ℕ → Bool
 is_too_long None = false
 is_too_long (Some millis) = nat_lt (2 ^ 62 - 1) millis
 
--- the idle timeout of so many milliseconds; none is an infinite time
+-- the idle timeout of n milliseconds; none is an infinite time
 abbrev pub idle_of : Option ℕ → IdleTimeout
 idle_of None = Infinite
 idle_of (Some millis) = Millis millis

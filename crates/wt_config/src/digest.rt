@@ -130,6 +130,8 @@ impl FromStr for Sha256Digest {
     ghost from_str_gives = { λ text answer. result_ok answer ≡ digest_of_any_text text };
 
     fn from_str(text: &str) -> Result<Sha256Digest, InvalidDigest> {
+        // No text is in both forms, since 32 numbers are joined by commas in the one and by colons in the
+        // other.
         match Sha256Digest::from_str_fmt(text, Sha256DigestFmt::BytesArray) {
             Ok(digest) => Ok(digest),
             Err(_) => Sha256Digest::from_str_fmt(text, Sha256DigestFmt::DottedHex),

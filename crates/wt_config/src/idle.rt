@@ -13,7 +13,7 @@ pub enum IdleTimeout {
     Unset,
     /// A silent connection is never given up.
     Infinite,
-    /// So many milliseconds.
+    /// This number of milliseconds.
     Millis(VarInt),
 }
 
@@ -44,7 +44,7 @@ impl fmt::Debug for InvalidIdleTimeout {
 
 impl Error for InvalidIdleTimeout {}
 
-/// The idle time of so many milliseconds, or of none for an infinite one.
+/// The idle time of this number of milliseconds; without one it is infinite.
 ///
 /// # Errors
 ///
@@ -56,6 +56,7 @@ pub(crate) fn idle_timeout(millis: Option<u128>) -> Result<IdleTimeout, InvalidI
     let Some(millis) = millis else {
         return Ok(IdleTimeout::Infinite);
     };
+    // max_idle_timeout is a variable-length integer of milliseconds (RFC 9000, section 18.2).
     if millis > u128::from(u64::MAX) {
         return Err(InvalidIdleTimeout);
     }

@@ -1,4 +1,9 @@
 //! The states of a builder: what is chosen, and by their types what is to be chosen next.
+//!
+//! ```text
+//! a server  WantsBindAddress --with_bind_..--> WantsIdentity --with_identity, with_custom_..--> WantsTransportConfigServer --build--> ServerConfig
+//! a client  WantsBindAddress --with_bind_..--> WantsRootStore --with_native_certs ..--> WantsTransportConfigClient --build--> ClientConfig
+//! ```
 use crate::bind::BindAddressConfig;
 use crate::client::ClientConfig;
 use crate::server::ServerConfig;

@@ -117,6 +117,7 @@ impl ServerHashVerification {
             (λ refusal. refusal_of self.now der.now (option_copied facts.entry) now ≡ Some refusal) }
         ensures pinned { OnOk result (IsTrue (set.contains self.now (sha256 der.now))) }
     {
+        // No certificate names a later moment, so none could be valid; and a moment up to here fits an i64.
         if now > LAST_MOMENT {
             return Err(PinRefusal::MomentOutOfRange);
         }
@@ -147,6 +148,7 @@ impl ServerHashVerification {
     fn accepts(&self, der: &[u8], facts: &CertFacts) -> bool
         ensures { result ≡ is_pinned self.now der.now facts.now }
     {
+        // The facts first: they cost no hash.
         is_pinnable(facts) && self.pins(&Sha256Digest::hash_der(der))
     }
 }
@@ -162,6 +164,8 @@ fn is_pinnable(facts: &CertFacts) -> bool
 fn has_short_validity(facts: &CertFacts) -> bool
     ensures { result ≡ has_short_validity facts.now }
 {
+    // A pin isn't revoked, so what it names must not live long (W3C WebTransport, "verify a certificate
+    // hash").
     seconds_between(facts.not_before, facts.not_after) <= LONGEST_VALIDITY
 }
 

@@ -47,6 +47,13 @@ use wt_wire::varint::VarInt;
 
 /// A client's connect, until the session is established. Contracts see the first name of a field that only
 /// the session layer sets, and the frame of the request.
+///
+/// ```text
+/// begin --the URL, the lookup or the endpoint hinders it--> failed
+///       --dial--> connecting --poll--> connecting: the connection, SETTINGS, credit or the response is awaited
+///                            --poll, a response of 2xx--> the session is given
+///                            --poll, a reserved field, a stop, another status, a fault or the end--> failed
+/// ```
 #[derive(Debug, Drop)]
 pub struct Connecting {
     reserved: Option<Text>,
@@ -99,6 +106,8 @@ fn response(d: &mut Driver) -> Result<ResponseWalk, OutOfMemory>
     ensures walk { (side : Side) (log : Log) (collected : ℕ) (c : Connect) → Follows side d.old log collected → IsReachable side log
         → IsConnecting log c → IfOk result (λ walk. walk ≡ (driver_facts side log).response) }
 {
+    // A client opens no other bidirectional stream before the session is established, so its request is on
+    // the first (RFC 9000, section 2.1).
     let id = StreamId::new(VarInt::from_u32(0));
     d.response(id)
 }
@@ -143,6 +152,7 @@ impl Connecting {
             → OnOk result (Follows side d.new (connects.dial side log target.server_name target.authority target.path headers.now target.address).log collected) }
     {
         let connecting = Connecting::to_target(alloc, &target, headers)?;
+        // What takes memory comes before the dial, so that none goes out for a connect that isn't recorded.
         let beginning = connecting.beginning()?;
         let dial = Action::Dial {
             address: target.address,
@@ -181,6 +191,7 @@ impl Connecting {
                 Ok(Ok(connecting))
             }
             Err(error) => {
+                // Nothing was dialled, but a failed connect isn't begun again on this driver.
                 d.record_call(&Record::HandshakeOver)?;
                 Ok(Err(error))
             }
@@ -219,6 +230,7 @@ impl Connecting {
         ensures lawful { (side : Side) (log : Log) → IsConnecting log self.old → may_call side log calls.Handshake ≡ true }
         ensures same { self.new ≡ self.old }
     {
+        // Read first: a poll after the end still answers by the response that had come.
         let walk = response(d)?;
         let plan = self.plan(alloc, d, walk)?;
         let reply = perform(alloc, d, plan)?;

@@ -49,7 +49,7 @@ use Rattle.wt_wire.specs.declared.side.Side.TheVariants.{Client, Server}
 
 -- ---- a reply that gives a stream leaves its record
 
--- it tells of nothing else
+-- it reports nothing else
 record TellsStream (reply : Reply) : Type 0 where
   pub loud : is_quiet reply ≡ false
   pub no_bytes : read_piece reply ≡ None

@@ -27,13 +27,13 @@ pub record IsOpening (bidirectional : Bool) (log : Log) (o : OpeningStream) : Ty
 abbrev pub HasOpening : Bool → OpeningStream → Side → Log → Type 0
 HasOpening bidirectional o side log = IsOpening bidirectional log o
 
--- the stream whose opening a reply tells of, or why none is opened
+-- the stream whose opening a reply reports, or why none is opened
 abbrev pub opening_in : Reply → Poll (Result ℕ ConnectionError)
 opening_in (replies.Opening id) = Ready (Ok id)
 opening_in (replies.Failed e) = Ready (Err e)
 opening_in _ = Pending
 
--- the stream that a reply tells is opened, or why it isn't
+-- the stream whose opening a reply reports as through, or why it isn't
 abbrev pub ready_in : Reply → Poll (Result ℕ StreamOpeningError)
 ready_in (replies.SendReady id) = Ready (Ok id)
 ready_in (replies.BiReady id) = Ready (Ok id)

@@ -127,9 +127,9 @@ fn opening_bi(
     }
 }
 
-// ---- what replies tell
+// ---- what replies report
 
-/// The stream whose opening a reply tells of, or why none is opened.
+/// The stream whose opening a reply reports, or why none is opened.
 fn opening_in(reply: Reply) -> Poll<Result<StreamId, ConnectionError>>
     ensures { result ≡ opening_in reply }
 {
@@ -140,7 +140,7 @@ fn opening_in(reply: Reply) -> Poll<Result<StreamId, ConnectionError>>
     }
 }
 
-/// Whether a reply tells that a datagram was sent, or why not.
+/// Whether a reply reports that a datagram was sent, or why not.
 fn sent_in(reply: Reply) -> Result<(), SendDatagramError>
     ensures { result ≡ sent_in reply }
 {
@@ -150,7 +150,7 @@ fn sent_in(reply: Reply) -> Result<(), SendDatagramError>
     }
 }
 
-/// How the connection ended, as a reply tells it.
+/// How the connection ended, as a reply reports it.
 fn closed_in(reply: Reply) -> Poll<ConnectionError>
     ensures { result ≡ closed_in reply }
 {

@@ -84,6 +84,7 @@ impl Datagram {
         ensures { result.now ≡ self.now.payload }
     {
         let bytes = self.piece.as_slice();
+        // The payload may be empty: then the header is all of it.
         if self.start < bytes.len() {
             &bytes[self.start..]
         } else {

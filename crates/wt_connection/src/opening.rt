@@ -21,6 +21,12 @@ use wt_wire::error::OutOfMemory;
 use wt_wire::ids::{SessionId, StreamId};
 
 /// A unidirectional stream that is being opened. Contracts see its id and its session.
+///
+/// ```text
+/// being opened --poll, a rest of the header lacks credit--> being opened
+///              --poll, all of it is out--> the half is given
+///              --poll, the connection isn't open, or the peer stopped the stream--> failed
+/// ```
 #[derive(Debug, Drop)]
 pub struct OpeningUniStream {
     id: StreamId,
@@ -50,7 +56,7 @@ impl Model for OpeningBiStream {
     ghost view = { λ o. record { id = o.id; session = o.session } };
 }
 
-/// The stream that a reply tells is opened, or why it isn't.
+/// The stream whose opening a reply reports as through, or why it isn't.
 fn ready_in(reply: Reply) -> Poll<Result<StreamId, StreamOpeningError>>
     ensures { result ≡ ready_in reply }
 {

@@ -1,4 +1,4 @@
--- What a run tells by the reader that is kept is what the definitions say of all bytes.
+-- What a run answers by the reader that is kept is what the definitions say of all bytes.
 use Rattle.std.proofs.Common.{◌≡◌, ℕ, Bool, List, ◌++◌, Option, Some, None, refl, sym, ap, ◌∙◌}
 use Rattle.std.specs.Prelude.{unwrap_or}
 use Rattle.wt_wire.specs.declared.side.StreamEnd.{StreamEnd}

@@ -86,7 +86,7 @@ shown_by_walk (walks.Fault code) = Some (errors.Proto code)
 
 -- ---- what a run answers
 
--- what is shown comes first, also where the connection has ended; else the run tells that it has (this repository's rule)
+-- what is shown comes first, also where the connection has ended; else the run reports that it has (this repository's rule)
 abbrev pub shown_or_ended : Bool → Option DriverError → Poll DriverError
 shown_or_ended open_ (Some error) = polls.Ready error
 shown_or_ended open_ None = if open_ then polls.Pending else polls.Ready errors.NotConnected
@@ -163,12 +163,12 @@ settings_frame = record { kind = kinds.Settings; payload = settings_bytes local_
 abbrev pub settings_frame_bytes : List ℕ
 settings_frame_bytes = frame_bytes settings_frame
 
--- why the frame can't go out, as a driver tells it: a stop closes a critical stream
+-- why the frame can't go out, as a driver reports it: a stop closes a critical stream
 abbrev pub driver_write_error : ProtoWriteError → DriverError
 driver_write_error write_errors.NotConnected = errors.NotConnected
 driver_write_error write_errors.Stopped = closed_critical
 
--- what a write of the frame answers, as a driver tells it
+-- what a write of the frame answers, as a driver reports it
 abbrev pub written_answer : Poll (Result (Unit {0}) ProtoWriteError) → Poll (Result (Unit {0}) DriverError)
 written_answer (polls.Ready (Ok through)) = polls.Ready (Ok through)
 written_answer (polls.Ready (Err error)) = polls.Ready (Err (driver_write_error error))

@@ -9,7 +9,7 @@ use Rattle.wt_seam.specs.Step.{after_consume, unread_now}
 abbrev pub after_reading_all : TransportState → ℕ → TransportState
 after_reading_all t id = after_consume t id (length (unread_now t id))
 
--- the first so many unread bytes of a stream are consumed, and a reader took them
+-- the first n unread bytes of a stream are consumed, and a reader took them
 pub record ReadsSome {S O : Type 0} (decide : S → List ℕ → Step S O) (old new : Reading S O) (before after : TransportState) (id count : ℕ) : Type 0 where
   pub within : count ≤ length (unread_now before id)
   pub reading : new ≡ fed_reading decide old (take count (unread_now before id))

@@ -55,7 +55,7 @@ fn shown_by_walk(alloc: Global, walk: &SessionWalk) -> Result<Option<DriverError
     }
 }
 
-/// Reads all that has come of a session's stream, and tells what it shows.
+/// Reads all that has come of a session's stream, and returns what it shows.
 fn read_session(
     alloc: Global,
     reader: &mut FrameReader<SessionWalk>,
@@ -88,7 +88,6 @@ impl ConnectStream {
     pub fn is_empty(&self) -> bool
         ensures { result ≡ not (is_some self.now.stream) }
     {
-        let _ = &self.reader;
         self.stream.is_none()
     }
 
@@ -115,6 +114,7 @@ impl ConnectStream {
         ensures state { OnOk result (t.new ≡ after_session_run self.old.stream t.old) }
         ensures stream { self.new.stream ≡ self.old.stream }
     {
+        // What the peer did to the session counts before the loss that may have come after it.
         let is_open = t.is_open();
         let Some(stream) = &self.stream else {
             return Ok(Poll::Pending);

@@ -1,5 +1,5 @@
 //! The streams on which a connection rests: both control streams, the peer's QPACK streams, and the
-//! stream of the session. Each type holds at most one stream, and its `run` tells how it ended.
+//! stream of the session. Each type holds at most one stream, and its `run` reports how it ended.
 #![tactic(auto)]
 
 pub mod connect;

@@ -14,7 +14,7 @@ use wt_turn::poll::Poll;
 use wt_typed::StreamUniRemoteH3;
 use wt_wire::error::OutOfMemory;
 
-/// Reads all that has come of a stream, and tells how it ended.
+/// Reads all that has come of a stream, and returns how it ended.
 fn run_qpack(stream: &mut Option<StreamUniRemoteH3>, t: &mut Transport) -> Poll<DriverError>
     ensures answer { result ≡ qpack_answer stream.old t.old }
     ensures state { t.new ≡ after_uni_run stream.old t.old }
@@ -25,6 +25,8 @@ fn run_qpack(stream: &mut Option<StreamUniRemoteH3>, t: &mut Transport) -> Poll<
     };
     let id = id_of(stream);
     let count = t.unread(id);
+    // Instructions for tables: own SETTINGS allow the peer none, and this end uses none, so they change nothing
+    // here and aren't kept.
     t.consume(id, count as usize);
     shown_or_ended(t.is_open(), shown_by_end(t.end(id)))
 }

@@ -17,7 +17,7 @@ use wt_wire::error::OutOfMemory;
 use wt_wire::ids::StreamId;
 use wt_wire::side::StreamEnd;
 
-/// Feeds a reader a piece, and tells how many bytes of it the reader took.
+/// Feeds a reader a piece, and returns how many bytes of it the reader took.
 fn feed_counted<W: Walk, L: Ledger>(
     reader: &mut StreamReader<W>,
     piece: &[u8],
@@ -48,7 +48,7 @@ fn feed<W: Walk>(reader: &mut StreamReader<W>, piece: &[u8]) -> Result<(), OutOf
     }
 }
 
-/// Feeds a reader the first unread piece, and tells whether there was one.
+/// Feeds a reader the first unread piece, and returns whether there was one.
 fn read_piece<W: Walk>(
     t: &mut Transport,
     id: StreamId,
@@ -87,7 +87,7 @@ fn read_pieces<W: Walk>(
     Ok(())
 }
 
-/// Feeds a reader all that is unread, and tells it the end.
+/// Feeds a reader all that is unread, and the end.
 pub(crate) fn read_all<W: Walk>(
     t: &mut Transport,
     id: StreamId,
@@ -99,6 +99,7 @@ pub(crate) fn read_all<W: Walk>(
     ensures state { OnOk result (t.new ≡ after_reading_all t.old id) }
 {
     let end = t.end(id);
+    // Bytes that are unread came before the end, so the reader has to see them first.
     reader.end(StreamEnd::Running);
     read_pieces(t, id, reader)?;
     reader.end(end);

@@ -47,17 +47,18 @@ impl Model for LocalSettingsStream {
     ghost view = { λ s. record { stream = s.stream; is_out = s.is_out } };
 }
 
-/// Why a frame can't go out, as a driver tells it.
+/// Why a frame can't go out, as a driver reports it.
 fn write_error(error: ProtoWriteError) -> DriverError
     ensures { result ≡ driver_write_error error }
 {
     match error {
         ProtoWriteError::NotConnected => DriverError::NotConnected,
+        // A receiver must not ask to close a control stream (RFC 9114, section 6.2.1).
         ProtoWriteError::Stopped => DriverError::Proto(ErrorCode::ClosedCriticalStream),
     }
 }
 
-/// What a write of a frame answers, as a driver tells it.
+/// What a write of a frame answers, as a driver reports it.
 fn written(answer: Poll<Result<(), ProtoWriteError>>) -> Poll<Result<(), DriverError>>
     ensures { result ≡ written_answer answer }
 {
@@ -68,7 +69,7 @@ fn written(answer: Poll<Result<(), ProtoWriteError>>) -> Poll<Result<(), DriverE
     }
 }
 
-/// Tells whether the stream was stopped.
+/// Whether the stream was stopped.
 fn run_local(stream: &Option<StreamUniLocalH3>, t: &Transport) -> Poll<DriverError>
     ensures { result ≡ local_answer stream.now t.now }
 {
@@ -209,6 +210,7 @@ impl LocalSettingsStream {
         ensures kept { OnErr result (settings_begun self.new.stream ≡ settings_begun self.old.stream) }
         ensures out { OnErr result (self.new.is_out ≡ self.old.is_out) }
     {
+        // A second SETTINGS frame is a fault of the peer's connection (RFC 9114, section 7.2.4).
         if self.is_out {
             return Ok(sent(t.is_open()));
         }
@@ -260,7 +262,7 @@ impl Model for RemoteSettingsStream {
     ghost view = { λ s. record { stream = s.stream; reading = s.reader } };
 }
 
-/// Reads all that has come of a control stream, and tells its fault.
+/// Reads all that has come of a control stream, and returns its fault.
 fn read_control(
     reader: &mut ControlReader,
     id: StreamId,
@@ -292,7 +294,6 @@ impl RemoteSettingsStream {
     pub fn is_empty(&self) -> bool
         ensures { result ≡ not (is_some self.now.stream) }
     {
-        let _ = &self.reader;
         self.stream.is_none()
     }
 
@@ -303,6 +304,7 @@ impl RemoteSettingsStream {
         ensures read { WasRead control_decides None self.new.reading [] }
     {
         self.stream = Some(stream);
+        // Of another stream nothing was read.
         self.reader = ControlReader::new(self.alloc);
     }
 

@@ -27,6 +27,8 @@ pub(crate) fn shown_by_end(end: StreamEnd) -> Option<DriverError>
 {
     match end {
         StreamEnd::Running => None,
+        // Critical streams may not be closed while the connection goes on (RFC 9114, section 6.2.1; RFC 9204,
+        // section 4.2).
         StreamEnd::Fin | StreamEnd::Reset(_) => {
             Some(DriverError::Proto(ErrorCode::ClosedCriticalStream))
         }

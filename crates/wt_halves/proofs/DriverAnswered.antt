@@ -1,4 +1,4 @@
--- A driver that follows a log of lawful turns tells what calls ask, and a plan that is the call's leads to what the call does.
+-- A driver that follows a log of lawful turns answers what calls ask, and a plan that is the call's leads to what the call does.
 use Rattle.std.specs.Prelude.{◌≡◌, Err, Ok, OnOk, Result, true, ℕ}
 use Rattle.std.proofs.Common.{◌∙◌, ap, refl, subst, sym}
 use Rattle.wt_driver_state.specs.DriverValue.{DriverValue}

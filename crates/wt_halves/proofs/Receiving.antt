@@ -69,7 +69,7 @@ read-front open_ e us buffer rest size n en eb = by (size == 0) (length us == 0)
         let within : n ≤ length us = omega arith in
         ap (λ (bytes : List ℕ). replies.Read (Some bytes)) (ap (λ (k : ℕ). take k (buffer ++ rest)) (sym en) ∙ front-take n us buffer rest within eb ∙ ap (λ (k : ℕ). take k us) en)
 
--- what a read of exactly so many bytes says, with these unread
+-- what a read of exactly n bytes says, with these unread
 abbrev pub exact_said : ℕ → List ℕ → Poll (Result (Unit {0}) StreamReadExactError) → Reply
 exact_said size us (Ready (Ok u)) = replies.Exact (take size us)
 exact_said size us (Ready (Err (exacts.FinishedEarly count))) = replies.ExactFailed (exacts.FinishedEarly count) us

@@ -32,7 +32,7 @@ MayCall call side log = may_call side log call ≡ true
 abbrev pub WhereStands : DriverValue → (Side → Log → Type 0) → (Side → Log → ℕ → Type 0) → Type 0
 WhereStands d Holds Law = OfEachLog d (λ side log collected. IsReachable side log → Holds side log → Law side log collected)
 
--- the answer tells the reply that the definitions give to this call
+-- the answer is the reply that the definitions give to this call
 abbrev pub RepliesTo : {T : Type 0} → DriverValue → (Side → Log → Type 0) → Call → (T → Reply) → T → Type 0
 RepliesTo d Holds call reply answer = WhereStands d Holds (λ side log collected. reply answer ≡ (call_effect side log call).reply)
 

@@ -31,14 +31,14 @@ read_into (Ready (Ok None)) = 0
 read_into (Ready (Err e)) = 0
 read_into Pending = 0
 
--- how many bytes a read of exactly so many gave
+-- how many bytes a read of exactly n gave
 abbrev pub exactly_read : ℕ → Poll (Result (Unit {0}) StreamReadExactError) → ℕ
 exactly_read size (Ready (Ok u)) = size
 exactly_read size (Ready (Err (exacts.FinishedEarly count))) = count
 exactly_read size (Ready (Err (exacts.Read e))) = 0
 exactly_read size Pending = 0
 
--- what a read of exactly so many bytes records
+-- what a read of exactly n bytes records
 abbrev pub records_exact : ℕ → ℕ → Poll (Result (Unit {0}) StreamReadExactError) → CallRecord
 records_exact id size (Ready (Ok u)) = BytesRead id size
 records_exact id size (Ready (Err (exacts.FinishedEarly count))) = BytesRead id count
@@ -70,7 +70,7 @@ abbrev pub sent_reply : Result (Unit {0}) SendDatagramError → Reply
 sent_reply (Ok u) = replies.Done
 sent_reply (Err e) = replies.DatagramFailed e
 
--- whether a reply tells that a datagram was sent, or why not
+-- whether a reply reports that a datagram was sent, or why not
 abbrev pub sent_in : Reply → Result (Unit {0}) SendDatagramError
 sent_in (replies.DatagramFailed e) = Err e
 sent_in _ = Ok tt
@@ -80,7 +80,7 @@ abbrev pub closed_poll_reply : Poll ConnectionError → Reply
 closed_poll_reply (Ready e) = replies.Closed e
 closed_poll_reply Pending = replies.Pending
 
--- how the connection ended, as a reply tells it
+-- how the connection ended, as a reply reports it
 abbrev pub closed_in : Reply → Poll ConnectionError
 closed_in (replies.Closed e) = Ready e
 closed_in _ = Pending

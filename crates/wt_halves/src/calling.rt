@@ -31,7 +31,7 @@ pub fn transport(d: &Driver) -> &Transport
     d.inbox().transport()
 }
 
-/// Performs the plan of a call that may come, and tells its reply.
+/// Performs the plan of a call that may come, and returns its reply.
 pub fn perform(alloc: Global, d: &mut Driver, plan: Plan) -> Result<Reply, OutOfMemory>
     ensures reply { (side : Side) (log : Log) (collected : ℕ) (call : Call) → Follows side d.old log collected
         → defined_plan plan ≡ plan_of (facts_of side log) (session_state log) call
@@ -43,7 +43,7 @@ pub fn perform(alloc: Global, d: &mut Driver, plan: Plan) -> Result<Reply, OutOf
     acting::perform(alloc, d, plan)
 }
 
-/// Performs the plan of a call that may come, whose reply its answer tells.
+/// Performs the plan of a call that may come, whose reply its caller knows.
 pub fn carry_out(alloc: Global, d: &mut Driver, plan: Plan) -> Result<(), OutOfMemory>
     ensures log { (side : Side) (log : Log) (collected : ℕ) (call : Call) → Follows side d.old log collected → IsReachable side log
         → may_call side log call ≡ true → defined_plan plan ≡ plan_of (facts_of side log) (session_state log) call

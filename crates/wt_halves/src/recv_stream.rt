@@ -36,7 +36,7 @@ impl Model for RecvStream {
     ghost view = { λ half. half.id };
 }
 
-/// The record of a read of so many bytes.
+/// The record of a read of `count` bytes.
 fn read_record(id: StreamId, count: usize) -> Record
     ensures now { record_of result ≡ read_record id count }
     ensures rests { leaves_at_rest (record_of result) ≡ true }
@@ -48,7 +48,7 @@ fn read_record(id: StreamId, count: usize) -> Record
     }
 }
 
-/// How many bytes a read of exactly so many takes, by its answer.
+/// How many bytes a read of exactly `size` takes, by its answer.
 fn exactly_read(answer: &Poll<Result<(), StreamReadExactError>>, size: usize) -> usize
     ensures { result ≡ exactly_read size answer.now }
 {
@@ -59,7 +59,7 @@ fn exactly_read(answer: &Poll<Result<(), StreamReadExactError>>, size: usize) ->
     }
 }
 
-/// The record of a read of exactly so many bytes, by its answer.
+/// The record of a read of exactly `size` bytes, by its answer.
 fn exact_record(
     id: StreamId,
     answer: &Poll<Result<(), StreamReadExactError>>,
@@ -112,6 +112,8 @@ impl RecvStream {
     {
         let t = transport(d);
         let answer = t.read_answer(self.id, buf.len());
+        // The answer stands before anything is recorded: the record consumes the bytes, and the rule of the
+        // answer asks what is unread.
         let count = buf.len().min(t.unread(self.id) as usize);
         t.copy_unread(self.id, &mut buf[..count]);
         record(d, &read_record(self.id, count));
@@ -137,6 +139,8 @@ impl RecvStream {
     {
         let t = transport(d);
         let answer = t.read_exact_answer(self.id, buf.len());
+        // Nothing is taken where the buffer isn't filled, but for a rest before the end: so a call that waits
+        // loses no bytes.
         let count = exactly_read(&answer, buf.len());
         let made = exact_record(self.id, &answer, buf.len());
         t.copy_unread(self.id, &mut buf[..count]);

@@ -92,9 +92,11 @@ impl SendStream {
         ensures same { self.new ≡ self.old }
     {
         let t = transport(d);
+        // A stream that the driver doesn't know: no clause speaks of it, and nothing is recorded.
         if !t.can_send(self.id) {
             return Ok(Poll::Ready(Err(StreamWriteError::NotConnected)));
         }
+        // Before the plan is performed: the answer is by the credit that the plan uses up.
         let answer = t.write_answer(self.id, buf);
         let plan = half_plans::write(alloc, t, self.id, buf)?;
         carry_out(alloc, d, plan)?;
@@ -200,6 +202,7 @@ impl SendStream {
         if !t.can_send(self.id) {
             return Ok(Err(ClosedStream));
         }
+        // Before the reset, after which it is closed in any case.
         let is_closed = t.is_closed(self.id);
         let plan = half_plans::reset(alloc, t, self.id, code)?;
         carry_out(alloc, d, plan)?;

@@ -66,7 +66,7 @@ with_pair s n v = if is_reserved_setting n then Err errors.Settings else with_kn
 abbrev pub whole_pair_at : List ℕ → Result ParsedPair ErrorCode
 whole_pair_at bytes = ok_or (pair_at bytes) errors.Frame
 
--- the settings of the pairs from left to right, after pairs that gave these settings and so many bytes that were read
+-- the settings of the pairs from left to right, after pairs that gave these settings and n bytes that were read
 unfoldable pub pairs_from : Settings → ℕ → List ℕ → Result Settings ErrorCode
 pairs_from s zero [] = Ok s
 pairs_from s (suc k) [] = Err errors.Frame

@@ -51,6 +51,8 @@ pub fn find_close(payload: &[u8]) -> Option<&[u8]>
 fn capsule_value(kind: VarInt, size: VarInt, bytes: &[u8]) -> Option<&[u8]>
     ensures { option_copied result ≡ capsule_value kind size bytes.now }
 {
+    // A capsule of another type is skipped, as the standard asks; one that isn't whole in this payload isn't
+    // seen (this repository's rule).
     let size = size.into_inner();
     if (bytes.len() as u64) < size || kind.into_inner() != CLOSE_WEBTRANSPORT_SESSION {
         return None;
@@ -68,6 +70,7 @@ impl CloseWebTransportSession {
         ensures close { IfOk result (λ r. r ≡ close_of value.now) }
         ensures error { IfOk result (λ r. IfErr r (λ e. e ≡ errors.Message)) }
     {
+        // The longest reason is the draft's, so that what an application is given of a peer's is bounded.
         if value.len() < 4 || value.len() - 4 > LONGEST_REASON {
             return Ok(Err(ErrorCode::Message));
         }

@@ -44,6 +44,8 @@ impl<'a> H3Datagram<'a> {
         ensures datagram { result ≡ datagram_of bytes.now }
         ensures error { IfErr result (λ e. e ≡ errors.Datagram) }
     {
+        // A datagram that is too short, or names no stream that can be, is a fault of the whole connection
+        // (RFC 9297, section 2.1).
         let Some((quarter, offset)) = read_varint(bytes) else {
             return Err(ErrorCode::Datagram);
         };
@@ -70,6 +72,7 @@ impl<'a> H3Datagram<'a> {
         ensures { result ≡ length (varint_bytes id) }
     {
         let quarter = id.into_varint().into_inner();
+        // The shortest encoding of the quarter, as `write` has it.
         if quarter < 1 << 6 {
             return 1;
         }

@@ -82,6 +82,8 @@ fn has(headers: &Headers, name: &str) -> bool
 fn is_for_session(headers: &Headers) -> bool
     ensures { result ≡ is_session_request headers.now }
 {
+    // What makes a CONNECT extended, and one for WebTransport (RFC 9220, section 3; draft-ietf-webtrans-
+    // http3, section 3.2).
     has_value(headers, ":scheme", "https")
         && has_value(headers, ":protocol", "webtransport")
         && has(headers, ":authority")
@@ -132,6 +134,8 @@ impl SessionRequest {
         if !has(&headers, ":method") {
             return Err(HeadersParseError::Other);
         }
+        // Its own answer, since a request of plain HTTP/3 isn't a faulty one: it is refused, and the
+        // connection goes on.
         if !has_value(&headers, ":method", "CONNECT") {
             return Err(HeadersParseError::MethodNotConnect);
         }
@@ -153,6 +157,7 @@ impl SessionRequest {
         ensures state { OnOk result (self.new ≡ (if is_reserved key.now then self.old else with_field key.now value.now self.old)) }
         ensures err { OnErr result (self.new ≡ self.old) }
     {
+        // Else an application could turn a request for a session into another request.
         if is_reserved(key) {
             return Ok(Err(ReservedHeader));
         }
@@ -295,6 +300,7 @@ impl SessionResponse {
         ensures ok { OnOk result (self.new ≡ with_added key.now value.now self.old) }
         ensures err { OnErr result (self.new ≡ self.old) }
     {
+        // The status is what the response is made with.
         if is_same(key, ":status") {
             return Ok(());
         }

@@ -194,12 +194,16 @@ impl Settings {
         ensures error { IfErr result (λ e. e ≡ errors.Settings) }
     {
         let id = id.into_inner();
+        // Ids that HTTP/2 used and HTTP/3 reserves: they must not come (RFC 9114, section 7.2.4.1).
         if id == 0 || (1 < id && id < 6) {
             return Err(ErrorCode::Settings);
         }
+        // A setting that isn't known must be ignored (RFC 9114, section 7.2.4), so that new ones can be
+        // tried; a repeated one among them too, since nothing is kept of it.
         let Some(known) = known_setting(id) else {
             return Ok(self);
         };
+        // An id must not come twice in one frame (RFC 9114, section 7.2.4).
         if self.get(known).is_some() {
             return Err(ErrorCode::Settings);
         }
@@ -217,6 +221,7 @@ impl Settings {
         let mut settings = Settings::none();
         let mut offset = 0;
         while offset < payload.len() {
+            // A pair is judged once it is whole, so a cut one is a fault of the frame, whatever its id.
             let Some(pair) = read_pair(&payload[offset..]) else {
                 return Err(ErrorCode::Frame);
             };

@@ -134,7 +134,7 @@ walk-agrees [] s stop zero h = h
 walk-agrees (b ∷ xs) s (Some w) zero h = h
 walk-agrees (b ∷ xs) s None zero h = led-agrees s b xs (walk-agrees xs) (control_decides s (b ∷ xs)) refl
 
--- so the outcome tells the settings that came
+-- so the outcome has the settings that came
 settings-by : (end : StreamEnd) (s : Option Settings) (between : Bool) (stop : Option ControlWalk) → agrees s stop → (unwrap_or stop (control_unfinished end s between)).settings ≡ s
 settings-by Running s between None h = refl
 settings-by Fin s between None h = refl

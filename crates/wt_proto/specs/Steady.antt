@@ -24,7 +24,7 @@ pub record IsAwaited {S O : Type 0} (decide : S → List ℕ → Step S O) (want
   pub onward : (s : S) (xs : List ℕ) → decide s xs ≡ Cut → length xs < wants xs
   pub few : (xs : List ℕ) → wants xs ≤ 4112
 
--- what a walk has to meet: beside the two, its outcome is that of where it stands, what stops it is final, and where nothing did the end alone tells whether its outcome is
+-- what a walk has to meet: beside the two, its outcome is that of where it stands, what stops it is final, and where nothing did the end alone decides whether its outcome is
 pub record IsLawful {S O : Type 0} (start : S) (decide : S → List ℕ → Step S O) (wants : List ℕ → ℕ) (unfinished : StreamEnd → S → Bool → O) (final : O → Bool) (outcome_of : List ℕ → StreamEnd → O) : Type 0 where
   pub steady : IsSteady decide
   pub awaited : IsAwaited decide wants

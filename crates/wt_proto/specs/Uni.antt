@@ -26,7 +26,7 @@ abbrev pub session_header_at : ℕ → Option (ℕ × ℕ) → Option (Verdict �
 session_header_at offset None = None
 session_header_at offset (Some s) = Some (session_verdict s.0 (offset + s.1), offset + s.1)
 
--- by the stream's type, which so many bytes encode; of every other type the stream is of no use
+-- by the stream's type, which n bytes encode; of every other type the stream is of no use
 abbrev pub header_by_type : ℕ → ℕ → Option (Verdict × ℕ) → Option (Verdict × ℕ)
 header_by_type kind offset session =
     if kind == control_type then Some (Control offset, offset) else

@@ -1,5 +1,5 @@
 -- Walks over items that follow one another, as frames do on a stream.
--- `decide` looks at all bytes from an item's front, in the state that the items before it left, and tells what the item does.
+-- `decide` looks at all bytes from an item's front, in the state that the items before it left, and says what the item does.
 use Rattle.std.specs.Prelude.{ℕ, zero, suc, ◌-◌, List, [], ◌∷◌, Option, Some, None, unwrap_or, Bool, true, false}
 use Rattle.wt_wire.specs.declared.side.StreamEnd.{StreamEnd}
 use Rattle.wt_proto.specs.declared.walk.Step.{Step}
@@ -11,13 +11,13 @@ pub record Reached (S O : Type 0) : Type 0 where
   pub stop : Option O
   pub between : Bool
 
--- a step leads on: in a state, with what the walk stops with, after so many bytes
+-- a step leads on: in a state, with what the walk stops with, after n bytes
 abbrev pub step_on : {S O R : Type 0} → R → (S → Option O → ℕ → R) → S → Step S O → R
 step_on at_cut go s Cut = at_cut
 step_on at_cut go s (Goes t n) = go t None n
 step_on at_cut go s (Stops o n) = go s (Some o) n
 
--- the walk over bytes of which the first so many are the rest of an item; with a stop it ends after that item
+-- the walk over bytes of which the first n are the rest of an item; with a stop it ends after that item
 abbrev pub walk : {S O : Type 0} → (S → List ℕ → Step S O) → S → Option O → ℕ → List ℕ → Reached S O
 walk decide s stop (suc rest) [] = record { state = s; stop = None; between = false }
 walk decide s stop (suc rest) (b ∷ bytes) = walk decide s stop rest bytes

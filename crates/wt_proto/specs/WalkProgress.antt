@@ -12,7 +12,7 @@ pub record WalkProgress (S O : Type 0) : Type 0 where
   pub skip : ℕ
   pub kept : List ℕ
 
--- how far a walk is that goes over these bytes, of which the first so many are the rest of an item
+-- how far a walk is that goes over these bytes, of which the first n are the rest of an item
 abbrev pub progress_over : {S O : Type 0} → (S → List ℕ → Step S O) → S → Option O → ℕ → List ℕ → WalkProgress S O
 progress_over decide s stop (suc rest) [] = record { state = s; stop = stop; skip = suc rest; kept = [] }
 progress_over decide s stop (suc rest) (b ∷ bytes) = progress_over decide s stop rest bytes
@@ -52,7 +52,7 @@ pub record Advances {S O : Type 0} (decide : S → List ℕ → Step S O) (old n
 abbrev pub AdvancesSome : {S O : Type 0} → (S → List ℕ → Step S O) → WalkProgress S O → WalkProgress S O → List ℕ → Type 0
 AdvancesSome decide old new piece = (n : ℕ) × Advances decide old new piece n
 
--- where an item leads of which so many bytes are taken; one that isn't decided is kept
+-- where an item leads of which n bytes are taken; one that isn't decided is kept
 abbrev pub progress_past : {S O : Type 0} → S → Step S O → ℕ → List ℕ → WalkProgress S O
 progress_past s Cut n kept = record { state = s; stop = None; skip = 0; kept = kept }
 progress_past s (Goes t m) n kept = record { state = t; stop = None; skip = m - n; kept = [] }

@@ -4,7 +4,7 @@ use Rattle.wt_wire.specs.Frames.{is_known_type, longest_payload, signal_type}
 use Rattle.wt_message.specs.StreamTypes.{webtransport_type}
 use Rattle.wt_wire.specs.Varint.{varint_at, varint_length}
 
--- of an integer: its first byte tells (RFC 9000, section 16)
+-- of an integer: by its first byte (RFC 9000, section 16)
 abbrev pub varint_wants : List ℕ → ℕ
 varint_wants [] = 1
 varint_wants (b ∷ bytes) = varint_length b

@@ -22,12 +22,14 @@ fn of_request(headers: Headers, offset: usize) -> Verdict
 {
     match SessionRequest::try_from(headers) {
         Ok(request) => Verdict::Request(request, offset),
+        // A plain HTTP request is one that this end doesn't serve; an extended CONNECT that isn't well formed
+        // is a malformed message (RFC 9114, section 4.1.2). Either way the stream alone is refused.
         Err(HeadersParseError::MethodNotConnect) => Verdict::Refused(ErrorCode::RequestRejected),
         Err(HeadersParseError::Other) => Verdict::Refused(ErrorCode::Message),
     }
 }
 
-/// What a HEADERS frame of this payload and of so many bytes does in front of an offset.
+/// What a HEADERS frame of this payload, of `size` bytes in all, does in front of an offset.
 fn headers_step(
     alloc: Global,
     payload: &[u8],
@@ -56,6 +58,8 @@ fn bi_step(alloc: Global, offset: u64, bytes: &[u8]) -> Result<Step<u64, Verdict
 {
     match parse_frame(bytes) {
         ParsedFrame::Incomplete => Ok(Step::Cut),
+        // The signal makes the stream one of a session; it has no length (draft-ietf-webtrans-http3, section
+        // 4.3).
         ParsedFrame::Signal(id_at) => match read_varint(&bytes[id_at..]) {
             Some((id, length)) => {
                 let size = (id_at + length) as u64;
@@ -70,9 +74,13 @@ fn bi_step(alloc: Global, offset: u64, bytes: &[u8]) -> Result<Step<u64, Verdict
             let next_offset = after_item(offset, (header + size) as u64)?;
             headers_step(alloc, payload, next_offset, header + size)
         }
+        // A request begins with HEADERS, and SETTINGS belong on the control stream (RFC 9114, sections 4.1
+        // and 7.2.4).
         ParsedFrame::Data(header, size) | ParsedFrame::Settings(header, size) => {
             Ok(faulty(ErrorCode::FrameUnexpected, header + size))
         }
+        // Unknown types are skipped in front of a request too, the reserved ones among them (RFC 9114,
+        // section 9).
         ParsedFrame::Skipped(_, size) => Ok(Step::Goes(after_item(offset, size)?, size)),
     }
 }

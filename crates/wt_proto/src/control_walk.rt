@@ -15,6 +15,12 @@ use wt_wire::varint::VarInt;
 
 /// What the peer's control stream said up to now: its settings, and the fault with which it ended.
 /// Settings that came before a fault stay.
+///
+/// ```text
+/// no SETTINGS --unknown frames, but no reserved one--> no SETTINGS
+///             --SETTINGS--> SETTINGS --unknown frames, reserved ones too--> SETTINGS
+/// in both: another frame, or the end, is the fault
+/// ```
 #[derive(Clone, Copy, Debug, PartialEq, Eq)]
 pub struct ControlWalk {
     pub settings: Option<Settings>,
@@ -42,11 +48,13 @@ fn settings_step(
 ) -> Step<Option<Settings>, ControlWalk>
     ensures { result ≡ on_settings settings size payload.now }
 {
+    // Settings can't change: a second frame of them is unexpected (RFC 9114, section 7.2.4).
     if settings.is_some() {
         return faulty(settings, ErrorCode::FrameUnexpected, size);
     }
     match Settings::with_payload(payload) {
         Ok(settings) => Step::Goes(Some(settings), size),
+        // Nothing of a faulty frame is kept.
         Err(fault) => faulty(None, fault, size),
     }
 }
@@ -58,6 +66,8 @@ fn skipped_step(
 ) -> Step<Option<Settings>, ControlWalk>
     ensures { result ≡ on_skipped settings size kind }
 {
+    // SETTINGS must be the first frame (RFC 9114, section 6.2.1). Of others that come before it the reserved
+    // ones are a fault here, as in the Rust crate; unknown ones are skipped.
     if settings.is_none() && is_exercise(kind.into_inner()) {
         faulty(None, ErrorCode::MissingSettings, size)
     } else {
@@ -72,6 +82,7 @@ fn control_step(settings: &Option<Settings>, bytes: &[u8]) -> Step<Option<Settin
 {
     match parse_frame(bytes) {
         ParsedFrame::Incomplete => Step::Cut,
+        // DATA, HEADERS and the signal belong on other streams (RFC 9114, section 7.2).
         ParsedFrame::Signal(offset) => faulty(*settings, ErrorCode::FrameUnexpected, offset as u64),
         ParsedFrame::TooLong(header) => faulty(*settings, ErrorCode::ExcessiveLoad, header as u64),
         ParsedFrame::Data(header, size) | ParsedFrame::Headers(header, size) => {
@@ -92,6 +103,7 @@ fn ended(settings: Option<Settings>, end: StreamEnd, between: bool) -> ControlWa
 {
     let fault = match end {
         StreamEnd::Running => None,
+        // Neither end may close the control stream (RFC 9114, section 6.2.1).
         StreamEnd::Fin | StreamEnd::Reset(_) => Some(ErrorCode::ClosedCriticalStream),
     };
     ControlWalk { settings, fault }

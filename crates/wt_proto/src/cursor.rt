@@ -67,6 +67,7 @@ pub(crate) fn go_over<W: Walk>(
         let left = (bytes.len() - offset) as u64;
         match W::step(alloc, state, &bytes[offset..]) {
             Err(error) => return Err(error),
+            // What is left of an item is kept by the caller, so every byte was taken.
             Ok(Step::Cut) => return Ok(PassedItems::running(0, offset, bytes.len())),
             Ok(Step::Goes(moved, size)) => {
                 *state = moved;
@@ -118,6 +119,8 @@ fn outcome_passed<W: Walk>(
         consumed,
     } = passed;
     match stop {
+        // An outcome counts with the last byte of the item that decides it: until then the end may come
+        // first.
         Some(outcome) if skip == 0 => outcome,
         _ => W::unfinished(alloc, end, state, skip == 0 && rest == consumed),
     }
@@ -148,7 +151,7 @@ impl<S, O> Cursor<S, O> {
         self.skip == 0 && self.kept.is_empty()
     }
 
-    /// Lets go of an item of so many bytes, of which those that are kept were taken.
+    /// Drops an item of `size` bytes, of which those that are kept were taken.
     fn leave_item(&mut self, size: u64)
         requires { length self.old.kept.items ≤ size }
         ensures kept { self.new ≡ record self.old { skip = size - length self.old.kept.items; kept = self.new.kept } }
@@ -173,7 +176,7 @@ fn skip_some<W: Walk>(cursor: &mut Cursor<W::State, W::Outcome>, piece: &[u8]) -
     n as usize
 }
 
-/// Judges the bytes that are kept; where memory is short the first so many of them stay.
+/// Judges the bytes that are kept; where memory is short the first `had` of them stay.
 fn decide_kept<W: Walk>(
     cursor: &mut Cursor<W::State, W::Outcome>,
     had: usize,
@@ -192,6 +195,7 @@ fn decide_kept<W: Walk>(
     let alloc = *cursor.kept.allocator();
     match W::step(alloc, &cursor.state, cursor.kept.as_slice()) {
         Err(error) => {
+            // So that the reader stands where it stood, and may be fed the same bytes again.
             cursor.kept.truncate(had);
             return Err(error);
         }
@@ -229,6 +233,8 @@ fn keep_some<W: Walk>(
     let had = cursor.kept.as_slice().len();
     let n = (cursor.wanted - had).min(piece.len());
     cursor.kept.extend_from_slice(&piece[..n])?;
+    // With fewer bytes nothing can be decided, so none is looked at twice: an item costs its length, however
+    // it is cut.
     if had + n == cursor.wanted {
         decide_kept::<W>(cursor, had)?;
     }

@@ -13,6 +13,8 @@ pub fn control_stream_head(alloc: Global) -> Result<Vec<u8>, OutOfMemory>
     ensures { IfOk result (λ bytes. bytes.items ≡ local_control_bytes) }
 {
     let mut out = Vec::new(alloc);
+    // SETTINGS are the first frame, and go out before anything of the peer's is awaited (RFC 9114, section
+    // 7.2.4.2).
     StreamHeader::new_control().write(&mut out)?;
     let frame = Settings::local().generate_frame(alloc)?;
     frame.write(&mut out)?;

@@ -121,6 +121,7 @@ impl<W: Walk> StreamReader<W> {
         ensures all { IfOk result (λ n. n < length piece.now → W.is_final_outcome (outcome_in W.unfinished_at self.new) ≡ true) }
         ensures lost { OnErr result (AdvancesSome W.decides self.old.progress self.new.progress piece.now) }
     {
+        // What comes after belongs to whoever reads the stream next.
         if W::is_final(self.current()) {
             return Ok(0);
         }
@@ -132,7 +133,7 @@ impl<W: Walk> StreamReader<W> {
     }
 
     /// Takes the bytes of the piece up to the one with which the outcome is final, else all of them,
-    /// and tells how many. It counts one step. Where memory is short, the reader stands after some
+    /// and returns how many. It counts one step. Where memory is short, the reader stands after some
     /// first bytes of the piece.
     pub fn feed<L: Ledger>(
         &mut self,
@@ -151,7 +152,6 @@ impl<W: Walk> StreamReader<W> {
         ensures steps { steps.new ≡ steps.old + 1 }
         ensures lost { OnErr result ((k : ℕ) × (k ≤ length piece.now) × (self.new ≡ fed_reading W.decides self.old (take k piece.now))) }
     {
-        let _ = &self.end;
         steps.tick();
         self.take_piece(piece)
     }
@@ -173,7 +173,6 @@ impl<W: Walk> StreamReader<W> {
         ensures value { result.now ≡ outcome_in W.unfinished_at self.now }
         ensures read { (bytes : List ℕ) (end : StreamEnd) → HasRead W.decides W.start_state self.now bytes end → result.now ≡ W.outcome_of bytes end }
     {
-        let _ = &self.end;
         self.current()
     }
 
@@ -182,7 +181,6 @@ impl<W: Walk> StreamReader<W> {
         ensures value { result ≡ outcome_in W.unfinished_at self }
         ensures read { (bytes : List ℕ) (end : StreamEnd) → HasRead W.decides W.start_state self bytes end → result ≡ W.outcome_of bytes end }
     {
-        let _ = &self.end;
         self.into_current()
     }
 

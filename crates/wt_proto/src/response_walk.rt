@@ -15,6 +15,14 @@ use wt_wire::parsed_frame::{ParsedFrame, parse_frame};
 use wt_wire::side::StreamEnd;
 
 /// What a server answered up to now.
+///
+/// ```text
+/// Incomplete --unknown frames--> Incomplete --the end--> Ended
+///            --HEADERS--> Response, or Fault where they are none
+///            --another frame--> Fault
+/// ```
+///
+/// Ended isn't final: bytes that came before the end may still be read.
 #[derive(Debug, Drop)]
 pub enum ResponseWalk {
     /// No response came yet.
@@ -33,6 +41,7 @@ fn of_response(headers: Headers, offset: usize) -> ResponseWalk
 {
     match SessionResponse::try_from(headers) {
         Ok(response) => ResponseWalk::Response(response, offset),
+        // A response without a status code is malformed (RFC 9114, section 4.3.2).
         Err(_) => ResponseWalk::Fault(ErrorCode::Message),
     }
 }
@@ -43,7 +52,7 @@ fn faulty(fault: ErrorCode, size: usize) -> Step<u64, ResponseWalk>
     Step::Stops(ResponseWalk::Fault(fault), size as u64)
 }
 
-/// What a HEADERS frame of this payload and of so many bytes does in front of an offset.
+/// What a HEADERS frame of this payload, of `size` bytes in all, does in front of an offset.
 fn headers_step(
     alloc: Global,
     payload: &[u8],
@@ -77,6 +86,7 @@ fn response_step(
             let next_offset = after_item(offset, (header + size) as u64)?;
             headers_step(alloc, payload, next_offset, header + size)
         }
+        // A response begins with HEADERS (RFC 9114, section 4.1).
         ParsedFrame::Data(header, size) | ParsedFrame::Settings(header, size) => {
             Ok(faulty(ErrorCode::FrameUnexpected, header + size))
         }

@@ -15,6 +15,12 @@ use wt_wire::text::Text;
 use wt_wire::varint::VarInt;
 
 /// What a session's stream said up to now.
+///
+/// ```text
+/// Running --DATA that closes nothing, HEADERS, unknown frames--> Running
+///         --a capsule that closes, or a clean end between frames--> Closed
+///         --another frame, a malformed capsule, another end--> Fault
+/// ```
 #[derive(Debug, PartialEq, Eq, Drop)]
 pub enum SessionWalk {
     /// The session goes on.
@@ -33,6 +39,7 @@ fn capsule_step(
 ) -> Result<Step<(), SessionWalk>, OutOfMemory>
     ensures { IfOk result (λ step. step ≡ on_capsule size (close_value_at payload.now)) }
 {
+    // Other capsules, and bytes that are none, are skipped (RFC 9297, section 3.2).
     let Some(value) = find_close(payload) else {
         return Ok(Step::Goes((), size));
     };
@@ -41,6 +48,7 @@ fn capsule_step(
             let (code, reason) = close.into_parts();
             Ok(Step::Stops(SessionWalk::Closed(code, reason), size))
         }
+        // A close that can't be read isn't taken for one: a malformed message (RFC 9297, section 3.3).
         Err(fault) => Ok(Step::Stops(SessionWalk::Fault(fault), size)),
     }
 }
@@ -64,6 +72,7 @@ fn session_step(alloc: Global, bytes: &[u8]) -> Result<Step<(), SessionWalk>, Ou
             let payload = &bytes[header..header + size];
             capsule_step(alloc, payload, (header + size) as u64)
         }
+        // DATA alone may follow a CONNECT (RFC 9114, section 4.4); skipped here, as in the Rust crate.
         ParsedFrame::Headers(header, size) => Ok(Step::Goes((), (header + size) as u64)),
         ParsedFrame::Settings(header, size) => {
             Ok(faulty(ErrorCode::FrameUnexpected, (header + size) as u64))
@@ -78,10 +87,13 @@ fn ended(alloc: Global, end: StreamEnd, between: bool) -> SessionWalk
 {
     match end {
         StreamEnd::Running => SessionWalk::Running,
+        // An end with no capsule is a close with code 0 and no reason (draft-ietf-webtrans-http3, section 5).
         StreamEnd::Fin if between => {
             let reason = Text::from_string(String::new(alloc));
             SessionWalk::Closed(VarInt::from_u32(0), reason)
         }
+        // Cut inside a frame, or reset: the session can't have ended as it should (this repository's code, as
+        // in the Rust crate).
         StreamEnd::Fin | StreamEnd::Reset(_) => SessionWalk::Fault(ErrorCode::ClosedCriticalStream),
     }
 }

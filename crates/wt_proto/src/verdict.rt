@@ -14,6 +14,14 @@ use wt_wire::varint::{VarInt, read_varint};
 
 /// What the front of a peer's stream says. A number is the offset of the first byte after what was
 /// read.
+///
+/// ```text
+/// Incomplete --more bytes--> Incomplete
+///            --a whole header--> WebTransport, Control, Encoder, Decoder, Request, Refused, Dropped or Fault
+///            --the end inside the header--> Dropped
+/// ```
+///
+/// Every verdict but Incomplete is final: no byte and no end changes it.
 #[derive(Debug, Drop)]
 pub enum Verdict {
     /// More bytes or an end have to come first.
@@ -42,6 +50,7 @@ pub(crate) fn verdict_at_stream_end(end: StreamEnd) -> Verdict
 {
     match end {
         StreamEnd::Running => Verdict::Incomplete,
+        // A stream may be given up before its header is whole (RFC 9114, section 6.2), so that is no fault.
         StreamEnd::Fin | StreamEnd::Reset(_) => Verdict::Dropped,
     }
 }
@@ -52,6 +61,8 @@ pub(crate) fn of_session(id: VarInt, offset: usize) -> Verdict
 {
     match SessionId::try_from_session_stream(StreamId::new(id)) {
         Some(session) => Verdict::WebTransport(session, offset),
+        // H3_ID_ERROR: no CONNECT request can have come on a stream of this id (draft-ietf-webtrans-http3,
+        // section 4).
         None => Verdict::Fault(ErrorCode::Id),
     }
 }
@@ -78,11 +89,13 @@ fn uni_header(bytes: &[u8]) -> Option<(Verdict, usize)>
         0x02 => Some((Verdict::Encoder(offset), offset)),
         0x03 => Some((Verdict::Decoder(offset), offset)),
         0x54 => session_header(&bytes[offset..], offset),
+        // A type that isn't known must not be treated as an error (RFC 9114, section 6.2); push streams are
+        // treated alike (this repository's rule).
         _ => Some((Verdict::Dropped, offset)),
     }
 }
 
-/// The id of a session, after a type of so many bytes.
+/// The id of a session, after a type of `offset` bytes.
 fn session_header(bytes: &[u8], offset: usize) -> Option<(Verdict, usize)>
     requires { offset ≤ 8 }
     ensures { result ≡ session_header_at offset (varint_at bytes.now) }

@@ -9,7 +9,7 @@ use wt_wire::varint::read_varint;
 /// sets no bound).
 const LONGEST_PAYLOAD: u64 = 4096;
 
-/// Of a variable-length integer, which its first byte tells (RFC 9000, section 16).
+/// Of a variable-length integer, by its first byte (RFC 9000, section 16).
 fn varint_wanted(bytes: &[u8]) -> usize
     ensures value { result ≡ varint_wants bytes.now }
     ensures few { result ≤ 8 }
@@ -29,6 +29,7 @@ fn payload_wanted(kind: u64, header: usize, size: u64) -> usize
     requires { header ≤ 16 }
     ensures { result ≡ payload_wants kind header size }
 {
+    // An unknown type is decided by its header alone, and so is a payload that is too long.
     if (kind == 0x00 || kind == 0x01 || kind == 0x04) && size <= LONGEST_PAYLOAD {
         header + size as usize
     } else {

@@ -1,4 +1,4 @@
--- What a server's call for a request leads to, by what a driver tells.
+-- What a server's call for a request leads to, by what a driver answers.
 use Rattle.std.specs.Prelude.{[], ◌&&◌, ◌∷◌, ◌≡◌, Bool, Err, IfOk, List, None, Ok, Result, Some, false, if◌then◌else◌, not, true, ℕ}
 use Rattle.std.proofs.Common.{◌∙◌, ap, refl, subst, sym}
 use Rattle.std.proofs.lemmas.Bool.{and_parts}

@@ -1,4 +1,4 @@
--- After lawful turns each stream that a call passed or gave up was let go.
+-- After lawful turns each stream that a call passed or gave up was dropped.
 use Rattle.std.specs.Prelude.{[], ◌%◌, ◌&&◌, ◌==◌, ◌||◌, ◌∷◌, ◌≡◌, Bool, List, false, not, true, ℕ}
 use Rattle.std.proofs.Common.{◌∙◌, ap, refl, sym}
 use Rattle.std.specs.List.{list_any}
@@ -24,7 +24,7 @@ use Rattle.wt_turn.specs.declared.action.Action.{Action}
 use Rattle.wt_turn.specs.declared.turn.Turn.{Turn}
 use Rattle.wt_wire.specs.declared.side.Side.{Side}
 
--- each stream that a call passed or gave up was let go
+-- each stream that a call passed or gave up was dropped
 abbrev pub AllLetGo : Side → Log → Type 0
 AllLetGo side log = (k : ℕ) → (use_of k (calls_of log)).is_dropped ≡ true → is_let_go side log k ≡ true
 

@@ -71,6 +71,8 @@ impl Accepting {
         ensures lawful { (side : Side) (log : Log) (call : Call) → IsReachable side log → IsResponse side log true self.old
             → IsPollOf true self.old call → may_call side log call ≡ true }
     {
+        // Established only once the response is out: the client knows of no session before (RFC 9220, section
+        // 3).
         let reply = self.response.poll(alloc, d, true)?;
         Ok(accepted(reply))
     }

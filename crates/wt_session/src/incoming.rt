@@ -38,6 +38,11 @@ use wt_wire::ids::SessionId;
 
 /// A request for a session that a server was given. Contracts see its session, its fields and the
 /// offset after it.
+///
+/// ```text
+/// IncomingSession --into_future--> IncomingSessionFuture --poll--> SessionRequest --accept ..--> Accepting --poll--> Connection
+///                                                                                 --forbidden ..--> Rejecting --poll--> over
+/// ```
 #[derive(Debug, Drop)]
 pub struct SessionRequest {
     id: SessionId,
@@ -65,6 +70,8 @@ fn queued_request(d: &Driver) -> Result<Option<SessionRequest>, OutOfMemory>
     ensures { FirstIsRequest (requests_now d.now.state) → IfOk result (λ r. reported_of r ≡ first_request (requests_now d.now.state)) }
 {
     match d.next_request() {
+        // Nothing waits, or SETTINGS haven't come: a session is established only after them (RFC 9114,
+        // section 7.2.4.2; draft-ietf-webtrans-http3, section 3.1).
         None => Ok(None),
         Some((id, request, end)) => match SessionId::try_from_session_stream(id) {
             None => Ok(None),
@@ -153,7 +160,7 @@ impl IncomingSessionFuture {
     /// # Errors
     ///
     /// `OutOfMemory` where the request, what is recorded or the error found no memory. The
-    /// `ConnectionError` is how the connection ended, as the driver tells it.
+    /// `ConnectionError` is how the connection ended, as the driver reports it.
     pub fn poll(&mut self, alloc: Global, d: &mut Driver) -> Result<RequestPoll, OutOfMemory>
         ensures reply { IfOk result (RepliesTo d.old (MayCall calls.Incoming) calls.Incoming incoming_reply) }
         ensures log { OnOk result (LeadsOn d.old (MayCall calls.Incoming) calls.Incoming d.new) }
@@ -221,6 +228,7 @@ impl SessionRequest {
         ensures in_log { (side : Side) (log : Log) → IsUnanswered side log self → IfOk result (λ a. IsResponse side log true a) }
         ensures call { IfOk result (λ a. IsPollOf true a (calls.Accept [])) }
     {
+        // An acceptance without further fields is one with none.
         self.accept_with_headers(alloc, HeaderList::new(alloc))
     }
 

@@ -1,5 +1,5 @@
 //! The public types of a WebTransport session, over a driver: a server's handshake, and what stands from one
-//! call to the next. Offered again here are a client's connect (wt_connecting), the types of the session that is
+//! call to the next. Re-exported here are a client's connect (wt_connecting), the types of the session that is
 //! established, of its datagrams (wt_connection) and of its streams' halves (wt_halves).
 #![tactic(auto)]
 

@@ -65,6 +65,7 @@ impl Rejecting {
         ensures lawful { (side : Side) (log : Log) (call : Call) → IsReachable side log → IsResponse side log false self.old
             → IsPollOf false self.old call → may_call side log call ≡ true }
     {
+        // Through only once the peer has it: a close before that would lose the status (RFC 9000, section 10.2).
         let reply = self.response.poll(alloc, d, false)?;
         Ok(rejected(reply))
     }

@@ -61,6 +61,7 @@ impl Response {
     fn waiting_record(&self, accepts: bool) -> Result<Record, OutOfMemory>
         ensures { IfOk result (λ r. record_of r ≡ waiting_record self.now.has_begun accepts self.now.head) }
     {
+        // The head is recorded with the first poll alone: later ones find it in the record.
         if self.has_begun {
             return Ok(Record::Polled);
         }
@@ -108,6 +109,7 @@ impl Response {
     {
         let plan = self.plan(alloc, d, accepts)?;
         let reply = perform(alloc, d, plan)?;
+        // After the plan, so that a poll that ran out of memory begins the response again.
         self.has_begun = true;
         Ok(reply)
     }

@@ -13,7 +13,7 @@ nothing_accepted = record { uni = 0; bi = 0 }
 abbrev pub is_peer : TransportState → ℕ → Bool
 is_peer t kind = kind == peer_uni t.side || kind == peer_bi t.side
 
--- the stream of a kind that comes after so many; at most 2^60 have an id (RFC 9000, section 2.1)
+-- the stream of a kind that comes after n others; at most 2^60 have an id (RFC 9000, section 2.1)
 abbrev pub next_peer : TransportState → ℕ → ℕ → Option ℕ
 next_peer t kind count = if nat_lt count (2 ^ 60) && nat_lt count (count_now t kind) then Some (4 * count + kind) else None
 

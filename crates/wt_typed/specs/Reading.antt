@@ -24,7 +24,7 @@ pub record IsReader {S O : Type 0} (decide : S → List ℕ → Step S O) (p : W
 abbrev pub is_over : {S O : Type 0} → WalkProgress S O → Bool
 is_over p = is_some p.stop && p.skip == 0
 
--- after so many bytes of a stream were taken; where none was, the transport is as before
+-- after n bytes of a stream were taken; where none was, the transport is as before
 abbrev pub after_taking : TransportState → ℕ → ℕ → TransportState
 after_taking t id n = if n == 0 then t else after_consume t id n
 

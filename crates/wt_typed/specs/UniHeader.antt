@@ -25,12 +25,12 @@ kind_of (Exercise number) = kinds.Exercise number
 abbrev pub session_header : ℕ → Result UniHeader ErrorCode
 session_header id = if id % 4 == 0 then Ok (WebTransport id) else Err Id
 
--- a session's id after a type of so many bytes, and how many bytes the header has
+-- a session's id after a type of n bytes, and how many bytes the header has
 abbrev pub with_session_id : ℕ → Option (ℕ × ℕ) → Option (Result UniHeader ErrorCode × ℕ)
 with_session_id offset None = None
 with_session_id offset (Some s) = Some (session_header s.0, offset + s.1)
 
--- a header by its type, which so many bytes encode; a type that is neither known nor reserved is a fault
+-- a header by its type, which n bytes encode; a type that is neither known nor reserved is a fault
 abbrev pub header_of_type : ℕ → ℕ → Option (Result UniHeader ErrorCode × ℕ) → Option (Result UniHeader ErrorCode × ℕ)
 header_of_type kind offset session =
     if kind == control_type then Some (Ok Control, offset) else

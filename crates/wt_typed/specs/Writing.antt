@@ -36,7 +36,7 @@ abbrev pub pending_answer : Bool → SendingHalf → List ℕ → Poll (Result (
 pending_answer open_ half bytes =
     if not open_ then polls.Ready (Err NotConnected) else (if is_some half.stop then polls.Ready (Err Stopped) else (if nat_lt half.left (length bytes) then polls.Pending else polls.Ready (Ok tt)))
 
--- where the write is then: through, or so many bytes further; where it can't go on, as before
+-- where the write is then: through, or n bytes further; where it can't go on, as before
 abbrev pub after_pending : Bool → SendingHalf → Pending → Pending
 after_pending open_ half p =
     if not open_ then p else (if is_some half.stop then p else (if nat_lt half.left (length (rest p)) then record p { out = p.out + half.left } else nothing_begun))

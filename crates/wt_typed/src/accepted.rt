@@ -31,6 +31,8 @@ impl Accepted {
         ensures id { result ≡ next_uni t.now self.old }
         ensures count { self.new ≡ accepted_uni t.now self.old }
     {
+        // The two low bits of the id say who opened a stream, and of which kind it is (RFC 9000, section
+        // 2.1).
         let kind = match t.side() {
             Side::Client => 3,
             Side::Server => 2,
@@ -55,12 +57,13 @@ impl Accepted {
     }
 }
 
-/// The stream of this kind of the peer's that comes after so many; None where there is none.
+/// The stream of this kind of the peer's that comes after `count` others; None where there is none.
 fn next_peer(t: &Transport, kind: u64, count: u64) -> Option<StreamId>
     requires kind { kind < 4 }
     requires peer { IsTrue (is_peer t.now kind) }
     ensures { result ≡ next_peer t.now kind count }
 {
+    // No stream of a kind has a greater number (RFC 9000, section 4.6).
     if count >= 1 << 60 {
         return None;
     }

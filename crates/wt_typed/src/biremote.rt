@@ -144,6 +144,7 @@ impl Stream<Pair, BiRemoteH3> {
             stage: Session {
                 session,
                 request,
+                // The reader goes on, so that a frame of which some bytes came isn't lost.
                 frames: frames.for_session(),
                 writing,
                 is_stopped,

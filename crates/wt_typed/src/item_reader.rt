@@ -69,6 +69,7 @@ fn ended<T>(is_open: bool, end: StreamEnd, between: bool) -> Poll<Result<T, Prot
 {
     let error = match end {
         StreamEnd::Running if is_open => return Poll::Pending,
+        // What came before the connection ended is read first; only then is its end the answer.
         StreamEnd::Running => IoReadError::NotConnected,
         StreamEnd::Fin if between => IoReadError::ImmediateFin,
         StreamEnd::Fin => IoReadError::UnexpectedFin,
@@ -111,7 +112,7 @@ impl<G: Grammar> ItemReader<G> {
         self.stop.is_some() && self.skip == 0
     }
 
-    /// Skips so many bytes.
+    /// Skips `count` bytes.
     fn skip_some(&mut self, count: u64)
         requires some { 1 ≤ count }
         requires within { count ≤ self.old.skip }
@@ -127,6 +128,7 @@ impl<G: Grammar> ItemReader<G> {
         ensures advances { OnOk result ((later : List ℕ) → Advances G.decides self.old self.new (byte ∷ later) 1) }
         ensures err { OnErr result (self.new ≡ self.old) }
     {
+        // Byte by byte: the item's last byte has to be known, as nothing after it may be taken.
         self.kept.push(byte)?;
         let alloc = *self.kept.allocator();
         match G::step(alloc, &self.state, self.kept.as_slice()) {
@@ -150,13 +152,12 @@ impl<G: Grammar> ItemReader<G> {
     }
 
     /// Takes unread bytes of the stream up to the end of the first item that stops the reader, else all
-    /// of them, and tells how many.
+    /// of them, and returns how many.
     fn take_unread(&mut self, t: &mut Transport, id: StreamId) -> Result<u64, OutOfMemory>
         requires { IsTrue (can_receive_now t.old id) }
         ensures took { IfOk result (λ n. Took G.decides self.old self.new t.old t.new id n) }
         ensures err { FailedReadTakes G.decides self.old self.new t.old t.new id result }
     {
-        let _ = &self.state;
         let unread = t.unread(id);
         let mut consumed = 0;
         while consumed < unread && !self.is_over() {
@@ -191,6 +192,7 @@ impl<G: Grammar> ItemReader<G> {
         match self.stop.take() {
             Some(Ok(given)) => Poll::Ready(Ok(given)),
             Some(Err(fault)) => {
+                // A fault is of the whole stream, so each later read answers it too.
                 self.stop = Some(Err(fault));
                 Poll::Ready(Err(ProtoReadError::H3(fault)))
             }
@@ -211,7 +213,6 @@ impl<G: Grammar> ItemReader<G> {
         ensures took { ReadTakes G.decides self.old t.old t.new id result }
         ensures err { FailedReadTakes G.decides self.old self.new t.old t.new id result }
     {
-        let _ = &self.state;
         let is_open = t.is_open();
         let end = t.end(id);
         match self.take_unread(t, id) {

@@ -17,7 +17,7 @@ use wt_wire::ids::{SessionId, StreamId};
 use wt_wire::parsed_frame::{ParsedFrame, parse_frame};
 use wt_wire::varint::{VarInt, read_varint};
 
-/// Where frames stand, which tells what a signal and an exercise frame do.
+/// Where frames stand, which decides what a signal and an exercise frame do.
 #[derive(Clone, Copy, Debug, PartialEq, Eq)]
 pub enum FrameSource {
     /// A bidirectional stream that the peer opened: the signal of a WebTransport stream may stand there.
@@ -40,7 +40,7 @@ fn signal(alloc: Global, id: VarInt) -> Result<Frame, ErrorCode>
     }
 }
 
-/// What a signal at the front does, whose type has so many bytes.
+/// What a signal at the front does, whose type has `offset` bytes.
 fn signal_step(alloc: Global, source: FrameSource, bytes: &[u8], offset: usize) -> FrameStep
     requires within { offset ≤ length bytes.now }
     requires few { offset ≤ 8 }
@@ -51,13 +51,15 @@ fn signal_step(alloc: Global, source: FrameSource, bytes: &[u8], offset: usize) 
             Some((id, length)) => Step::Stops(signal(alloc, id), (offset + length) as u64),
             None => Step::Cut,
         },
+        // The signal has no length, so nothing after it on such a stream could be read
+        // (draft-ietf-webtrans-http3, section 4.3).
         FrameSource::Control | FrameSource::Other => {
             Step::Stops(Err(ErrorCode::FrameUnexpected), offset as u64)
         }
     }
 }
 
-/// What a frame of an unknown type does, which has so many bytes.
+/// What a frame of an unknown type does, which has `size` bytes.
 fn skipped_step(
     alloc: Global,
     source: FrameSource,
@@ -68,6 +70,7 @@ fn skipped_step(
 {
     match source {
         FrameSource::Control if is_exercise(kind.into_inner()) => {
+            // Its payload means nothing and may have any length, so none is kept.
             let frame = Frame::new_exercise(alloc, kind, &[])?;
             Ok(Step::Stops(Ok(frame), size))
         }
@@ -142,6 +145,7 @@ impl ItemReader<NextFrame> {
             skip,
             mut kept,
         } = self;
+        // It was lawful on a stream of requests; now that the stream is a session's it isn't.
         if begins_with_signal(kept.as_slice()) {
             kept.clear();
             return ItemReader {

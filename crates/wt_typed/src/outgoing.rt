@@ -65,6 +65,7 @@ impl Outgoing {
     {
         let mut bytes = Vec::new(self.allocator());
         frame.write(&mut bytes)?;
+        // Half a frame followed by another would be read by the peer as one.
         Ok(self.bytes.is_empty() || self.bytes.as_slice() == bytes.as_slice())
     }
 
@@ -217,6 +218,8 @@ impl Outgoing {
             Err(StreamWriteError::NotConnected) => {
                 Ok(Poll::Ready(Err(ProtoWriteError::NotConnected)))
             }
+            // Of a half that this end neither finished nor reset, which the caller knows, only a stop is
+            // left.
             Err(_) => Ok(Poll::Ready(Err(ProtoWriteError::Stopped))),
         }
     }

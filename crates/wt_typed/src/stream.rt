@@ -1,4 +1,13 @@
 //! A stream with its type.
+//!
+//! An upgrade is a step to a stage whose calls are others; what a stage doesn't allow has no call there.
+//!
+//! ```text
+//! the peer's  StreamBiRemoteQuic  --> StreamBiRemoteH3 (frames)             --> StreamBiRemoteWT, or StreamSession
+//!             StreamUniRemoteQuic --the header is read--> StreamUniRemoteH3 --> StreamUniRemoteWT
+//! this end's  StreamBiLocalQuic   --> StreamBiLocalH3 --the signal is out-->  StreamBiLocalWT, or StreamSession
+//!             StreamUniLocalQuic  --the header is out--> StreamUniLocalH3   --> StreamUniLocalWT
+//! ```
 ghost use Rattle.std.specs.Prelude.{◌≡◌, ◌%◌, IfOk, OnErr, OnOk, IsTrue, true};
 ghost use Rattle.wt_seam.specs.Step.{can_receive_now};
 ghost use Rattle.wt_typed.specs.Typed.{after_stop_once, can_write_now, stop_answer};
@@ -185,10 +194,12 @@ pub(crate) fn stop_once(
     ensures err { OnErr result (t.new ≡ t.old) }
     ensures kept { OnErr result (is_stopped.new ≡ is_stopped.old) }
 {
+    // A second STOP_SENDING means nothing to the peer (RFC 9000, section 3.5), so it is the caller's mistake.
     if *is_stopped {
         return Ok(Err(AlreadyStop));
     }
     QuicRecvStream::new(id).stop(t, code)?;
+    // After the stop, so that one that ran out of memory may be tried again.
     *is_stopped = true;
     Ok(Ok(()))
 }

@@ -49,11 +49,12 @@ fn of_session(id: VarInt) -> Result<UniHeader, ErrorCode>
 {
     match SessionId::try_from_session_stream(StreamId::new(id)) {
         Some(session) => Ok(UniHeader::WebTransport(session)),
+        // No CONNECT request can have come on a stream of this id.
         None => Err(ErrorCode::Id),
     }
 }
 
-/// The id of a session, after a type of so many bytes.
+/// The id of a session, after a type of `offset` bytes.
 fn with_session(bytes: &[u8], offset: usize) -> Option<(Result<UniHeader, ErrorCode>, usize)>
     requires { offset ≤ 8 }
     ensures { result ≡ with_session_id offset (varint_at bytes.now) }
@@ -74,6 +75,8 @@ fn read_header(bytes: &[u8]) -> Option<(Result<UniHeader, ErrorCode>, usize)>
         0x03 => Some((Ok(UniHeader::QPackDecoder), offset)),
         0x54 => with_session(&bytes[offset..], offset),
         n if is_exercise(n) => Some((Ok(UniHeader::Exercise(number)), offset)),
+        // What a caller does about it is its own matter: an unknown type must not end the connection (RFC
+        // 9114, section 6.2).
         _ => Some((Err(ErrorCode::StreamCreation), offset)),
     }
 }

@@ -55,7 +55,7 @@ unfoldable pub line_at : List ℕ → Option FieldLine
 line_at [] = None
 line_at (b ∷ bytes) = if begins_line b then name_and_value_at (b ∷ bytes) else None
 
--- the fields of the lines up to the end, after lines with these fields and so many bytes that were read
+-- the fields of the lines up to the end, after lines with these fields and n bytes that were read
 unfoldable pub field_lines_from : Fields → ℕ → List ℕ → Option Fields
 field_lines_from fields zero [] = Some fields
 field_lines_from fields (suc k) [] = None

@@ -43,7 +43,7 @@ frame_of_type kind payload = if kind == data_type then Data payload else (if kin
 abbrev pub is_exercise : ℕ → Bool
 is_exercise kind = kind % 0x1f == 2 && nat_lt 0x20 kind
 
--- a frame of this type with a header of so many bytes and a payload of size bytes, and how many bytes it takes;
+-- a frame of this type with a header of n bytes and a payload of size bytes, and how many bytes it takes;
 -- one of a known type whose payload is longer than the bound is judged by its header alone;
 -- every other type is one to skip, whatever its length, and so are those that HTTP/2 had, 0x02, 0x06, 0x08 and 0x09
 -- (this repository's rule; RFC 9114, section 7.2.8, asks H3_FRAME_UNEXPECTED for these four, and sections 7.2.3 and 7.2.5 to 7.2.7 give further types a meaning)
@@ -55,12 +55,12 @@ frame_with_header bytes kind header size =
     (if nat_lt (length bytes) (header + size) then None else Some (frame_of_type kind (take size (drop header bytes)), header + size)))
     else Some (Skipped kind, header + size)
 
--- the same, where the length is read after a type of so many bytes
+-- the same, where the length is read after a type of n bytes
 abbrev pub frame_with_length : List ℕ → ℕ → ℕ → Option (ℕ × ℕ) → Option (Frame × ℕ)
 frame_with_length bytes kind offset None = None
 frame_with_length bytes kind offset (Some l) = frame_with_header bytes kind (offset + l.1) l.0
 
--- the signal, where the id of the session is read after a type of so many bytes
+-- the signal, where the id of the session is read after a type of n bytes
 abbrev pub signal_with_id : ℕ → Option (ℕ × ℕ) → Option (Frame × ℕ)
 signal_with_id offset None = None
 signal_with_id offset (Some s) = Some (Signal s.0, offset + s.1)

@@ -14,11 +14,11 @@ parsed_value id_at bytes (parsed.Headers header size) = Some (Headers (take size
 parsed_value id_at bytes (parsed.Settings header size) = Some (Settings (take size (drop header bytes)), header + size)
 parsed_value id_at bytes (parsed.Skipped kind size) = Some (Skipped kind, size)
 
--- a payload lies within so many bytes
+-- a payload lies within n bytes
 abbrev pub IsPayload : ℕ → ℕ → ℕ → Type 0
 IsPayload count header size = (1 ≤ header) × (header + size ≤ count) × (size ≤ longest_payload)
 
--- the answer lies within so many bytes
+-- the answer lies within n bytes
 abbrev pub LiesWithin : ℕ → ParsedFrame → Type 0
 LiesWithin count parsed.Incomplete = Unit {0}
 LiesWithin count (parsed.Signal offset) = (1 ≤ offset) × (offset ≤ count) × (offset ≤ 8)

@@ -2,7 +2,7 @@
 use Rattle.std.specs.Prelude.{ℕ, zero, suc, ◌+◌, ◌-◌, ◌*◌, ◌/◌, ◌%◌, nat_lt, List, [], ◌∷◌, Option, Some, None, if◌then◌else◌}
 use Rattle.std.specs.Option.{option_map}
 
--- the bytes after a full prefix, at most so many: their low seven bits, least first; value and length
+-- the bytes after a full prefix, at most n: their low seven bits, least first; value and length
 unfoldable pub continuation_at : ℕ → List ℕ → Option (ℕ × ℕ)
 continuation_at zero bytes = None
 continuation_at (suc n) [] = None
@@ -20,7 +20,7 @@ prefixed_at full (b ∷ bytes) = if nat_lt (b % (full + 1)) full then Some (b % 
 
 -- ---- how they are written
 
--- the low seven bits, least first, in at most so many bytes
+-- the low seven bits, least first, in at most n bytes
 abbrev pub continuation_bytes : ℕ → ℕ → List ℕ
 continuation_bytes zero n = []
 continuation_bytes (suc k) n = if nat_lt n 128 then n ∷ [] else (n % 128 + 128) ∷ continuation_bytes k (n / 128)
@@ -29,7 +29,7 @@ continuation_bytes (suc k) n = if nat_lt n 128 then n ∷ [] else (n % 128 + 128
 unfoldable pub prefixed_bytes : ℕ → ℕ → ℕ → List ℕ
 prefixed_bytes high full n = if nat_lt n full then (high + n) ∷ [] else (high + full) ∷ continuation_bytes 9 (n - full)
 
--- how many numbers so many further bytes give
+-- how many numbers n further bytes give
 abbrev pub seven_bits : ℕ → ℕ
 seven_bits zero = 1
 seven_bits (suc n) = 128 * seven_bits n

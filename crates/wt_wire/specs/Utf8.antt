@@ -1,7 +1,7 @@
 -- UTF-8, by the table of its well-formed byte sequences (RFC 3629 section 4).
 use Rattle.std.specs.Prelude.{ℕ, zero, suc, ◌==◌, ◌&&◌, nat_lt, not, Bool, true, false, List, [], ◌∷◌, if◌then◌else◌}
 
--- what a first byte begins: a sequence of so many further bytes, whose next lies from least to most
+-- what a first byte begins: a sequence of n further bytes, whose next lies from least to most
 pub data Lead : Type 0 where
   NotLead : Lead
   Begins : (further least most : ℕ) → Lead
@@ -28,7 +28,7 @@ abbrev pub if_begins : Lead → (ℕ → ℕ → ℕ → Bool) → Bool
 if_begins NotLead go = false
 if_begins (Begins further least most) go = go further least most
 
--- the bytes are the rest of a sequence, which has so many further bytes, and then whole sequences
+-- the bytes are the rest of a sequence, which has n further bytes, and then whole sequences
 unfoldable pub is_text_from : ℕ → ℕ → ℕ → List ℕ → Bool
 is_text_from zero least most [] = true
 is_text_from (suc further) least most [] = false

@@ -1,7 +1,7 @@
 -- Variable-length integers (RFC 9000, section 16).
 use Rattle.std.specs.Prelude.{ℕ, ◌+◌, ◌-◌, ◌*◌, ◌/◌, ◌%◌, List, [], ◌∷◌, length, take, Option, Some, None, nat_lt, if◌then◌else◌}
 
--- the two high bits of the first byte tell how many bytes there are: 1, 2, 4 or 8
+-- the two high bits of the first byte say how many bytes there are: 1, 2, 4 or 8
 abbrev pub varint_length : ℕ → ℕ
 varint_length b = if nat_lt b 64 then 1 else (if nat_lt b 128 then 2 else (if nat_lt b 192 then 4 else 8))
 

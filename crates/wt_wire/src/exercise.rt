@@ -6,5 +6,6 @@ ghost use Rattle.wt_wire.specs.Frames.{is_exercise};
 pub fn is_exercise(kind: u64) -> bool
     ensures { result ≡ is_exercise kind }
 {
+    // 0x21 is 1 * 0x1f + 2, so the types are those that leave 2; 2 itself is below the first.
     kind % 0x1f == 2 && kind > 0x20
 }

@@ -36,6 +36,8 @@ fn read_string(bytes: &[u8], full: u8) -> Option<StringLiteral<'_>>
         return None;
     }
     let len = offset + size as usize;
+    // Fields are kept as texts. The standard lets values have any bytes; a value that is no UTF-8 is refused
+    // here.
     let text = from_utf8(&bytes[offset..len])?;
     Some(StringLiteral { text, len })
 }
@@ -46,10 +48,14 @@ fn read_line(bytes: &[u8]) -> Option<FieldLine<'_>>
     ensures within { IfSome result (λ l. l.len ≤ length bytes.now) }
     ensures some { IfSome result (λ l. 1 ≤ l.len) }
 {
+    // A literal line with a literal name begins with 001, then whether it may be indexed, which concerns
+    // intermediaries alone, then whether the name is Huffman coded, which must be 0 (RFC 9204, section
+    // 4.5.6). Every other line needs a table or Huffman's code, and neither is here.
     if bytes.is_empty() || (bytes[0] / 8 != 4 && bytes[0] / 8 != 6) {
         return None;
     }
     let name = read_string(bytes, 7)?;
+    // The first bit of the value says that it is Huffman coded.
     if name.len == bytes.len() || bytes[name.len] >= 128 {
         return None;
     }
@@ -82,6 +88,8 @@ pub(crate) fn read_section(alloc: Global, payload: &[u8]) -> Result<Option<Heade
     ensures { IfOk result (λ r. r ≡ section_at payload.now) }
 {
     match payload {
+        // Required insert count and base: both 0, since own SETTINGS allow no dynamic table, so that no
+        // section may rest on one (RFC 9204, sections 3.2.3 and 4.5.1).
         [0, 0, ..] => read_lines(HeaderList::new(alloc), &payload[2..]),
         _ => Ok(None),
     }

@@ -184,6 +184,7 @@ fn write_payload(payload: &[u8], out: &mut Vec<u8>) -> Result<(), OutOfMemory>
     ensures short { OnOk result (length payload.now < 2 ^ 62) }
 {
     let length = payload.len() as u64;
+    // Not a fault of the payload's: no memory holds so much, and no error of a writer says more.
     let Some(length) = VarInt::try_from_u64(length) else {
         return Err(OutOfMemory);
     };

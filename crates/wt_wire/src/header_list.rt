@@ -41,6 +41,7 @@ fn compare(a: &str, b: &str) -> Ordering
     ensures { result ≡ compare_names a.now b.now }
 {
     match (begins_with_colon(a), begins_with_colon(b)) {
+        // Pseudo-header fields come before all others (RFC 9114, section 4.3).
         (true, false) => Ordering::Less,
         (false, true) => Ordering::Greater,
         _ => a.as_bytes().cmp(b.as_bytes()),
@@ -88,6 +89,7 @@ fn set_field(fields: &mut Vec<(Text, Text)>, name: &str, value: &str) -> Result<
     let alloc = *fields.allocator();
     let value = Text::from_text(alloc, value)?;
     match find_index(fields.as_slice(), name) {
+        // Of a repeated name the last value holds (this repository's rule).
         Ok(index) => fields[index].1 = value,
         Err(index) => fields.insert(index, (Text::from_text(alloc, name)?, value))?,
     }
@@ -109,7 +111,6 @@ impl HeaderList {
         ensures len { result ≡ length self.now }
         ensures ordered { IsHeaderList self.now }
     {
-        let _ = &self.fields;
         self.fields.len()
     }
 

@@ -110,6 +110,8 @@ impl SessionId {
         ensures some { IsSome result ↔ (id % 4 ≡ 0) }
         ensures value { IfSome result (λ s. s ≡ id) }
     {
+        // A CONNECT request comes on a bidirectional stream that the client opened, and both low bits of its
+        // id are 0.
         if id.into_u64() % 4 == 0 {
             Some(SessionId { id })
         } else {
@@ -174,6 +176,8 @@ impl QStreamId {
         ensures some { IsSome result ↔ (quarter < 2 ^ 60) }
         ensures value { IfSome result (λ q. q ≡ quarter) }
     {
+        // Four times a greater one is no id that a stream can have, so it names no session (RFC 9297, section
+        // 2.1).
         if quarter.into_inner() < 1 << 60 {
             Some(QStreamId { quarter })
         } else {

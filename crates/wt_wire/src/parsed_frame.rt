@@ -17,8 +17,8 @@ pub enum ParsedFrame {
     Incomplete,
     /// The signal of a WebTransport stream; the id of its session begins at this offset.
     Signal(usize),
-    /// The payload of a frame of a known type has more than 4,096 bytes; its header has so many
-    /// bytes.
+    /// The payload of a frame of a known type has more than 4,096 bytes; this many bytes
+    /// are its header.
     TooLong(usize),
     /// The payload of a DATA frame (RFC 9114, section 7.2.1).
     Data(usize, usize),
@@ -30,7 +30,7 @@ pub enum ParsedFrame {
     Skipped(VarInt, u64),
 }
 
-/// The frame of this type whose header has so many bytes and whose payload has `size` bytes.
+/// The frame of this type with a header of `header` bytes and a payload of `size` bytes.
 fn frame_after_header(bytes: &[u8], kind: VarInt, header: usize, size: VarInt) -> ParsedFrame
     requires some { 1 ≤ header }
     requires few { header ≤ 16 }
@@ -40,13 +40,18 @@ fn frame_after_header(bytes: &[u8], kind: VarInt, header: usize, size: VarInt) -
 {
     let number = kind.into_inner();
     let size = size.into_inner();
+    // A frame of a type that isn't known is skipped, whatever its length (RFC 9114, section 9): its payload
+    // needn't be here.
     if number != DATA && number != HEADERS && number != SETTINGS {
         return ParsedFrame::Skipped(kind, header as u64 + size);
     }
+    // By its header alone: a peer can't make this end keep, or wait for, a payload that it will refuse (RFC
+    // 9114, section 10.5).
     if size > LONGEST_PAYLOAD {
         return ParsedFrame::TooLong(header);
     }
     let size = size as usize;
+    // A known type means something only as a whole.
     if bytes.len() < header + size {
         return ParsedFrame::Incomplete;
     }
@@ -66,6 +71,8 @@ pub fn parse_frame(bytes: &[u8]) -> ParsedFrame
     let Some((kind, offset)) = read_varint(bytes) else {
         return ParsedFrame::Incomplete;
     };
+    // It has no length. The session's id follows, and then the application's bytes
+    // (draft-ietf-webtrans-http3, section 4.3).
     if kind.into_inner() == WEBTRANSPORT {
         return ParsedFrame::Signal(offset);
     }

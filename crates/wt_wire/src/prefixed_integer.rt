@@ -12,6 +12,9 @@ fn read_continuation(bytes: &[u8], most: u8) -> Option<(u64, usize)>
     ensures small { IfSome result (λ p. p.0 < seven_bits most) }
     ensures within { IfSome result (λ p. p.1 ≤ length bytes.now) }
 {
+    // A section has at most 4,096 bytes, so an integer that needs more than four bytes after its prefix is
+    // the length of nothing that can be here; with no such bound a peer could write any number of leading
+    // zeros.
     if most == 0 || bytes.is_empty() {
         return None;
     }

@@ -92,6 +92,8 @@ pub fn read_varint(bytes: &[u8]) -> Option<(VarInt, usize)>
     ensures some { IfSome result (λ p. 1 ≤ p.1) }
     ensures few { IfSome result (λ p. p.1 ≤ 8) }
 {
+    // The two high bits of the first byte say how many follow. A longer encoding than the shortest is read
+    // too: the shortest is owed for the types of QUIC's own frames alone (RFC 9000, section 12.4).
     match bytes {
         [first, ..] if *first < 64 => Some((VarInt::from_u64(u64::from(*first)), 1)),
         [first, b, ..] if *first < 128 => {
@@ -116,6 +118,7 @@ fn push_varint(value: VarInt, out: &mut Vec<u8>) -> Result<(), OutOfMemory>
     ensures bytes { OnOk result (out.new.items ≡ out.old.items ++ varint_bytes value) }
     ensures small { value < 2 ^ 62 }
 {
+    // The shortest, so that what is written is the same bytes each time.
     let n = value.into_inner();
     if n < 1 << 6 {
         out.push(n as u8)?;

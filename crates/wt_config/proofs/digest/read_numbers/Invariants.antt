@@ -1,4 +1,4 @@
--- The numbers that were read and the pieces that are left tell what the whole text writes.
+-- The numbers that were read and the pieces that are left say what the whole text writes.
 use Rattle.std.proofs.Common.{◌≡◌, length, take}
 use Rattle.std.specs.Option.{option_copied}
 use Rattle.wt_config.specs.DigestText.{numbers_of_text, remaining_pieces}
