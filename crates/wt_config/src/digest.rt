@@ -68,6 +68,7 @@ impl Sha256Digest {
         ensures text { IfOk result (λ text. string_bytes text ≡ text_of_digest fmt self.now) }
         ensures reads_back { IfOk result (λ text. digest_of_text fmt (string_bytes text) ≡ Some self.now) }
     {
+        // Read for the proof alone: that there are 32 bytes is known from here.
         let _bytes = &self.0;
         write_digest(alloc, self, fmt)
     }

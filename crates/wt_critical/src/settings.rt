@@ -294,6 +294,8 @@ impl RemoteSettingsStream {
     pub fn is_empty(&self) -> bool
         ensures { result ≡ not (is_some self.now.stream) }
     {
+        // Read for the proof alone, which takes the reader's invariant from here.
+        let _ = &self.reader;
         self.stream.is_none()
     }
 

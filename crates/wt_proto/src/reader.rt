@@ -152,11 +152,13 @@ impl<W: Walk> StreamReader<W> {
         ensures steps { steps.new ≡ steps.old + 1 }
         ensures lost { OnErr result ((k : ℕ) × (k ≤ length piece.now) × (self.new ≡ fed_reading W.decides self.old (take k piece.now))) }
     {
+        // Read for the proof alone, which takes the reader's invariant from here.
+        let _ = &self.end;
         steps.tick();
         self.take_piece(piece)
     }
 
-    /// Tells the end after the bytes that were taken.
+    /// Notes the end after the bytes that were taken.
     pub fn end(&mut self, end: StreamEnd)
         ensures value { self.new ≡ record self.old { end = end } }
         ensures read { (bytes : List ℕ) (before : StreamEnd) → HasRead W.decides W.start_state self.old bytes before
@@ -173,6 +175,8 @@ impl<W: Walk> StreamReader<W> {
         ensures value { result.now ≡ outcome_in W.unfinished_at self.now }
         ensures read { (bytes : List ℕ) (end : StreamEnd) → HasRead W.decides W.start_state self.now bytes end → result.now ≡ W.outcome_of bytes end }
     {
+        // Read for the proof alone, which takes the reader's invariant from here.
+        let _ = &self.end;
         self.current()
     }
 
@@ -181,6 +185,8 @@ impl<W: Walk> StreamReader<W> {
         ensures value { result ≡ outcome_in W.unfinished_at self }
         ensures read { (bytes : List ℕ) (end : StreamEnd) → HasRead W.decides W.start_state self bytes end → result ≡ W.outcome_of bytes end }
     {
+        // Read for the proof alone, which takes the reader's invariant from here.
+        let _ = &self.end;
         self.into_current()
     }
 

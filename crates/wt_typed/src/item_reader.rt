@@ -158,6 +158,8 @@ impl<G: Grammar> ItemReader<G> {
         ensures took { IfOk result (λ n. Took G.decides self.old self.new t.old t.new id n) }
         ensures err { FailedReadTakes G.decides self.old self.new t.old t.new id result }
     {
+        // Read for the proof alone, which takes the reader's invariant from here.
+        let _ = &self.state;
         let unread = t.unread(id);
         let mut consumed = 0;
         while consumed < unread && !self.is_over() {
@@ -213,6 +215,8 @@ impl<G: Grammar> ItemReader<G> {
         ensures took { ReadTakes G.decides self.old t.old t.new id result }
         ensures err { FailedReadTakes G.decides self.old self.new t.old t.new id result }
     {
+        // Read for the proof alone, which takes the reader's invariant from here.
+        let _ = &self.state;
         let is_open = t.is_open();
         let end = t.end(id);
         match self.take_unread(t, id) {

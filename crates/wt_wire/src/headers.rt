@@ -68,6 +68,7 @@ impl Headers {
         ensures bytes { IfOk result (λ v. v.items ≡ section_bytes self.now) }
         ensures ordered { IsHeaderList self.now }
     {
+        // For the proof alone: the call says that the list is in order.
         let _length = self.list.len();
         write_section(&self.list)
     }
