@@ -12,6 +12,11 @@ pub enum Side {
 }
 
 /// The state of a peer's half of a stream (RFC 9000, section 3.2).
+///
+/// ```text
+/// Running --FIN--> Fin
+///         --RESET_STREAM--> Reset
+/// ```
 #[derive(Clone, Copy, Debug, PartialEq, Eq)]
 pub enum StreamEnd {
     /// Bytes may follow.
