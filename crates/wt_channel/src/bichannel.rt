@@ -40,7 +40,7 @@ pub enum SendOutcome<T> {
 /// A channel between two ends: what one end sends, the other receives, in order. It is the core of a
 /// shared one, without a lock: who shares it puts it under a lock of their own.
 ///
-/// Each way it holds so many values as its capacity says, and no more. Once one of the ends left,
+/// Each way it holds as many values as its capacity says, and no more. Once one of the ends left,
 /// nothing more is sent, and what was sent before is still received.
 #[derive(Debug, Drop)]
 pub struct BiChannel<T> {
@@ -67,7 +67,7 @@ impl<T> Model for BiChannel<T> {
     ghost invariant = { λ c. HasRoom c.capacity c.to_left × HasRoom c.capacity c.to_right };
 }
 
-/// Puts the value at the queue's end, or gives it back where the queue holds so many.
+/// Puts the value at the queue's end, or gives it back where the queue is full.
 fn push_below<T>(queue: &mut VecDeque<T>, capacity: usize, value: T) -> Result<(), T>
     requires { HasRoom capacity queue.old }
     ensures answer { result ≡ (if nat_le capacity (length queue.old.items) then Err value else Ok tt) }
@@ -77,6 +77,7 @@ fn push_below<T>(queue: &mut VecDeque<T>, capacity: usize, value: T) -> Result<(
     if queue.len() >= capacity {
         return Err(value);
     }
+    // Its memory was taken with the channel, so a send never runs out of it.
     queue.push_back_reserved(value);
     Ok(())
 }
@@ -152,6 +153,7 @@ impl<T: Drop> BiChannel<T> {
         };
         match received {
             Some(value) => Poll::Ready(Some(value)),
+            // What was sent before an end left is received first.
             None if self.is_closed() => Poll::Ready(None),
             None => Poll::Pending,
         }

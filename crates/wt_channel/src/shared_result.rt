@@ -49,6 +49,7 @@ impl<T: Drop> SharedResult<T> {
         ensures answer { result ≡ may_set self.old }
         ensures state { self.new ≡ after_set value self.old }
     {
+        // Getters that were answered None may have gone on without a value, so none may come later.
         if self.setters == 0 || self.value.is_some() {
             return false;
         }
@@ -60,6 +61,7 @@ impl<T: Drop> SharedResult<T> {
     pub fn subscribe(&mut self)
         ensures { self.new ≡ after_subscribe self.old }
     {
+        // A count that wrapped would report a result as closed that still has getters.
         self.getters = self.getters.saturating_add(1);
     }
 
