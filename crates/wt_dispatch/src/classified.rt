@@ -123,6 +123,8 @@ pub fn is_released_at_once(verdict: &Verdict) -> bool
     ensures { result ≡ is_released false verdict.now }
 {
     match verdict {
+        // A stream of a session keeps its slot until an accept meets it, which bounds how many are kept
+        // (draft-ietf-webtrans-http3, section 4.5).
         Verdict::Incomplete | Verdict::WebTransport(_, _) | Verdict::Fault(_) => false,
         _ => true,
     }
@@ -150,6 +152,8 @@ pub fn is_given_up(verdict: &Verdict) -> bool
     ensures { result ≡ reads_no_more verdict.now }
 {
     match verdict {
+        // What comes on QPACK's streams are instructions for tables, which neither end uses here (RFC 9204,
+        // section 4.2).
         Verdict::Dropped | Verdict::Refused(_) | Verdict::Encoder(_) | Verdict::Decoder(_) => true,
         _ => false,
     }

@@ -44,6 +44,8 @@ fn only_once(before: Option<(StreamId, usize)>) -> Consequence
 {
     match before {
         None => Consequence::none(),
+        // A second one of its kind is H3_STREAM_CREATION_ERROR (RFC 9114, section 6.2.1; RFC 9204, section
+        // 4.2).
         Some(_) => Consequence::faulty(ErrorCode::StreamCreation),
     }
 }
@@ -62,6 +64,8 @@ fn queued_after(requests: &[Classified], id: StreamId) -> Consequence
 {
     match requests {
         [] => Consequence::none(),
+        // One is queued at a time. H3_REQUEST_REJECTED says that nothing of a further one was processed, so
+        // that it may be tried again (RFC 9114, section 4.1.1).
         [_, ..] => Consequence::stopped(true, id, ErrorCode::RequestRejected),
     }
 }
@@ -69,6 +73,8 @@ fn queued_after(requests: &[Classified], id: StreamId) -> Consequence
 fn is_due(classified: &Classified, is_open: bool, kind: u64, session: SessionId) -> bool
     ensures { result ≡ is_due is_open kind session classified.now }
 {
+    // Once the connection is over nothing can be stopped any more: streams of other sessions stay where they
+    // are.
     classified.id.into_u64() % 4 == kind
         && (is_open || is_for_session(session, &classified.verdict))
 }
@@ -151,6 +157,7 @@ impl DispatchedStreams {
     {
         match verdict {
             Verdict::Fault(code) => Consequence::faulty(*code),
+            // The request alone is refused, and the connection goes on (RFC 9114, section 4.1.2).
             Verdict::Refused(code) => Consequence::stopped(false, id, *code),
             Verdict::Request(_, _) => queued_after(self.requests.as_slice(), id),
             _ => Consequence::none(),

@@ -68,6 +68,7 @@ impl ConnectionProgress {
     pub fn begin(&mut self)
         ensures { self.new ≡ with_no_stops self.old }
     {
+        // They went out with the moment that found them.
         self.stops.clear();
     }
 
@@ -135,6 +136,7 @@ impl ConnectionProgress {
         ensures { self.new ≡ dequeued_datagram (Some piece.now) self.old }
     {
         self.datagrams += 1;
+        // H3_DATAGRAM_ERROR closes the connection (RFC 9297, section 2.1).
         if let Err(code) = H3Datagram::read(piece) {
             self.fault(code);
         }
@@ -146,6 +148,7 @@ impl ConnectionProgress {
     {
         match walk {
             SessionWalk::Running => {}
+            // A connection has one session here, and ends with it; the draft lets it go on (section 5).
             SessionWalk::Closed(code, reason) => {
                 self.ending = Some(Ending::by_session(code, reason, by_capsule));
             }
@@ -175,6 +178,7 @@ impl ConnectionProgress {
     pub fn note_control(&mut self, walk: ControlWalk)
         ensures { self.new ≡ control_read walk self.old }
     {
+        // SETTINGS that came stay, also where a later frame is at fault.
         self.settings = self.settings || walk.settings.is_some();
         self.fault_where(walk.fault);
     }

@@ -10,11 +10,16 @@ use wt_wire::ids::StreamId;
 use wt_wire::side::Side;
 
 /// How far a stream in a slot is.
+///
+/// ```text
+/// opened --> Arrived --a slot is free--> Dequeued --the header of a session--> Held --an accept gives or passes it--> released
+///                                        Dequeued --any other verdict--> released
+/// ```
 #[derive(Clone, Copy, PartialEq, Eq, Debug)]
 pub enum Phase {
     /// It waits for its turn.
     Arrived,
-    /// Its header is read, and doesn't tell yet what the stream is.
+    /// Its header is read, and doesn't show yet what the stream is.
     Dequeued,
     /// It is of a session, and waits for an accept.
     Held,

@@ -22,6 +22,7 @@ fn open(inbox: &mut Inbox, id: StreamId) -> Result<(), OutOfMemory>
     ensures log { OfEachLog inbox.old (λ side log stage uncollected. opened_id side log (local_kind side id) ≡ Some id
         → OnOk result (Refines side inbox.new (Sent (actions.Opened id) ∷ log) stage (actions.Opened id ∷ uncollected))) }
 {
+    // The transport gives the next id of the kind, which is the one that the plan named.
     if id.is_bidirectional() {
         let _opened = inbox.open_bi()?;
         return Ok(());

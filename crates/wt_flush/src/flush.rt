@@ -47,6 +47,7 @@ fn control_id(side: Side) -> StreamId
     ensures { result ≡ local_uni side }
 {
     match side {
+        // The two low bits say who opened a stream and of which kind it is (RFC 9000, section 2.1).
         Side::Client => StreamId::new(VarInt::from_u32(2)),
         Side::Server => StreamId::new(VarInt::from_u32(3)),
     }
@@ -76,6 +77,7 @@ fn send_control(inbox: &mut Inbox, alloc: Global, sent: &mut usize) -> Result<()
         return Ok(());
     }
     let id = control_id(inbox.side());
+    // The peer stopped it, which the checks report, or the connection is over.
     if !inbox.may_send(id) {
         return Ok(());
     }
@@ -101,6 +103,7 @@ fn flush_control(
         → control_sent side log ≡ record { opened = opened.old; sent = sent.old } → ControlRuns side log
         → OnOk result (Flushes side log stage uncollected (control_actions (transport_view side log).may_open (local_uni side) (transport_view side log).credit (control_sent side log)) inbox.new (record { opened = opened.new; sent = sent.new }))) }
 {
+    // Each end opens one, and SETTINGS are its first frame (RFC 9114, sections 6.2.1 and 3.2).
     if inbox.may_open_uni() {
         open_control(inbox, opened)?;
         send_control(inbox, alloc, sent)?;
@@ -135,6 +138,7 @@ fn session_id(session: Option<(StreamId, usize)>) -> StreamId
     ensures { result ≡ session_id session }
 {
     match session {
+        // Asked only where a session ended; without one the id is of no use.
         None => StreamId::new(VarInt::from_u32(0)),
         Some((id, _)) => id,
     }
@@ -145,6 +149,8 @@ fn reset_if(inbox: &mut Inbox, by_capsule: bool, id: StreamId) -> Result<(), Out
     ensures log { OfEachLog inbox.old (λ side log stage uncollected. is_open log ≡ true → (by_capsule ≡ true → can_send side log id ≡ true)
         → OnOk result (Sends side log stage uncollected (reset_if by_capsule id) inbox.new)) }
 {
+    // After such a capsule the other end closes its half of the stream too (draft-ietf-webtrans-http3,
+    // section 5).
     if by_capsule {
         reset(inbox, id, ErrorCode::NoError.to_code())?;
     }
@@ -172,9 +178,11 @@ fn flush_ending(
         return Ok(());
     };
     match ending.kind() {
+        // The code names the rule that was broken (RFC 9114, section 8).
         EndingKind::ByFault(code) => close_with(inbox, alloc, *code),
         EndingKind::BySession(_, _, by_capsule) => {
             reset_if(inbox, *by_capsule, session_id(session))?;
+            // Nothing is wrong: H3_NO_ERROR (RFC 9114, section 8.1).
             close_with(inbox, alloc, ErrorCode::NoError)
         }
     }
@@ -199,6 +207,8 @@ pub fn flush(
         → control_sent side log ≡ record { opened = opened.old; sent = sent.old } → MayFlush side log session progress.now
         → OnOk result (Flushes side log stage uncollected (actions_after (transport_view side log) (control_sent side log) session progress.now) inbox.new (record { opened = opened.new; sent = sent.new }))) }
 {
+    // SETTINGS go out also at the moment that ends the connection; the close comes last, as nothing may
+    // follow it.
     flush_control(inbox, alloc, opened, sent)?;
     stop_all(inbox, progress.stops())?;
     flush_ending(inbox, alloc, session, progress.ending())

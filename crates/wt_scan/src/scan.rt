@@ -27,12 +27,15 @@ use wt_proto::verdict::Verdict;
 use wt_wire::error::OutOfMemory;
 use wt_wire::ids::StreamId;
 
-/// So many slots a kind has.
+/// How many slots a kind has.
 fn slots_of(half: Half) -> usize
     ensures { result ≡ slots_of half }
 {
     match half {
+        // A bound on how many headers are read, and streams of sessions kept, at once (this repository's
+        // rule; RFC 9114, section 6.2, has a peer be allowed three streams at least).
         Half::Uni => 4,
+        // A request is read at once; a stream of a session waits here for its accept.
         Half::Bi => 1,
     }
 }
@@ -50,7 +53,7 @@ fn has_verdict(inbox: &mut Inbox, half: Half, id: StreamId) -> Result<bool, OutO
     }
 }
 
-/// The verdict of a stream of this kind, whose reader is let go.
+/// The verdict of a stream of this kind, whose reader is dropped.
 fn release_header(inbox: &mut Inbox, half: Half, id: StreamId) -> Result<Verdict, OutOfMemory>
     ensures answer { TellsAt inbox.old (λ side log stage. awaits half (stage id) ≡ true
         → IfOk result (λ v. v ≡ (rule_of half (transport_view side log)).verdict id)) }
@@ -63,7 +66,7 @@ fn release_header(inbox: &mut Inbox, half: Half, id: StreamId) -> Result<Verdict
     }
 }
 
-/// Gives a stream up where the test holds: its bytes are let go.
+/// Gives a stream up where the test holds: its bytes are dropped.
 fn give_up_if(inbox: &mut Inbox, id: StreamId, test: bool)
     ensures log { (side : Side) (log : Log) (stage : ℕ → Stage) (to : Stage) (uncollected : List Action)
         → Refines side inbox.old log (with_stage stage id to) uncollected → can_receive side log id ≡ true
@@ -120,6 +123,7 @@ fn classify(
         verdict,
         surplus,
     })?;
+    // From here on its bytes are dropped as they come.
     give_up_if(inbox, id, gives_up);
     Ok(held_unless(is_released, id))
 }
@@ -147,17 +151,19 @@ fn look(
     }
 }
 
-/// Whether a stream may be dequeued after so many occupied slots.
+/// Whether a stream may be dequeued while `occupied` slots are taken.
 fn may_dequeue(inbox: &Inbox, half: Half, occupied: usize) -> bool
     ensures { Tells inbox.now (λ side log. is_open log ≡ true
         → result ≡ (settings_ready side log && nat_lt occupied (rule_of half (transport_view side log)).slots)) }
 {
+    // This end's SETTINGS must wait for nothing of the peer's (RFC 9114, section 7.2.4.2), so nothing is read
+    // before they may go out.
     let is_ready = inbox.is_ready();
     let is_free = occupied < slots_of(half);
     is_ready && is_free
 }
 
-/// Visits a slot after so many others: what is left of it.
+/// Visits a slot after `occupied` others: what is left of it.
 fn visit(
     inbox: &mut Inbox,
     half: Half,
@@ -214,6 +220,8 @@ pub fn scan(
 {
     let most = slots_of(half);
     let mut index = 0;
+    // Past the first few slots none is free. A fault ends the scan, so that the first of several is the one
+    // that is reported.
     while index < most && index < slots.len() && progress.still_going() {
         match visit(inbox, half, &slots[index], index, dispatched, progress)? {
             Some(slot) => {

@@ -54,6 +54,7 @@ fn is_own(piece: &Piece, session: SessionId) -> Option<bool>
 {
     match H3Datagram::read(piece.as_slice()) {
         Ok(datagram) => Some(datagram.qstream_id().into_session_id() == session),
+        // Judged as it was dequeued: one at fault ended the connection then.
         Err(_) => None,
     }
 }
@@ -110,6 +111,8 @@ impl Driver {
             → OnOk result (Follows side self.new (pass_stream side log id) collected)) }
         ensures has_given { OnOk result (self.new.has_given_settings ≡ self.old.has_given_settings) }
     {
+        // It names a session that isn't there, and an accept that meets it frees its slot
+        // (draft-ietf-webtrans-http3, section 4.5).
         let code = ErrorCode::BufferedStreamRejected.to_code();
         self.act(Action::StopOut { id, code })?;
         self.record_call(&Record::StreamPassed(id))

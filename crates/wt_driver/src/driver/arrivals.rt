@@ -31,6 +31,7 @@ use wt_wire::varint::VarInt;
 fn stream_id(index: u64, kind: u64) -> Result<StreamId, OutOfMemory>
     ensures { IfOk result (λ id. id ≡ 4 * index + kind) }
 {
+    // The transport takes no turn that opens more (RFC 9000, section 4.6).
     if index >= 1 << 60 || kind >= 4 {
         return Err(OutOfMemory);
     }

@@ -76,6 +76,7 @@ impl Driver {
     pub fn error(&self) -> Result<DriverError, OutOfMemory>
         ensures { IfOk result (λ e. e ≡ error_of self.now.state.progress.ending) }
     {
+        // Not by the driver, but by a call or the transport: that is the transport's to say.
         let Some(ending) = self.progress.ending() else {
             return Ok(DriverError::NotConnected);
         };
@@ -209,6 +210,8 @@ impl Driver {
         ensures settings { OnOk result (self.new.settings ≡ self.old.settings) }
         ensures has_given { OnOk result (self.new.has_given_settings ≡ self.old.has_given_settings) }
     {
+        // The session's part of a client's stream begins after the response; a server's request was released
+        // with its verdict.
         if self.inbox.side() == Side::Client {
             let _response = self.inbox.release_response(id)?;
         }
@@ -396,6 +399,8 @@ impl Driver {
     fn queued_request(&self) -> Option<(StreamId, &SessionRequest, usize)>
         ensures { request_as result ≡ first_request (requests_now self.now.state) }
     {
+        // A session comes only after the peer's SETTINGS, whatever they announce (draft-ietf-webtrans-http3,
+        // section 3.1).
         if self.progress.settings() {
             return self.dispatched.first_request();
         }

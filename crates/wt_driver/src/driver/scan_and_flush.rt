@@ -101,6 +101,7 @@ impl Driver {
         ensures { OnOk result (self.new
             ≡ with_state self.old (record self.old.state { progress = dequeued_datagram (front_of self.old.queue) self.old.state.progress })) }
     {
+        // No connection brings so many; a count that can't rise is out of memory.
         if self.progress.datagrams() >= 1 << 62 {
             return Err(OutOfMemory);
         }
@@ -116,6 +117,7 @@ impl Driver {
             → result ≡ ((transport_view side log).ready && self.now.state.datagrams == self.now.state.progress.datagrams)) }
     {
         let is_ready = self.inbox.is_ready();
+        // One waits at a time: the next is judged once the one before was received or passed.
         let is_all_released = self.released_datagrams == self.progress.datagrams();
         is_ready && is_all_released
     }
@@ -251,6 +253,7 @@ impl Driver {
             ≡ with_state self.old (record self.old.state { progress = unless_ended self.old.state.progress.ending (critical_if (transport_view side log).control_stopped) self.old.state.progress })) }
         ensures has_given { self.new.has_given_settings ≡ self.old.has_given_settings }
     {
+        // A receiver must not ask for a control stream to be closed (RFC 9114, section 6.2.1).
         let is_stopped = self.inbox.control_stopped();
         self.progress.fault_unless_ended(is_stopped);
     }
@@ -262,6 +265,7 @@ impl Driver {
         ensures settings { self.new.settings ≡ option_or walk.settings self.old.settings }
         ensures has_given { self.new.has_given_settings ≡ self.old.has_given_settings }
     {
+        // Kept, to be given once; a fault that comes after them doesn't take them back.
         if walk.settings.is_some() {
             self.settings = walk.settings;
         }
@@ -324,6 +328,7 @@ impl Driver {
             ≡ with_state self.old (record self.old.state { progress = unless_ended self.old.state.progress.ending (critical_if (not (is_running ((transport_view side log).end id)))) self.old.state.progress })) }
         ensures has_given { self.new.has_given_settings ≡ self.old.has_given_settings }
     {
+        // A QPACK stream must not be closed (RFC 9204, section 4.2).
         let is_ended = !is_running(self.inbox.end(id));
         self.progress.fault_unless_ended(is_ended);
     }
@@ -371,6 +376,8 @@ impl Driver {
             → OnOk result (Moves side log uncollected self.old self.new (check_stages (transport_view side log) self.old.state stage) (run_checks (transport_view side log) self.old.state) (settings_checked (transport_view side log) self.old.state self.old.settings))) }
         ensures has_given { OnOk result (self.new.has_given_settings ≡ self.old.has_given_settings) }
     {
+        // The order is this repository's rule: the first that ends the connection is reported, and no later
+        // one is looked at.
         self.check_datagram()?;
         self.check_session(session)?;
         self.check_local_control();
@@ -397,6 +404,7 @@ impl Driver {
     {
         self.begin_scan();
         let had_control = self.control().is_some();
+        // Unidirectional streams first (this repository's rule): the control stream is among them.
         self.scan_unis()?;
         self.scan_bis()?;
         let control = asks_control(walk, had_control);

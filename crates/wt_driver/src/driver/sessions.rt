@@ -103,6 +103,7 @@ impl Driver {
     {
         match self.session() {
             None => self.record_call(&Record::SessionEstablished(id, offset)),
+            // A connection has one session.
             Some(_) => Ok(()),
         }
     }

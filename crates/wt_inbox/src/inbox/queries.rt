@@ -219,5 +219,6 @@ impl Inbox {
 fn is_ready_by(connected: bool, may_open: bool, credit: u64) -> bool
     ensures { result ≡ (connected && may_open && not (nat_lt credit (length local_control_bytes))) }
 {
+    // All of them at once, so that nothing of the peer's is read while a rest of SETTINGS waits for credit.
     connected && may_open && credit >= CONTROL_LENGTH
 }
