@@ -14,6 +14,8 @@ use wt_wire::side::StreamEnd;
 pub fn is_closed(stream: &Stream) -> bool
     ensures { result ≡ is_closed (sending_half_of stream.now) }
 {
+    // RFC 9000, section 3.1: the states "Reset Sent" and "Data Recvd", in which a reset means nothing any
+    // more.
     stream.reset || stream.finished && stream.signals.acknowledged
 }
 
@@ -24,6 +26,7 @@ fn write_refusal(stream: &Stream, is_open: bool) -> Option<StreamWriteError>
     if !is_open {
         return Some(StreamWriteError::NotConnected);
     }
+    // Before a stop: what this end did itself is the nearer reason.
     if stream.finished || stream.reset {
         return Some(StreamWriteError::Closed);
     }
@@ -153,9 +156,11 @@ pub fn read_answer(
 ) -> Poll<Result<Option<usize>, StreamReadError>>
     ensures { result ≡ read_answer is_open (record { unread = unread; end = end.now }) size }
 {
+    // Nothing was asked for, so nothing has to be waited for.
     if size == 0 {
         return Poll::Ready(Ok(Some(0)));
     }
+    // What came is given before the end or the loss that came after it.
     if unread == 0 {
         return nothing_unread(is_open, end);
     }

@@ -79,6 +79,7 @@ impl Stream {
         ensures ok { OnOk result (self.new ≡ with_bytes bytes.now self.old) }
         ensures err { OnErr result (self.new ≡ self.old) }
     {
+        // Dropped as it comes, so that a peer can't fill memory that nobody reads.
         if self.given_up {
             return Ok(());
         }
@@ -98,6 +99,7 @@ impl Stream {
     pub fn end(&mut self, counts: bool, end: &StreamEnd)
         ensures { self.new ≡ signal counts (with_end end.now) self.old }
     {
+        // What comes after the connection's end decides what else may come, and no answer.
         if counts {
             self.signals.end = *end;
         }
@@ -138,6 +140,8 @@ impl Stream {
     pub fn may_be_stopped(&self) -> bool
         ensures { result ≡ (not (is_some self.now.all_signals.stop) && not self.now.all_signals.acknowledged) }
     {
+        // A second STOP_SENDING, or one of a half that was received whole, says nothing new (RFC 9000,
+        // section 3.5).
         self.all_signals.stop.is_none() && !self.all_signals.acknowledged
     }
 

@@ -52,6 +52,7 @@ impl Unread {
     pub fn pieces(&self) -> u64
         ensures { result ≡ length self.now }
     {
+        // Read for the proof alone.
         let _pieces = &self.pieces;
         self.pieces.len() as u64
     }

@@ -34,6 +34,7 @@ impl Transport {
         ensures { result ≡ may_begin_now self.now self.now.side }
     {
         match self.side {
+            // A client's transport connects because it was asked to.
             Side::Client => self.has_dialled,
             Side::Server => true,
         }
@@ -52,6 +53,7 @@ impl Transport {
         requires { kind < 4 }
         ensures { result ≡ (self.now.is_connected && nat_lt (count_now self.now kind) (2 ^ 60)) }
     {
+        // No id names a stream beyond that (RFC 9000, section 4.6).
         self.is_connected && self.count(kind) < 1 << 60
     }
 
@@ -76,6 +78,7 @@ impl Transport {
     fn may_raise(&self, id: StreamId, total: u64) -> bool
         ensures { result ≡ may_raise_now self.now id total }
     {
+        // Limits never fall; a lower one is out of date (RFC 9000, section 4.1).
         self.is_connected && self.can_send(id) && total >= self.stream(id).credit && total < 1 << 62
     }
 
@@ -121,6 +124,7 @@ impl Transport {
     fn fits_now(&self, turn: &Turn) -> bool
         ensures { result ≡ fits_now self.now turn.now }
     {
+        // After this end closed, the transport still reports what was under way; after a loss, nothing.
         self.may_come(turn) && !self.is_lost
     }
 

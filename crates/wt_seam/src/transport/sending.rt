@@ -73,6 +73,7 @@ impl Transport {
         ensures err { OnErr result (self.new ≡ self.old) }
     {
         let count = self.count(kind);
+        // MAX_STREAMS is a total and no addition (RFC 9000, section 4.6).
         if !(self.is_open && count < allowed) {
             return Ok(None);
         }
@@ -81,6 +82,7 @@ impl Transport {
         match self.open_stream(kind) {
             Ok(()) => Ok(Some(id)),
             Err(error) => {
+                // So that a turn that ran out of memory leaves the transport as it was.
                 self.take_back();
                 Err(error)
             }
@@ -123,6 +125,8 @@ impl Transport {
         ensures err { OnErr result (self.new ≡ self.old) }
     {
         let left = self.stream(id).credit_left();
+        // MAX_STREAM_DATA, of the stream; that of the connection is the transport's own matter (RFC 9000,
+        // section 4.1).
         let part = if (bytes.len() as u64) < left {
             bytes
         } else {
