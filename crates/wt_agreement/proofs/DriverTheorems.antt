@@ -103,7 +103,7 @@ reported_end_theorem side d log uncollected call own k reply id headers offset r
     let t = first-reported id headers offset (requests_now d.state) f in
     delivered_theorem side log call own k reply t.0 t.1 headers offset l e (sym (requests_theorem side d log uncollected r) ∙ t.2) t.3
 
--- ---- streams that are let go
+-- ---- streams that are dropped
 
 module _ (side : Side) (d : DriverValue) (log : Log) (uncollected : List Action) (k : ℕ) (r : Refines side d log uncollected) where
   -- no byte of a stream that is given up is held

@@ -29,7 +29,7 @@ ghost use Rattle.wt_turn.specs.declared.reply.Reply.TheVariants as replies;
 ghost use Rattle.wt_wire.specs.HeaderList.{Fields};
 ghost use Rattle.wt_wire.specs.declared.side.Side.{Side};
 
-/// A driver tells what calls ask of it, with whether anything happened, where the delivered request
+/// A driver answers what calls ask of it, with whether anything happened, where the delivered request
 /// ends, and the walk over the response while a connect goes on.
 pub fn drivers_tell()
     ensures { (side : Side) (d : DriverValue) (log : Log) (uncollected : List Action) (first : Bool) (end : ℕ) (walk : ResponseWalk)
@@ -67,8 +67,8 @@ pub fn requests_end_where_drivers_tell()
         → first_request (requests_now d.state) ≡ Some (id, headers, offset) → KeepsRequestEnd side (call_effect side log call).log offset }
 {}
 
-/// A driver holds no byte of a stream that a call let go, and none of one that is dropped, refused, of QPACK,
-/// or a surplus request. Each stream of the peer's that a call passed or gave up was let go.
+/// A driver holds no byte of a stream that a call dropped, and none of one that is dropped, refused, of QPACK,
+/// or a surplus request. Each stream of the peer's that a call passed or gave up was dropped.
 pub fn drivers_let_streams_go()
     ensures let_go { (side : Side) (d : DriverValue) (log : Log) (uncollected : List Action) (k : ℕ) → Refines side d log uncollected
         → is_let_go side log k ≡ true → unread_now d.inbox.transport k ≡ [] }

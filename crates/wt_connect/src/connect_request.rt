@@ -77,6 +77,8 @@ pub fn request_head(
 ) -> Result<Piece, OutOfMemory>
     ensures { IfOk result (λ head. head ≡ request_head authority.now path.now headers.now) }
 {
+    // A reserved name fails the connect before this head is sent (`reserved_name`), so the five stay as they
+    // are.
     let mut fields = request_fields(alloc, authority, path)?;
     insert_all(&mut fields, headers)?;
     frame_of(alloc, &fields)

@@ -79,6 +79,7 @@ fn parse_https(alloc: Global, text: &str) -> Result<Result<Url, UrlRefusal>, Out
     match Url::parse(alloc, text) {
         Ok(url) if url.scheme() == "https" => Ok(Ok(url)),
         Ok(_) => Ok(Err(UrlRefusal::Scheme)),
+        // The parser ties neither to a cause, so both say that no answer could be made.
         Err(ParseError::OutOfMemory | ParseError::Overflow) => Err(OutOfMemory),
         Err(_) => Ok(Err(UrlRefusal::Parse)),
     }
@@ -91,6 +92,7 @@ fn dialled_address(
 ) -> Result<Addr, ConnectingError>
     ensures { result ≡ dialled_address url.now lookup outcome }
 {
+    // The endpoint is asked about an address, so the lookup decides first.
     unless_hindered(outcome, address(url, lookup)?)
 }
 
@@ -107,6 +109,7 @@ fn address(url: &Url, lookup: Lookup) -> Result<Addr, ConnectingError>
             ip: ip.to_bits(),
             port,
         }),
+        // An address needs no resolver.
         Some(Host::Domain(_)) | None => looked_up(lookup),
     }
 }

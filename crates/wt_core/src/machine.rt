@@ -96,7 +96,7 @@ impl Core {
         self.session.answer(self.alloc, &mut self.driver, call)
     }
 
-    /// The driver and the session take what the transport tells; the actions stay with the driver.
+    /// The driver and the session take what the transport reports; the actions stay with the driver.
     fn event(&mut self, turn: &Turn) -> Result<(), OutOfMemory>
         requires { IsTrue (fits_now self.old.driver.inbox.transport turn.now) }
         ensures driver { (log : Log) → Refines self.old log → fits self.old.side log turn.now ≡ true

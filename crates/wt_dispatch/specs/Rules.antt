@@ -11,7 +11,7 @@ abbrev pub consequence_of : Half → Dispatched → ℕ → Verdict → Conseque
 consequence_of Uni = uni_consequence
 consequence_of Bi = bi_consequence
 
--- so many slots a kind has
+-- how many slots a kind has
 abbrev pub slots_of : Half → ℕ
 slots_of Uni = 4
 slots_of Bi = 1

@@ -1,5 +1,5 @@
 //! The driver of a connection: which streams of the peer's are dequeued and classified, what goes out
-//! at each moment, and how the connection ends. Offered again here are wt_critical's types of the streams
+//! at each moment, and how the connection ends. Re-exported here are wt_critical's types of the streams
 //! on which a connection rests, and wt_channel's result that is set once and channel between two ends.
 #![tactic(auto)]
 

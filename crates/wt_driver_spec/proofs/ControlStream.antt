@@ -12,7 +12,7 @@ use Rattle.wt_wire.specs.declared.side.Side.{Side}
 use Rattle.wt_wire.specs.declared.side.Side.TheVariants.{Client, Server}
 use Rattle.wt_turn.specs.declared.action.Action.TheVariants as actions
 
--- the bytes of these that credit is left for, where so many were sent
+-- the bytes of these that credit is left for, where n were sent
 pub take-after : (sent credit : ℕ) (xs : List ℕ) → take (credit - sent) (drop sent xs) ≡ drop sent (take credit xs)
 take-after zero credit xs = ap (λ n. take n xs) (let e : credit - 0 ≡ credit = omega arith in e)
 take-after (suc sent) zero xs = ap (λ n. take n (drop (suc sent) xs)) (let e : 0 - suc sent ≡ 0 = omega arith in e)

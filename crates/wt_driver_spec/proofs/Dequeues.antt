@@ -149,7 +149,7 @@ module _ (ready : Bool) (rule : SlotRule) (d : CallView) (s : StreamTable) (all 
 
 -- ---- one is dequeued only after few that aren't released
 
--- after so many that aren't released, each of these that is dequeued stands after fewer than the most
+-- after n that aren't released, each of these that is dequeued stands after fewer than the most
 abbrev FewBefore : CallView → StreamTable → ℕ → ℕ → List ℕ → Type 0
 FewBefore d s most n [] = Unit {0}
 FewBefore d s most n (k ∷ ks) = (has k s.dequeued ≡ true → n < most) × FewBefore d s most (one_more_if (unreleased d s k) n) ks

@@ -301,7 +301,7 @@ flush-events side log m = by (is_moment m && is_open (m ∷ log))
     by true = events-with (pending_actions side (m ∷ log)) (m ∷ log)
     by false = refl
 
--- so many datagrams came, and weren't received or passed
+-- n datagrams came, and weren't received or passed
 abbrev unreleased_count : Log → ℕ
 unreleased_count log = length (datagrams_of (events_of log)) - released_datagrams (calls_of log)
 

@@ -138,7 +138,7 @@ order-both side n (c ∷ us) bs u b = (
 
 -- ---- none is passed over
 
--- a stream that was looked at: it is dequeued where so many slots or fewer were occupied, and classified where it tells what it is
+-- a stream that was looked at: it is dequeued where n slots or fewer were occupied, and classified where it shows what it is
 record LookedAt (ready : Bool) (rule : SlotRule) (j low : ℕ) (s : StreamTable) : Type 0 where
   dequeues : ready ≡ true → low < rule.slots → has j s.dequeued ≡ true
   classifies : has j s.dequeued ≡ true → is_final (rule.verdict j) ≡ true → is_some (verdict_of j s.classified) ≡ true

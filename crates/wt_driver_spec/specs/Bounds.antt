@@ -3,7 +3,7 @@ use Rattle.std.specs.Prelude.{[], ◌<◌, ◌==◌, ◌^◌, ◌||◌, ◌∷�
 use Rattle.wt_proto.specs.declared.verdict.Verdict.{Verdict}
 use Rattle.wt_driver_spec.specs.DriverState.{Arrived, DriverState, Slot}
 
--- after so many slots, each that stands beyond the most that may be dequeued only arrived
+-- after n slots, each that stands beyond the most that may be dequeued only arrived
 abbrev pub IsBounded : ℕ → ℕ → List Slot → Type 0
 IsBounded most n [] = Unit {0}
 IsBounded most n (slot ∷ slots) = (nat_lt n most ≡ false → slot.phase ≡ Arrived) × IsBounded most (suc n) slots

@@ -51,8 +51,8 @@ WasReady side log = (later : List Entry) × (ready_log : Log) × (log ≡ later 
 abbrev pub has_final_verdict : Log → (List ℕ → StreamEnd → Verdict) → ℕ → Bool
 has_final_verdict log verdict k = is_final (verdict (contents log k) (end_of (events_of log) k))
 
--- Of one kind of the peer's streams, with so many slots and this verdict over what came for a stream: which are dequeued, each
--- after fewer than so many that aren't released, and which are classified.
+-- Of one kind of the peer's streams, with n slots and this verdict over what came for a stream: which are dequeued, each
+-- after fewer than n that aren't released, and which are classified.
 pub record DequeuedInTurn (side : Side) (log : Log) (kind slots : ℕ) (verdict : List ℕ → StreamEnd → Verdict) : Type 0 where
   pub each_in_turn : (n : ℕ) → may_dequeue side log ≡ true → n < peer_count side (events_of log) kind → unreleased_before side log kind n < slots → is_dequeued side log (stream_id kind n) ≡ true  -- while streams are dequeued, each after fewer that aren't released is
   pub few : (n : ℕ) → is_dequeued side log (stream_id kind n) ≡ true → unreleased_before side log kind n < slots  -- a dequeued stream is after fewer that aren't released

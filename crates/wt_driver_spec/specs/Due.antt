@@ -51,7 +51,7 @@ abbrev pub take_next : {S T : Type 0} → DueRule S T → (S → DueOutcome S T)
 take_next rule again s None = record { state = s; given = None }
 take_next rule again s (Some due) = give_or_pass_due due.is_own rule again due.item s
 
--- it looks again after each item that it passes, at most so many times
+-- it looks again after each item that it passes, at most n times
 abbrev pub take_due : {S T : Type 0} → DueRule S T → ℕ → S → DueOutcome S T
 take_due rule zero s = record { state = s; given = None }
 take_due rule (suc n) s = take_next rule (λ u. take_due rule n u) s (rule.due_now s)

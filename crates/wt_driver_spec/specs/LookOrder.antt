@@ -31,7 +31,7 @@ pub record ClassifiesNow (side : Side) (e : Entry) (log : Log) (k : ℕ) : Type 
   pub not_before : is_classified side log k ≡ false
   pub from_now : is_classified side (e ∷ log) k ≡ true
 
--- Of one kind of the peer's streams, with so many slots and this verdict over what came for a stream: where the entry classifies
+-- Of one kind of the peer's streams, with n slots and this verdict over what came for a stream: where the entry classifies
 -- stream k, it passed over none of those that are looked at before it.
 pub record PassesOverNone (side : Side) (e : Entry) (log : Log) (kind slots : ℕ) (verdict : List ℕ → StreamEnd → Verdict) : Type 0 where
   pub dequeued : (k n : ℕ) → ClassifiesNow side e log k → looks_before side (stream_id kind n) k ≡ true

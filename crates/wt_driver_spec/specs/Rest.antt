@@ -10,7 +10,7 @@ use Rattle.wt_driver_spec.specs.DriverState.{Arrived, Dequeued, DriverState, Hel
 use Rattle.wt_driver_spec.specs.Moment.{Fits}
 use Rattle.wt_driver_spec.specs.Step.{begin_scan, kept_calls, step_actions, with_no_stops}
 
--- a visit leaves the slot of stream k as it is, after so many others
+-- a visit leaves the slot of stream k as it is, after n others
 abbrev pub RestsAt : Bool → SlotRule → ℕ → ℕ → SlotPhase → Type 0
 RestsAt ready rule n k Arrived = (ready && nat_lt n rule.slots) ≡ false
 RestsAt ready rule n k Dequeued = is_final (rule.verdict k) ≡ false

@@ -73,7 +73,7 @@ abbrev pub dequeue_slot : Bool → SlotRule → Slot → ℕ → Known → Visit
 dequeue_slot false rule slot n known = keep_slot slot n known
 dequeue_slot true rule slot n known = classify_slot (is_final (rule.verdict slot.id)) rule slot.id n known
 
--- a slot after so many others
+-- a slot after n others
 abbrev pub visit_slot : Bool → SlotRule → SlotPhase → Slot → ℕ → Known → Visited
 visit_slot ready rule Held slot n known = keep_slot slot n known
 visit_slot ready rule Dequeued slot n known = dequeue_slot true rule slot n known
@@ -92,7 +92,7 @@ unless_ended_slots (Some e) f slots known = record { slots = slots; known = know
 abbrev pub scan_on : (ℕ → Known → Scanned) → Visited → Scanned
 scan_on again v = after_slots v.slots (again v.occupied v.known)
 
--- the slots of a kind, one after another, after so many that are occupied
+-- the slots of a kind, one after another, after n that are occupied
 abbrev pub scan_slots : Bool → SlotRule → ℕ → List Slot → Known → Scanned
 scan_slots ready rule n [] known = record { slots = []; known = known }
 scan_slots ready rule n (slot ∷ slots) known =

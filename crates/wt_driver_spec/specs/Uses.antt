@@ -65,7 +65,7 @@ passes k _ = false
 
 -- what the calls did, as far as it matters for a stream
 pub record CallUse : Type 0 where
-  pub read : ℕ  -- so many bytes of it were read
+  pub read : ℕ  -- n bytes of it were read
   pub is_dropped : Bool  -- it was passed or given up
   pub session : Option (ℕ × ℕ)  -- the session that is established
   pub is_over : Bool  -- the handshake failed

@@ -201,7 +201,7 @@ module _ (side : Side) (log : Log) (collected : ℕ) (d : DriverValue) (f : Foll
         let y = inbox-kept side new.inbox log (with_stage f.refines.stage id GivenUp) (uncollected_since collected log) (StreamPassed id) tt z in
         call-noted side log collected d f (StreamPassed id) a new new.inbox.transport.is_open y (s (first id a.may).unis (first id a.may).bis) (open-stays (StreamPassed id) new.inbox (with_stage f.refines.stage id GivenUp) y) q k
 
-    -- a stream that is given up was let go where it was there
+    -- a stream that is given up was dropped where it was there
     pub given-up-noted : (id : ℕ) → inboxes.Refines side new.inbox log (with_stage f.refines.stage id (unless_given_up (can_receive side log id) (f.refines.stage id))) (uncollected_since collected log)
         → new.state ≡ record d.state { is_open = new.inbox.transport.is_open } → new.queue ≡ d.queue → new.settings ≡ d.settings → Asks (StreamGivenUp id) → EntryNoted side log (Called (StreamGivenUp id)) new collected
     given-up-noted id x s q k a =

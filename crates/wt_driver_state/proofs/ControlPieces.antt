@@ -54,7 +54,7 @@ or-none true = refl
 or-none false = refl
 
 module _ (side : Side) (log : Log) (collected : ℕ) (d : DriverValue) (f : Follows side d log collected) (id : ℕ) (bytes : List ℕ) (o : is_open log ≡ true) (by : ReadBy id d.state false false true false) where
-  -- what is kept, and what the transport tells
+  -- what is kept, and what the transport reports
   abbrev s : DriverState
   s = state_of side log
 
@@ -78,11 +78,11 @@ module _ (side : Side) (log : Log) (collected : ℕ) (d : DriverValue) (f : Foll
   fit : StagesFit side log stage
   fit = (control-stage side log collected d f id bytes o by).3
 
-  -- the walk over so many of the bytes, after those that came before
+  -- the walk over n of the bytes, after those that came before
   abbrev walk_at : ℕ → ControlWalk
   walk_at n = control_walk_of (drop offset (contents log id ++ take n bytes)) (t.end id)
 
-  -- whether SETTINGS came with so many more
+  -- whether SETTINGS came with n more
   abbrev came : ℕ → Bool
   came m = s.progress.settings || is_some (walk_at (suc m)).settings
 
@@ -160,7 +160,7 @@ module _ (side : Side) (log : Log) (collected : ℕ) (d : DriverValue) (f : Foll
             ap (λ (cs : List Classified). settings_read (transport_view side later) (first_at control_start cs)) run.classified
             ∙ bytes-read side id (take j bytes) log (peer_control side log) v (f.refines.settings.read v is)
 
-  -- what the code knows of a walk that was fed so many of the bytes
+  -- what the code knows of a walk that was fed n of the bytes
   module _ (n : ℕ) (within : n ≤ length bytes) (running : (m : ℕ) → m < n → is_some (walk_at m).fault ≡ false) where
     silent-before : (m : ℕ) → suc m < n → is_some (walk_at (suc m)).fault ≡ false
     silent-before m l = running (suc m) l

@@ -1,4 +1,4 @@
--- A stream that a call let go is given up, and so is one that is unwanted as it is classified.
+-- A stream that a call dropped is given up, and so is one that is unwanted as it is classified.
 use Rattle.std.proofs.Common.{◌≡◌, ℕ, Bool, true, false, List, [], ◌∷◌, ◌⊎◌, inl, inr, refl, sym, ap, subst, ◌∙◌}
 use Rattle.std.specs.Prelude.{◌==◌, ◌&&◌, ◌+◌, ◌||◌, Option, Some, None, not}
 use Rattle.std.proofs.lemmas.Bool.{eqb-true}
@@ -17,7 +17,7 @@ use Rattle.wt_spec.specs.StreamTable.{Classified, Ending, is_request, is_webtran
 use Rattle.wt_turn.specs.Log.{Called, Entry, Log, StreamGivenUp, StreamPassed, calls_of}
 use Rattle.wt_wire.specs.declared.side.Side.{Side}
 
--- ---- a stream that a call let go is the application's, or was to be
+-- ---- a stream that a call dropped is the application's, or was to be
 
 -- it is this end's own, or classified as a session's
 abbrev pub IsNamed : Side → Log → ℕ → Type 0
@@ -61,7 +61,7 @@ may-give : (role : StreamRole) → is_for_application role None ≡ true → may
 may-give OfLocalUni e = refl
 may-give _ e = e
 
--- A stream that a call let go is given up.
+-- A stream that a call dropped is given up.
 pub let-go-gone : (side : Side) (log : Log) (stage : ℕ → Stage) (k : ℕ) → Fits side log → Uses side log → StagesFit side log stage → is_let_go side log k ≡ true → stage k ≡ GivenUp
 let-go-gone side log stage k fits uses f went = by (let-go-named side log k uses went)
   where
@@ -112,7 +112,7 @@ unwanted-gone side log stage k f e = by (classified_of k (stream_table side log)
 
 -- ---- the peer's streams
 
--- Each stream of the peer's that a call passed or gave up was let go.
+-- Each stream of the peer's that a call passed or gave up was dropped.
 pub peers-let-go : (side : Side) (log : Log) (k : ℕ) → has_local_kind side k ≡ false → (use_of k (calls_of log)).is_dropped ≡ true → is_let_go side log k ≡ true
 peers-let-go side [] k peers e = absurd cc
 peers-let-go side (Called (StreamGivenUp id) ∷ log) k peers e = by (id == k) refl e (λ g. peers-let-go side log k peers g)

@@ -68,7 +68,7 @@ still-runs (walks.Closed code reason) by_capsule p q e g = absurd (let h : ◌�
 still-runs (walks.Fault code) by_capsule p q e g = absurd (let h : ◌≡◌ {A = Option Ending} (Some (ByFault code)) None = ap (λ (v : DriverProgress). v.ending) e ∙ g in cc)
 
 module _ (side : Side) (log : Log) (collected : ℕ) (d : DriverValue) (f : Follows side d log collected) (id : ℕ) (o : is_open log ≡ true) where
-  -- what is kept, and what the transport tells
+  -- what is kept, and what the transport reports
   abbrev s : DriverState
   s = state_of side log
 

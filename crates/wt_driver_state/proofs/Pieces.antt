@@ -414,7 +414,7 @@ take-inner (suc m) zero ys l = absurd (omega arith)
 take-inner (suc m) (suc n) [] l = refl
 take-inner (suc m) (suc n) (v ∷ ys) l = ap (λ zs. v ∷ zs) (take-inner m n ys (omega arith))
 
--- the last of so many bytes, and those before it
+-- the last of n bytes, and those before it
 pub take-last : (n : ℕ) (xs : List ℕ) → n < length xs → (b : ℕ) × (take (suc n) xs ≡ take n xs ++ b ∷ [])
 take-last n [] l = absurd (omega arith)
 take-last zero (x ∷ xs) l = (x, refl)
@@ -456,7 +456,7 @@ module _ (side : Side) (log : Log) (collected : ℕ) (d : DriverValue) (f : Foll
       (subst (KeepsSettings side (log_bytes log id bytes)) (sym (ap (λ (v : DriverValue). v.settings) is ∙ k))
       (keeps-then side log collected d f id bytes (run_state bytes (λ m. s.progress.settings) s) run f.refines.stage f.refines.staged d.settings (run-settings bytes s) f.refines.settings))
 
-  -- so many of them came, the last of which isn't silent: its work is done
+  -- n of them came, the last of which isn't silent: its work is done
   module _ (j : ℕ) (below : j < length bytes) (came : ℕ → Bool) (run : SilentRun side log id (take j bytes) (run_state (take j bytes) came s)) (stage : ℕ → Stage) (fit : StagesFit side log stage) where
     -- the last one
     abbrev final_byte : ℕ
@@ -479,7 +479,7 @@ module _ (side : Side) (log : Log) (collected : ℕ) (d : DriverValue) (f : Foll
         (last-noted side log collected d f id (take j bytes) (run_state (take j bytes) came s) run stage fit (run-ending (take j bytes) came s) o final_byte begun
         (subst (λ (xs : List ℕ). inboxes.Refines side begun.inbox (log_bytes log id xs) stage (uncollected_since collected log)) (take-last j bytes below).1 r) st q k))
 
-  -- a reader took so many of them: those before the last are silent, and the work of the last is done
+  -- a reader took n of them: those before the last are silent, and the work of the last is done
   module _ (n : ℕ) (within : n ≤ length bytes) (stage : ℕ → Stage) (fit : StagesFit side log stage)
       (silent : (m : ℕ) → suc m < n → SaysNothing t id (contents log id ++ take (suc m) bytes) s s.progress.settings)
       (mid begun last : DriverValue) (r : inboxes.Refines side mid.inbox (log_bytes log id (take n bytes)) stage (uncollected_since collected log))

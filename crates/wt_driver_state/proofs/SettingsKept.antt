@@ -33,7 +33,7 @@ use Rattle.wt_wire.specs.declared.side.StreamEnd.TheVariants as ends
 
 -- ---- what was read stays read
 
--- what is left of more bytes, after so many of all
+-- what is left of more bytes, after n of all
 abbrev left_after : ℕ → List ℕ → List ℕ → List ℕ
 left_after zero xs more = more
 left_after (suc n) [] more = drop (suc n) more

@@ -63,7 +63,7 @@ use-read k (BytesRead id count ∷ calls) = by (id == k) (use-read k calls)
     by false e = omega arith
 use-read k (r ∷ calls) = let e = use-read k calls in omega arith
 
--- a stream that was neither passed nor given up isn't let go
+-- a stream that was neither passed nor given up isn't dropped
 pub not-let-go : (side : Side) (log : Log) (k : ℕ) → list_any (gives_up k) (calls_of log) ≡ false → list_any (passes k) (calls_of log) ≡ false → is_let_go side log k ≡ false
 not-let-go side [] k e f = refl
 not-let-go side (Called (StreamGivenUp id) ∷ log) k e f =

@@ -28,7 +28,7 @@ use Rattle.wt_turn.specs.Log.{Called, Datagram, DatagramPassed, DatagramReceived
 use Rattle.wt_turn.specs.declared.action.Action.{Action}
 use Rattle.wt_wire.specs.declared.side.Side.{Side}
 
--- the first of what is left after so many
+-- the first of what is left after n
 pub slice-front : (xs : List (List ℕ)) (n : ℕ) → slice_get xs n ≡ front_of (drop n xs)
 slice-front [] zero = refl
 slice-front [] (suc n) = refl
@@ -82,7 +82,7 @@ module _ (side : Side) (log : Log) (m : Entry) (stage : ℕ → Stage) (may : Ma
   abbrev u : TransportView
   u = transport_view side (m ∷ log)
 
-  -- so many datagrams are released
+  -- n datagrams are released
   datagrams-are : d.state.datagrams ≡ released_datagrams (calls_of (m ∷ log))
   unfolding state_of
   datagrams-are = ap (λ (s : DriverState). s.datagrams) (here ∙ sym (entry-noted side log m may (sound side log fits)))

@@ -49,7 +49,7 @@ call_use side log k = record (use_of k (calls_of log)) { is_dropped = is_let_go 
 
 -- ---- what is said of a stage
 
--- a stream is read up to this offset; nothing of one that a call let go is kept
+-- a stream is read up to this offset; nothing of one that a call dropped is kept
 abbrev pub ReadUpTo : Bool → ℕ → Stage → Type 0
 ReadUpTo false offset stage = body_offset stage ≡ Some offset
 ReadUpTo true offset stage = stage ≡ GivenUp
@@ -112,7 +112,7 @@ StagesFit side log stage = TableFits side (call_use side log) (stream_table side
 
 -- ---- the stages after an entry and its moment
 
--- so many bytes more
+-- n bytes more
 abbrev pub offset_plus : ℕ → Option ℕ → Option ℕ
 offset_plus count None = None
 offset_plus count (Some offset) = Some (offset + count)
@@ -122,7 +122,7 @@ abbrev pub established_stages : Side → ℕ → ℕ → (ℕ → Stage) → ℕ
 established_stages Client id offset stage = with_stage stage id (Body offset)
 established_stages Server id offset stage = stage
 
--- the stage of a stream of which so many bytes more are read: one that is given up stays so
+-- the stage of a stream of which n bytes more are read: one that is given up stays so
 abbrev pub read_stage : ℕ → Stage → Stage
 read_stage count GivenUp = GivenUp
 read_stage count stage = stage_from (offset_plus count (body_offset stage))

@@ -33,11 +33,11 @@ pub record Refines (side : Side) (d : DriverValue) (log : Log) (uncollected : Li
   pub fits : Fits side log
   pub uses : Uses side log
 
--- the actions of the log that weren't collected yet, the newest first, where so many were collected
+-- the actions of the log that weren't collected yet, the newest first, where n were collected
 abbrev pub uncollected_since : ℕ → Log → List Action
 uncollected_since collected log = take (length (actions_of log) - collected) (actions_of log)
 
--- A driver follows a log, of which so many actions were collected: it refines it, with the other ones not collected yet, and where
+-- A driver follows a log, of which n actions were collected: it refines it, with the other ones not collected yet, and where
 -- the connection is open all is at rest, and the driver may send.
 pub record Follows (side : Side) (d : DriverValue) (log : Log) (collected : ℕ) : Type 0 where
   pub refines : Refines side d log (uncollected_since collected log)

@@ -177,7 +177,7 @@ module _ (side : Side) (log : Log) (stage : ℕ → Stage) (uncollected : List A
 
 -- ---- the stops, one after another
 
--- so many streams were stopped
+-- n streams were stopped
 pub record StopsSoFar (side : Side) (log : Log) (stage : ℕ → Stage) (uncollected : List Action) (stops : List Stopped) (offset : ℕ) (x : InboxState) : Type 0 where
   pub log_now : Log
   pub uncollected_now : List Action

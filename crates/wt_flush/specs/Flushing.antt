@@ -48,7 +48,7 @@ pub record OpensControl (side : Side) (log : Log) (stage : ℕ → Stage) (uncol
   pub inbox : Refines side x (with_actions acts log) stage (newest_first acts uncollected)
   pub opened_is : opened ≡ true
 
--- so many bytes more went out on the control stream
+-- n bytes more went out on the control stream
 pub record SendsControl (side : Side) (log : Log) (stage : ℕ → Stage) (uncollected : List Action) (acts : List Action) (x : InboxState) (sent count : ℕ) : Type 0 where
   pub inbox : Refines side x (with_actions acts log) stage (newest_first acts uncollected)
   pub sent_is : sent ≡ count

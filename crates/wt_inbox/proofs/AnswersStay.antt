@@ -104,7 +104,7 @@ module _ {S O : Type 0} {start : S} {decide : S → List ℕ → Step S O} {want
   pulled-read goes-on = asked-read start decide law.steady unfinished final outcome_of law.reaches goes-on (kept x) (kept y) x.transport y.transport id p.pulled (end_now x.transport id)
 
   module _ {z : InboxState} (q : RemovedIn start kept with_kept y z id) where
-    -- it was let go then: the transport stays, and so do the readers of the other streams
+    -- it was dropped then: the transport stays, and so do the readers of the other streams
     pub released-rest : z ≡ with_transport (with_kept y (kept z)) y.transport
     released-rest = q.rest ∙ kind.stays y (kept z)
 

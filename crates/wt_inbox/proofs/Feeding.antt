@@ -100,7 +100,7 @@ bytes-actions : (bytes : List ℕ) (log : Log) (id : ℕ) → actions_of (log_by
 bytes-actions [] log id = refl
 bytes-actions (b ∷ bytes) log id = bytes-actions bytes (Received id b ∷ log) id
 
--- nothing is left of bytes after so many of them: these are all
+-- nothing is left of bytes after n of them: these are all
 all-read : (c : ℕ) (xs : List ℕ) → c ≤ length xs → drop c xs ≡ [] → c ≡ length xs
 all-read c xs le none =
     let size : length (drop c xs) ≡ 0 = ap length none in
@@ -203,7 +203,7 @@ module _ {S O : Type 0} {start : S} {decide : S → List ℕ → Step S O} {want
     whole : drop from (before ++ take n piece) ≡ drop from before ++ take n piece
     whole = drop-append-le from before (take n piece) (let e = (at-end some).1 in omega arith)
 
-    -- so many first bytes of all
+    -- the first n bytes of all
     front : (m : ℕ) → m ≤ n → take (read-on-h.count + m) (drop from (before ++ take n piece)) ≡ drop from before ++ take m piece
     front m l =
         ap (λ (xs : List ℕ). take (read-on-h.count + m) xs) whole

@@ -42,7 +42,7 @@ pub record IsOffset {O : Type 0} (final : O → Bool) (outcome_of : List ℕ →
 module _ {S O : Type 0} (decide : S → List ℕ → Step S O) (steady : IsSteady decide) (place_of : S → ℕ) (offset : O → Option ℕ)
     (goes : (s : S) (xs : List ℕ) (t : S) (n : ℕ) → decide s xs ≡ Goes t n → place_of t ≡ place_of s + n)
     (stops : (s : S) (xs : List ℕ) (o : O) (n g : ℕ) → decide s xs ≡ Stops o n → offset o ≡ Some g → g ≡ place_of s + n) where
-  -- the first bytes of these, so many, stop the walk
+  -- the first n bytes of these stop the walk
   record Early (s : S) (stop : Option O) (rest : ℕ) (bytes : List ℕ) (o : O) : Type 0 where
     count : ℕ
     within : count ≤ length bytes

@@ -329,7 +329,7 @@ module _ (side : Side) (x : InboxState) (log : Log) (stage : ℕ → Stage) (unc
     staged = staged-at x log r.position stage id Anywhere tt (λ k n. r.staged k);
   }
 
-  -- a stream that no walk reads and of which so many bytes were read
+  -- a stream that no walk reads and of which n bytes were read
   pub as_body : (id offset : ℕ) → body_offset (stage id) ≡ Some offset → Refines side x log (with_stage stage id (Body offset)) uncollected
   as_body id offset a = record {
     position = r.position;

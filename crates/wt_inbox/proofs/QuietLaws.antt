@@ -1,4 +1,4 @@
--- What reading leaves is what the transport tells of all but the unread bytes.
+-- What reading leaves is what the transport reports of all but the unread bytes.
 use Rattle.std.proofs.Common.{◌≡◌, ◌/◌, ◌%◌, ℕ, Bool, List, [], length, refl, sym, ap, ◌∙◌}
 use Rattle.std.specs.Prelude.{None, map, nat_lt, is_some, ◌==◌, ◌&&◌, not, if◌then◌else◌}
 use Rattle.std.proofs.Math.ListN.{get_or-map}

@@ -168,7 +168,7 @@ module _ {S O : Type 0} {start : S} {decide : S → List ℕ → Step S O} {want
       kept-read : (to : Stage) → IsAt y id (contents log id) (position_after r.position id p.pulled.pulls.count id) to → Refines side y log (with_stage stage id to) uncollected
       kept-read = refines-then y refl (pulled-readers law kind p)
 
-      -- with it let go
+      -- with it dropped
       kept-released : {z : InboxState} → RemovedIn start kept with_kept y z id → (to : Stage) → IsAt z id (contents log id) (position_after r.position id p.pulled.pulls.count id) to → Refines side z log (with_stage stage id to) uncollected
       kept-released {z} q = refines-then z (ap (λ (w : InboxState). w.transport) (released-rest law kind p q)) (released-readers law kind p q)
 
@@ -179,7 +179,7 @@ module _ {S O : Type 0} {start : S} {decide : S → List ℕ → Step S O} {want
     pub header-then : HasReached start decide final outcome_of (reading_of start (kept y) id) 0 (contents log id) (position_after r.position id p.pulled.pulls.count id) × HasNoWalk y id
     header-then = (reached-then 0 h.0 p, subst (λ (w : InboxState). HasNoWalk w id) (sym p.rest) (header.walks x (kept y) y.transport id h.1))
 
-    -- it was let go then: its stream stands where its outcome tells
+    -- it was dropped then: its stream stands where its outcome says
     body-then : {z : InboxState} → RemovedIn start kept with_kept y z id → (from_offset : Option ℕ) → offset (outcome_of (contents log id) (end_of (events_of log) id)) ≡ from_offset
         → IsAt z id (contents log id) (position_after r.position id p.pulled.pulls.count id) (stage_from from_offset)
     body-then q None e = tt

@@ -60,7 +60,7 @@ outcome_by decide start unfinished kept t k end = outcome_after decide unfinishe
 abbrev pub outcome_now : {S O : Type 0} → (S → List ℕ → Step S O) → S → (StreamEnd → S → Bool → O) → List (KeptReader S O) → TransportState → ℕ → O
 outcome_now decide start unfinished kept t k = outcome_by decide start unfinished kept t k (end_now t k)
 
--- reading so many bytes of a stream takes these away and leaves all else
+-- reading n bytes of a stream takes these away and leaves all else
 pub record Consumes (before after : TransportState) (id count : ℕ) : Type 0 where
   pub within : count ≤ length (unread_now before id)
   pub here : unread_now after id ≡ drop count (unread_now before id)
@@ -69,7 +69,7 @@ pub record Consumes (before after : TransportState) (id count : ℕ) : Type 0 wh
   pub refines : (side : Side) (log : Log) (position : ℕ → ReadPosition) (uncollected : List Action) → Refines side before log position uncollected
       → Refines side after log (position_after position id count) uncollected
 
--- a reader took so many unread bytes, which are consumed; in front of the last one its outcome wasn't final
+-- a reader took n unread bytes, which are consumed; in front of the last one its outcome wasn't final
 pub record Takes {S O : Type 0} (start : S) (decide : S → List ℕ → Step S O) (final : O → Bool) (outcome_of : List ℕ → StreamEnd → O)
     (old new : Reading S O) (before after : TransportState) (id count : ℕ) : Type 0 where
   pub consumes : Consumes before after id count
@@ -77,7 +77,7 @@ pub record Takes {S O : Type 0} (start : S) (decide : S → List ℕ → Step S 
   pub running : (bytes : List ℕ) (end : StreamEnd) → HasRead decide start old bytes end → (m : ℕ) → m < count
       → final (outcome_of (bytes ++ take m (unread_now before id)) end) ≡ false
 
--- The reader of a stream read on: it stands as if it had taken all that is unread, and learned the end. It took so many
+-- The reader of a stream read on: it stands as if it had taken all that is unread, and learned the end. It took n
 -- bytes, which are consumed, and in front of the last one its outcome wasn't final. Unless the bytes alone made it final,
 -- none is left unread.
 pub record Pulls {S O : Type 0} (start : S) (decide : S → List ℕ → Step S O) (unfinished : StreamEnd → S → Bool → O) (final : O
@@ -100,7 +100,7 @@ pub record Pulled {S O : Type 0} (start : S) (decide : S → List ℕ → Step S
   pub kept : is_kept new id ≡ true
   pub count : length new ≡ (if is_kept old id then length old else length old + 1)
 
--- The reader of one stream among those that are kept was fed a piece: it took so many bytes of it, up to the one with which its
+-- The reader of one stream among those that are kept was fed a piece: it took n bytes of it, up to the one with which its
 -- outcome is final, else all of them.
 pub record Fed {S O : Type 0} (start : S) (decide : S → List ℕ → Step S O) (final : O → Bool) (outcome_of : List ℕ → StreamEnd → O)
     (old new : List (KeptReader S O)) (id : ℕ) (piece : List ℕ) (count : ℕ) : Type 0 where

@@ -1,4 +1,4 @@
--- What a private step does to an inbox: the reader of one stream reads on, or is let go.
+-- What a private step does to an inbox: the reader of one stream reads on, or is dropped.
 use Rattle.std.specs.Prelude.{◌≡◌, ◌==◌, ◌-◌, ℕ, List, None, Bool, false, if◌then◌else◌, is_some, length}
 use Rattle.wt_wire.specs.declared.side.StreamEnd.{StreamEnd}
 use Rattle.wt_proto.specs.declared.walk.Step.{Step}
@@ -25,13 +25,13 @@ pub record PulledIn {S O : Type 0} (start : S) (decide : S → List ℕ → Step
   pub pulled : Pulled start decide unfinished final outcome_of (kept x) (kept y) x.transport y.transport id
   pub rest : y ≡ with_transport (with_kept x (kept y)) y.transport
 
--- the reader of a stream among those of one kind was fed a piece, of which it took so many bytes, and nothing else changed
+-- the reader of a stream among those of one kind was fed a piece, of which it took n bytes, and nothing else changed
 pub record FedIn {S O : Type 0} (start : S) (decide : S → List ℕ → Step S O) (final : O → Bool) (outcome_of : List ℕ → StreamEnd → O)
     (kept : InboxState → List (KeptReader S O)) (with_kept : InboxState → List (KeptReader S O) → InboxState) (x y : InboxState) (id : ℕ) (piece : List ℕ) (count : ℕ) : Type 0 where
   pub fed : Fed start decide final outcome_of (kept x) (kept y) id piece count
   pub rest : y ≡ with_kept x (kept y)
 
--- the reader of a stream among those of one kind was let go, and nothing else changed
+-- the reader of a stream among those of one kind was dropped, and nothing else changed
 pub record RemovedIn {S O : Type 0} (start : S) (kept : InboxState → List (KeptReader S O)) (with_kept : InboxState → List (KeptReader S O) → InboxState) (x y : InboxState) (id : ℕ) : Type 0 where
   pub others : (k : ℕ) → (id == k) ≡ false → reading_of start (kept y) k ≡ reading_of start (kept x) k
   pub gone : is_kept (kept y) id ≡ false
@@ -42,7 +42,7 @@ pub record RemovedIn {S O : Type 0} (start : S) (kept : InboxState → List (Kep
 abbrev pub UniPulled : InboxState → InboxState → ℕ → Type 0
 UniPulled x y id = PulledIn tt uni_decides uni_unfinished is_final uni_verdict_of (λ (x : InboxState). x.unis) (λ (x : InboxState) kept. record x { unis = kept }) x y id
 
--- the reader of the header of a unidirectional stream was let go
+-- the reader of the header of a unidirectional stream was dropped
 abbrev pub UniRemoved : InboxState → InboxState → ℕ → Type 0
 UniRemoved x y id = RemovedIn tt (λ (x : InboxState). x.unis) (λ (x : InboxState) kept. record x { unis = kept }) x y id
 
@@ -50,7 +50,7 @@ UniRemoved x y id = RemovedIn tt (λ (x : InboxState). x.unis) (λ (x : InboxSta
 abbrev pub BiPulled : InboxState → InboxState → ℕ → Type 0
 BiPulled x y id = PulledIn 0 bi_decides bi_unfinished is_final bi_verdict_of (λ (x : InboxState). x.bis) (λ (x : InboxState) kept. record x { bis = kept }) x y id
 
--- the reader of the header of a bidirectional stream was let go
+-- the reader of the header of a bidirectional stream was dropped
 abbrev pub BiRemoved : InboxState → InboxState → ℕ → Type 0
 BiRemoved x y id = RemovedIn 0 (λ (x : InboxState). x.bis) (λ (x : InboxState) kept. record x { bis = kept }) x y id
 
@@ -58,7 +58,7 @@ BiRemoved x y id = RemovedIn 0 (λ (x : InboxState). x.bis) (λ (x : InboxState)
 abbrev pub ResponsePulled : InboxState → InboxState → ℕ → Type 0
 ResponsePulled x y id = PulledIn 0 response_decides response_unfinished is_response_final response_walk_of (λ (x : InboxState). x.responses) (λ (x : InboxState) kept. record x { responses = kept }) x y id
 
--- the reader of a response was let go
+-- the reader of a response was dropped
 abbrev pub ResponseRemoved : InboxState → InboxState → ℕ → Type 0
 ResponseRemoved x y id = RemovedIn 0 (λ (x : InboxState). x.responses) (λ (x : InboxState) kept. record x { responses = kept }) x y id
 
@@ -70,7 +70,7 @@ ControlPulled x y id = PulledIn None control_decides control_unfinished (λ w. i
 abbrev pub SessionPulled : InboxState → InboxState → ℕ → Type 0
 SessionPulled x y id = PulledIn tt session_decides session_unfinished is_over session_walk_of (λ (x : InboxState). x.sessions) (λ (x : InboxState) kept. record x { sessions = kept }) x y id
 
--- the reader of a session's stream was let go
+-- the reader of a session's stream was dropped
 abbrev pub SessionRemoved : InboxState → InboxState → ℕ → Type 0
 SessionRemoved x y id = RemovedIn tt (λ (x : InboxState). x.sessions) (λ (x : InboxState) kept. record x { sessions = kept }) x y id
 

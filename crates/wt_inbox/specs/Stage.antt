@@ -29,7 +29,7 @@ pub data Stage : Type 0 where
   UniHeader : Stage  -- its header is being read, as a unidirectional stream's
   BiHeader : Stage  -- its header is being read, as a bidirectional stream's
   ResponseHead : Stage  -- the response is being read
-  Body : (offset : ℕ) → Stage  -- so many bytes were read
+  Body : (offset : ℕ) → Stage  -- n bytes were read
   ControlBody : (start : ℕ) → Stage  -- the walk over the control stream reads it from this offset on
   SessionBody : (start : ℕ) → Stage  -- the walk over a session's stream reads it from this offset on
   GivenUp : Stage  -- nothing of it is read any more
@@ -93,7 +93,7 @@ stage_from (Some offset) = Body offset
 
 -- ---- what a stage says
 
--- a reader read the stream from an offset on: it took so many bytes, and in front of the last its outcome wasn't final
+-- a reader read the stream from an offset on: it took n bytes, and in front of the last its outcome wasn't final
 pub record HasReached {S O : Type 0} (start : S) (decide : S → List ℕ → Step S O) (final : O → Bool) (outcome_of : List ℕ → StreamEnd → O)
     (r : Reading S O) (offset : ℕ) (bytes : List ℕ) (position : ReadPosition) : Type 0 where
   pub count : ℕ

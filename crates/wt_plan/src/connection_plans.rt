@@ -81,6 +81,7 @@ fn opened_reply(id: StreamId) -> Reply
 fn stream_header(alloc: Global, id: StreamId, session: SessionId) -> Result<Vec<u8>, OutOfMemory>
     ensures { IfOk result (λ bytes. bytes.items ≡ stream_header id session) }
 {
+    // draft-ietf-webtrans-http3, sections 4.2 and 4.3.
     let kind = if id.is_bidirectional() { 0x41 } else { 0x54 };
     let mut out = Vec::new(alloc);
     write_varint(VarInt::from_u32(kind), &mut out)?;
@@ -183,6 +184,7 @@ pub fn payload_limit(t: &Transport, session: SessionId) -> Option<u64>
     let header = H3Datagram::header_size(QStreamId::from_session_id(session)) as u64;
     match t.datagram_fact() {
         Some(DatagramFact::Limit(limit)) => {
+            // Not even an empty payload fits.
             if limit < header {
                 None
             } else {

@@ -23,7 +23,7 @@ use wt_wire::varint::VarInt;
 
 // ---- writing
 
-/// So many bytes of the front.
+/// The first `credit` bytes, or all of them.
 pub(crate) fn covered(bytes: &[u8], credit: u64) -> &[u8]
     ensures { result.now ≡ take credit bytes.now }
 {

@@ -104,6 +104,8 @@ fn finished_rejection(
     ensures { (d : DriverAnswers)
         → IfOk result (λ p. defined_plan p ≡ finished_rejection (facts_now t.now d) (sending_now t.now id) (record_of waiting)) }
 {
+    // The close waits for the peer to have the response: it would lose what isn't acknowledged (RFC 9000,
+    // section 10.2).
     if t.stop_code(id).is_some() || t.is_acknowledged(id) {
         let own = with_close(alloc, Vec::new(alloc), t.is_open(), VarInt::from_u32(0))?;
         return Ok(Plan::fail_with(own, Reply::Rejected));
@@ -122,6 +124,7 @@ fn rejection_out(
 ) -> Result<Plan, OutOfMemory>
     ensures { (d : DriverAnswers) → IfOk result (λ p. defined_plan p ≡ rejection_out (facts_now t.now d) id own.items (record_of waiting)) }
 {
+    // Finished once: a second FIN would be a fault of this end's.
     if t.is_finished(id) {
         return finished_rejection(alloc, t, id, waiting);
     }
@@ -263,6 +266,7 @@ fn response_read(
             let own = with_close(alloc, own, t.is_open(), code.to_code())?;
             Ok(failed_connect(own, ConnectingError::ConnectionError(error)))
         }
+        // No response can come any more.
         ResponseWalk::Ended => {
             let error = lost_connect(alloc, t)?;
             abandoned(alloc, t, own, error)
@@ -274,6 +278,8 @@ fn response_read(
             Ok(failed_connect(own, lost_connect(alloc, t)?))
         }
         ResponseWalk::Response(response, offset) => {
+            // 1xx too: a handshake reads one response, and only 2xx establishes a session (RFC 9220, section
+            // 3).
             if !response.code().is_successful() {
                 return abandoned(alloc, t, own, ConnectingError::SessionRejected);
             }

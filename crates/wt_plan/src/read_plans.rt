@@ -29,7 +29,7 @@ fn front(alloc: Global, t: &Transport, id: StreamId, count: usize) -> Result<Pie
     Ok(Piece::from_vec(bytes))
 }
 
-/// The record of a read of so many bytes.
+/// The record of a read of n bytes.
 fn read_record(id: StreamId, count: usize) -> Record
     ensures { record_of result ≡ read_record id count }
 {
@@ -58,7 +58,7 @@ fn read_reply(
     }
 }
 
-/// At most so many of the unread bytes.
+/// At most n of the unread bytes.
 #[tactic(auto, using(crate::proofs::Reading::read_within))]
 pub fn read(alloc: Global, t: &Transport, id: StreamId, size: u64) -> Result<Plan, OutOfMemory>
     ensures { (d : DriverAnswers) → IfOk result (λ p. defined_plan p ≡ read_plan (facts_now t.now d) id size) }
@@ -95,7 +95,7 @@ fn too_few_bytes(alloc: Global, t: &Transport, id: StreamId) -> Result<Plan, Out
     ))
 }
 
-/// Exactly so many of the unread bytes.
+/// Exactly n of the unread bytes.
 pub fn read_exact(
     alloc: Global,
     t: &Transport,

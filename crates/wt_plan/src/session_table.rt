@@ -15,6 +15,15 @@ use wt_wire::text::Text;
 use wt_wire::varint::VarInt;
 
 /// How far the handshake is.
+///
+/// ```text
+/// a server  AwaitingRequest --a request is delivered--> Requested --accept, a rejection--> Responding --all of it is out--> Established
+///           AwaitingRequest --the end--> Over. Requested, Responding --rejected, the end, a stop--> Over
+/// a client  AwaitingRequest --connect--> Connecting --a response of 2xx--> Established
+///           AwaitingRequest, Connecting --a failure--> Over
+/// ```
+///
+/// A response that goes out whole at once skips Responding.
 #[derive(Debug, Drop)]
 pub enum Handshake {
     /// No request was delivered.
@@ -32,6 +41,12 @@ pub enum Handshake {
 }
 
 /// Whether the application was given a stream.
+///
+/// ```text
+/// NotGiven --an opening begins--> Opening --its header is out--> WasGiven
+///                                 Opening --it fails--> Unopened
+/// NotGiven --an accept--> WasGiven
+/// ```
 #[derive(Clone, Copy, PartialEq, Eq, Debug)]
 pub enum Giving {
     /// It wasn't.

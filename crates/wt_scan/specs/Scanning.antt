@@ -51,7 +51,7 @@ dequeue_stage false half rule k known stage = stage
 dequeue_stage true half rule k known stage =
     look_stage (is_final (rule.verdict k)) half (rule.consequence known.dispatched k (rule.verdict k)).surplus (rule.verdict k)
 
--- a visit of a slot after so many others
+-- a visit of a slot after n others
 abbrev pub visit_stage : Bool → Half → SlotRule → SlotPhase → ℕ → ℕ → Known → Stage → Stage
 visit_stage ready half rule Held k n known stage = stage
 visit_stage ready half rule Dequeued k n known stage = dequeue_stage true half rule k known stage

@@ -72,7 +72,7 @@ module _ (side : Side) (count : ℕ → ℕ) (initial id : ℕ) (s : Stream) (x 
 
 -- ---- all streams
 
--- a stream that is one of so many is so where there are more
+-- a stream that is one of n is so where there are more
 more-streams : (side : Side) (count more : ℕ → ℕ) (initial k : ℕ) (s : Stream) → ((kind : ℕ) → count kind ≤ more kind) → IsStream side count initial k s → IsStream side more initial k s
 more-streams side count more initial k s l i =
     let here : count (k % 4) ≤ more (k % 4) = l (k % 4) in

@@ -72,7 +72,7 @@ state_of side log position pieces uncollected = record {
 
 -- ---- what holds of every log whose turns fit
 
--- the stream with this id, where there are so many of each kind
+-- the stream with this id, where there are n of each kind
 pub record IsStream (side : Side) (count : ℕ → ℕ) (initial : ℕ) (k : ℕ) (s : Stream) : Type 0 where
   pub unopened : nat_lt (k / 4) (count (k % 4)) ≡ false → s ≡ fresh initial
   pub sent : s.sent ≤ s.credit  -- no more went out than there is credit for

@@ -215,7 +215,7 @@ pieces_now t id = if stream.has_stream t.streams id then (stream.stream_at t.str
 abbrev pub unread_now : TransportState → ℕ → List ℕ
 unread_now t id = concat (pieces_now t id)
 
--- after so many bytes of a stream were read
+-- after n bytes of a stream were read
 abbrev pub after_consume : TransportState → ℕ → ℕ → TransportState
 after_consume t id count = if stream.has_stream t.streams id then with_change t id (stream.consume count) else t
 

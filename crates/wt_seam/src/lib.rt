@@ -1,6 +1,6 @@
 //! The QUIC transport as the session layer sees it (RFC 9000).
 //!
-//! A [`Transport`] takes what the transport tells of one connection, turn after turn, keeps the bytes
+//! A [`Transport`] takes what the transport reports of one connection, turn after turn, keeps the bytes
 //! that came in the pieces in which they came, and collects what is to go out. The definitions beside
 //! it say the same of the whole log of a connection.
 #![tactic(auto)]

@@ -5,7 +5,7 @@ use Rattle.wt_seam_spec.specs.Streams.{contents}
 
 -- how far the reader of a stream is
 pub data ReadPosition : Type 0 where
-  AtOffset : (offset : ℕ) → ReadPosition  -- so many bytes were consumed
+  AtOffset : (offset : ℕ) → ReadPosition  -- n bytes were consumed
   GivenUp : ReadPosition  -- nothing is read any more, now and later
 
 -- the reader gave the stream up
@@ -26,12 +26,12 @@ unread log position k = from_position (position k) (contents log k)
 abbrev pub at_start : ℕ → ReadPosition
 at_start k = AtOffset 0
 
--- the position once so many bytes more were consumed
+-- the position once n bytes more were consumed
 abbrev pub advance : ℕ → ReadPosition → ReadPosition
 advance count (AtOffset offset) = AtOffset (offset + count)
 advance count GivenUp = GivenUp
 
--- the positions once so many bytes of stream `id` were consumed
+-- the positions once n bytes of stream `id` were consumed
 abbrev pub position_after : (ℕ → ReadPosition) → ℕ → ℕ → ℕ → ReadPosition
 position_after position id count k = if id == k then advance count (position k) else position k
 

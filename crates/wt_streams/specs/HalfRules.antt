@@ -106,18 +106,18 @@ nothing_unread open_ ends.Running = if open_ then Pending else Ready (Err read_e
 abbrev pub read_count : ReceivingHalf → ℕ → ℕ
 read_count half size = min size half.unread
 
--- what a read of so many bytes answers
+-- what a read of n bytes answers
 abbrev pub read_answer : Bool → ReceivingHalf → ℕ → Poll (Result (Option ℕ) StreamReadError)
 read_answer open_ half size =
     if size == 0 then Ready (Ok (Some 0)) else (if half.unread == 0 then nothing_unread open_ half.end else Ready (Ok (Some (read_count half size))))
 
--- what a read of exactly so many bytes answers where only these many are unread
+-- what a read of exactly n bytes answers where only these many are unread
 abbrev pub too_few : Bool → StreamEnd → ℕ → Poll (Result (Unit {0}) StreamReadExactError)
 too_few open_ ends.Fin count = Ready (Err (exact_errors.FinishedEarly count))
 too_few open_ (ends.Reset code) count = Ready (Err (exact_errors.Read (read_errors.Reset code)))
 too_few open_ ends.Running count = if open_ then Pending else Ready (Err (exact_errors.Read read_errors.NotConnected))
 
--- what a read of exactly so many bytes answers
+-- what a read of exactly n bytes answers
 abbrev pub read_exact_answer : Bool → ReceivingHalf → ℕ → Poll (Result (Unit {0}) StreamReadExactError)
 read_exact_answer open_ half size = if nat_lt half.unread size then too_few open_ half.end half.unread else Ready (Ok tt)
 
@@ -127,6 +127,6 @@ count_of_few ends.Fin count = count
 count_of_few (ends.Reset code) count = 0
 count_of_few ends.Running count = 0
 
--- how many bytes a read of exactly so many takes
+-- how many bytes a read of exactly n takes
 abbrev pub read_exact_count : ReceivingHalf → ℕ → ℕ
 read_exact_count half size = if nat_lt half.unread size then count_of_few half.end half.unread else size

@@ -16,7 +16,7 @@ abbrev pub first_piece : List (List ℕ) → List ℕ
 first_piece [] = []
 first_piece (p ∷ later) = p
 
--- so many bytes are left out in front, and each piece that has none left
+-- n bytes are left out in front, and each piece that has none left
 abbrev pub skip : ℕ → List (List ℕ) → List (List ℕ)
 skip count [] = []
 skip count (p ∷ later) = if nat_lt count (length p) then drop count p ∷ later else skip (count - length p) later

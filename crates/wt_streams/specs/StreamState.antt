@@ -54,7 +54,7 @@ receive_unless false bytes s = record s { unread = with_piece s.unread bytes }
 abbrev pub with_bytes : List ℕ → Stream → Stream
 with_bytes bytes s = receive_unless s.given_up bytes s
 
--- so many bytes of the stream were read
+-- n bytes of the stream were read
 abbrev pub consume : ℕ → Stream → Stream
 consume count s = record s { unread = skip count s.unread }
 
@@ -62,11 +62,11 @@ consume count s = record s { unread = skip count s.unread }
 abbrev pub give_up : Stream → Stream
 give_up s = record s { unread = []; given_up = true }
 
--- so many bytes may go out on the stream in all
+-- n bytes may go out on the stream in all
 abbrev pub with_credit : ℕ → Stream → Stream
 with_credit total s = record s { credit = total }
 
--- so many bytes more went out on the stream
+-- n bytes more went out on the stream
 abbrev pub with_sent : ℕ → Stream → Stream
 with_sent count s = record s { sent = s.sent + count }
 
@@ -135,10 +135,10 @@ sending_half_of s = record {
   priority = s.priority;
 }
 
--- so many streams of each kind, made by a function
+-- n streams of each kind, made by a function
 abbrev pub row : (ℕ → Stream) → (ℕ → ℕ) → ℕ → List Stream
 row f count kind = map (λ i. f (4 * i + kind)) (range_with_len 0 (count kind))
 
--- the streams of each kind, so many of each, made by a function
+-- the streams of each kind, n of each, made by a function
 abbrev pub rows : (ℕ → Stream) → (ℕ → ℕ) → List (List Stream)
 rows f count = map (row f count) (range_with_len 0 4)

@@ -147,7 +147,7 @@ pub fn priority_answer(stream: &Stream) -> Result<i32, ClosedStream>
     Ok(stream.priority)
 }
 
-/// What a read of so many bytes answers.
+/// What a read of n bytes answers.
 pub fn read_answer(
     is_open: bool,
     unread: usize,
@@ -167,7 +167,7 @@ pub fn read_answer(
     Poll::Ready(Ok(Some(size.min(unread))))
 }
 
-/// What a read of exactly so many bytes answers.
+/// What a read of exactly n bytes answers.
 pub fn read_exact_answer(
     is_open: bool,
     unread: usize,
@@ -182,7 +182,7 @@ pub fn read_exact_answer(
     Poll::Ready(Ok(()))
 }
 
-/// How many bytes a read of exactly so many takes.
+/// How many bytes a read of exactly n takes.
 pub fn read_exact_count(unread: usize, end: &StreamEnd, size: usize) -> usize
     ensures count { result ≡ read_exact_count (record { unread = unread; end = end.now }) size }
     ensures size { result ≤ size }

@@ -38,7 +38,7 @@ impl Signals {
 pub struct Stream {
     /// The bytes that came and weren't read.
     pub unread: Unread,
-    /// Nothing more is read: what comes is let go.
+    /// Nothing more is read: what comes is dropped.
     pub given_up: bool,
     /// What was reported while the connection was open.
     pub signals: Signals,

@@ -94,7 +94,7 @@ impl Unread {
         copy_pieces(&self.pieces, buffer)
     }
 
-    /// Leaves out bytes in front. A piece of which none is left is let go.
+    /// Leaves out bytes in front. A piece of which none is left is dropped.
     #[tactic(auto, using(crate::proofs::PieceLaws::length_skip))]
     pub fn consume(&mut self, count: usize)
         requires { count ≤ length (concat self.old) }

@@ -76,7 +76,7 @@ impl Driver {
         self.dispatched.release(id);
     }
 
-    /// Nothing of a stream is read any more, where it can receive: its bytes are let go.
+    /// Nothing of a stream is read any more, where it can receive: its bytes are dropped.
     pub(super) fn give_up(&mut self, id: StreamId)
         ensures log { (side : Side) (log : Log) (stage : ℕ → Stage) (uncollected : List Action) → Refines side self.old.inbox log stage uncollected
             → Refines side self.new.inbox log (with_stage stage id (unless_given_up (can_receive side log id) (stage id))) uncollected }
@@ -90,7 +90,7 @@ impl Driver {
         }
     }
 
-    /// An accept passed the stream: its bytes are let go.
+    /// An accept passed the stream: its bytes are dropped.
     pub(super) fn pass(&mut self, id: StreamId)
         ensures log { (side : Side) (log : Log) (stage : ℕ → Stage) (uncollected : List Action) → Refines side self.old.inbox log stage uncollected
             → Refines side self.new.inbox log (with_stage stage id (unless_given_up (can_receive side log id) (stage id))) uncollected }
@@ -136,7 +136,7 @@ impl Driver {
     }
 
     /// The session's next stream of the kind with these low two bits: streams of other sessions in
-    /// front of it are passed, and after each it looks again, at most so many times.
+    /// front of it are passed, and after each it looks again, at most n times.
     fn accept(
         &mut self,
         kind: u64,

@@ -134,7 +134,7 @@ impl Driver {
         self.inbox.take(turn)
     }
 
-    /// Takes in what the transport tells, but for bytes.
+    /// Takes in what the transport reports, but for bytes.
     fn note_turn(&mut self, turn: &Turn) -> Result<(), OutOfMemory>
         requires { IsTrue (fits_now self.old.inbox.transport turn.now) }
         ensures log { (side : Side) (log : Log) (collected : ℕ) (e : Event) → Follows side self.old log collected → event_of turn.now ≡ Some e

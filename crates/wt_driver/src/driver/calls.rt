@@ -318,7 +318,7 @@ impl Driver {
         self.inbox.response(id)
     }
 
-    /// The response on a client's request stream, as far as it came. Nothing of it is let go.
+    /// The response on a client's request stream, as far as it came. Nothing of it is dropped.
     pub fn response(&mut self, id: StreamId) -> Result<ResponseWalk, OutOfMemory>
         ensures log { OfEachLog self.old (λ side log collected. AwaitsResponse side log id → OnOk result (Follows side self.new log collected)) }
         ensures answer { Tells self.old (λ side log. AwaitsResponse side log id

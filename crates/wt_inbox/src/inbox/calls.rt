@@ -160,7 +160,7 @@ impl Inbox {
         self.transport.take_actions()
     }
 
-    /// Gives a receiving half up: its bytes are let go, and so are those that come later.
+    /// Gives a receiving half up: its bytes are dropped, and so are those that come later.
     pub fn give_up(&mut self, id: StreamId)
         requires { IsTrue (can_receive_now self.old.transport id) }
         ensures now { self.new ≡ with_transport self.old (after_give_up self.old.transport id) }
@@ -171,7 +171,7 @@ impl Inbox {
         self.transport.give_up(id);
     }
 
-    /// Reads so many bytes of a stream.
+    /// Reads n bytes of a stream.
     pub fn consume(&mut self, id: StreamId, count: usize)
         requires { count ≤ length (unread_now self.old.transport id) }
         ensures now { self.new ≡ with_transport self.old (after_consume self.old.transport id count) }

@@ -1,4 +1,4 @@
-//! What the transport tells.
+//! What the transport reports.
 ghost use Rattle.std.specs.Prelude.{◌≡◌, ◌&&◌, ◌<◌, ℕ, List, Some, is_some, length, drop, nat_lt, not, option_copied, true};
 ghost use Rattle.wt_turn.specs.Log.{actions_of, events_of, is_open};
 ghost use Rattle.wt_wire.specs.declared.side.Side.{Side};
@@ -214,7 +214,7 @@ impl Inbox {
     }
 }
 
-/// The same, by what the transport tells.
+/// The same, by what the transport reports.
 #[tactic(auto, using(crate::proofs::Passing::head_length))]
 fn is_ready_by(connected: bool, may_open: bool, credit: u64) -> bool
     ensures { result ≡ (connected && may_open && not (nat_lt credit (length local_control_bytes))) }

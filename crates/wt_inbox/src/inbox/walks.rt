@@ -53,7 +53,7 @@ impl Inbox {
         Ok(self.is_uni_final(id))
     }
 
-    /// The verdict of a peer's unidirectional stream. Its reader is let go; what comes after the header
+    /// The verdict of a peer's unidirectional stream. Its reader is dropped; what comes after the header
     /// stays unread.
     pub fn release_uni(&mut self, id: StreamId) -> Result<Verdict, OutOfMemory>
         ensures now { IfOk result (λ outcome. outcome ≡ uni_verdict_now self.old id) }
@@ -90,7 +90,7 @@ impl Inbox {
         Ok(self.is_bi_final(id))
     }
 
-    /// The verdict of a peer's bidirectional stream. Its reader is let go; what comes after the header
+    /// The verdict of a peer's bidirectional stream. Its reader is dropped; what comes after the header
     /// stays unread.
     pub fn release_bi(&mut self, id: StreamId) -> Result<Verdict, OutOfMemory>
         ensures now { IfOk result (λ outcome. outcome ≡ bi_verdict_now self.old id) }
@@ -129,7 +129,7 @@ impl Inbox {
     }
 
     /// Reads a client's session stream on up to the response, and tells what came of it. Nothing of it is
-    /// let go.
+    /// dropped.
     pub fn response(&mut self, id: StreamId) -> Result<ResponseWalk, OutOfMemory>
         ensures now { IfOk result (λ outcome. outcome ≡ response_now self.old id) }
         ensures same { OnOk result ((k : ℕ) → response_now self.new k ≡ response_now self.old k) }
@@ -148,7 +148,7 @@ impl Inbox {
         self.response_outcome(id)
     }
 
-    /// The response on a client's session stream. Its reader is let go; what comes after the response
+    /// The response on a client's session stream. Its reader is dropped; what comes after the response
     /// stays unread.
     pub fn release_response(&mut self, id: StreamId) -> Result<ResponseWalk, OutOfMemory>
         ensures now { IfOk result (λ outcome. outcome ≡ response_now self.old id) }
@@ -209,7 +209,7 @@ impl Inbox {
         Ok(self.is_session_final(id))
     }
 
-    /// How the peer ended the session, and whether its bytes alone did. The reader is let go.
+    /// How the peer ended the session, and whether its bytes alone did. The reader is dropped.
     pub fn release_session(&mut self, id: StreamId) -> Result<(SessionWalk, bool), OutOfMemory>
         ensures now { IfOk result (λ end. (end.0 ≡ session_now self.old id) × (end.1 ≡ is_over_by_bytes self.old id)) }
         ensures others { OnOk result ((k : ℕ) → (id == k) ≡ false → SameAt self.old self.new k) }

@@ -164,7 +164,7 @@ impl Transport {
         self.unread_now(id) as usize
     }
 
-    /// Reads so many bytes into the buffer's front.
+    /// Reads n bytes into the buffer's front.
     fn read_unread(&mut self, id: StreamId, buffer: &mut [u8], count: usize)
         requires unread { count ≤ length (unread_now self.old id) }
         requires fits { count ≤ length buffer.old }

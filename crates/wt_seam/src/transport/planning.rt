@@ -127,7 +127,7 @@ impl Transport {
 
     // ---- receiving
 
-    /// What a read of so many bytes would answer.
+    /// What a read of n bytes would answer.
     pub fn read_answer(
         &self,
         id: StreamId,
@@ -138,7 +138,7 @@ impl Transport {
         half_answers::read_answer(self.is_open, self.unread_count(id), &self.end_now(id), size)
     }
 
-    /// What a read of exactly so many bytes would answer.
+    /// What a read of exactly n bytes would answer.
     pub fn read_exact_answer(
         &self,
         id: StreamId,

@@ -78,7 +78,7 @@ impl Transport {
         count
     }
 
-    /// Reads so many bytes of a stream.
+    /// Reads n bytes of a stream.
     #[tactic(auto, using(crate::proofs::Refining::consume_refines))]
     pub fn consume(&mut self, id: StreamId, count: usize)
         requires { count ≤ length (unread_now self.old id) }
@@ -98,7 +98,7 @@ impl Transport {
         }
     }
 
-    /// Gives a receiving half up: its bytes are let go, and so are those that come later.
+    /// Gives a receiving half up: its bytes are dropped, and so are those that come later.
     #[tactic(auto, using(crate::proofs::Refining::give_up_refines))]
     pub fn give_up(&mut self, id: StreamId)
         requires { IsTrue (can_receive_now self.old id) }
