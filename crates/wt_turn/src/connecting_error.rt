@@ -108,3 +108,14 @@ impl ConnectingError {
         }
     }
 }
+
+/// The connection ended before the session stood.
+impl From<ConnectionError> for ConnectingError {
+    ghost use Rattle.wt_turn.specs.declared.connecting_error.ConnectingError.TheVariants as connects;
+
+    ghost from_gives = { λ ended error. error ≡ connects.ConnectionError ended };
+
+    fn from(ended: ConnectionError) -> ConnectingError {
+        ConnectingError::ConnectionError(ended)
+    }
+}

@@ -2,16 +2,20 @@
 ghost use Rattle.std.specs.Prelude.{◌≡◌, ◌↔◌, IfOk, IsTrue};
 
 use crate::close::ApplicationClose;
+use thiserror::Error;
 use wt_wire::error::{ErrorCode, OutOfMemory};
 
 /// How the connection of a driver ended.
-#[derive(PartialEq, Eq, Debug, Drop)]
+#[derive(PartialEq, Eq, Debug, Drop, Error)]
 pub enum DriverError {
     /// The driver closed it, since the peer broke a rule.
+    #[error("connection locally aborted: {0}")]
     Proto(ErrorCode),
     /// The peer ended the session.
+    #[error("session closed by peer: {0}")]
     ApplicationClosed(ApplicationClose),
     /// It was lost, or closed by the application, the endpoint or the handshake.
+    #[error("not connected")]
     NotConnected,
 }
 

@@ -18,6 +18,7 @@ pub mod connecting_error;
 pub mod connection_error;
 pub mod datagram_fact;
 pub mod driver_error;
+pub mod equality;
 pub mod loss;
 pub mod piece;
 pub mod poll;

@@ -79,7 +79,8 @@ pub enum StreamOpeningError {
 pub struct ClosedStream;
 
 /// The receiving half was stopped before.
-#[derive(Clone, Copy, Debug)]
+#[derive(Clone, Copy, Debug, Error)]
+#[error("stream already stopped")]
 pub struct AlreadyStop;
 
 /// How far a write of all bytes came.
