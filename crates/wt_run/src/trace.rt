@@ -1,5 +1,5 @@
 //! A whole list of turns.
-ghost use Rattle.std.specs.Prelude.{◌≡◌, [], IfErr, List, length, take};
+ghost use Rattle.std.specs.Prelude.{◌≡◌, [], IfErr, IfOk, List, length, take};
 ghost use Rattle.wt_core.specs.CoreState.{Refines};
 ghost use Rattle.wt_driver_spec.specs.Dequeued.{StreamsDequeued};
 ghost use Rattle.wt_laws.specs.Datagrams.{DatagramReported};
@@ -116,12 +116,19 @@ fn run_turns(alloc: Global, side: Side, turns: &[Turn]) -> Result<Answers, Trace
     run_on(alloc, &mut core, turns)
 }
 
+/// No answer yet, and room for this many.
+fn no_answers(alloc: Global, count: usize) -> Result<Answers, OutOfMemory>
+    ensures { IfOk result (λ answers. answers ≡ []) }
+{
+    Ok(Answers::from_vec(Vec::with_capacity(alloc, count)?))
+}
+
 /// The answers of a core that took no turn yet.
 fn run_on(alloc: Global, core: &mut Core, turns: &[Turn]) -> Result<Answers, TraceError>
     requires { Refines core.old [] }
     ensures trace { IsTrace core.old.side turns.now result }
 {
-    let mut answers = Answers::new(alloc);
+    let mut answers = no_answers(alloc, turns.len())?;
     for (index, turn) in turns.iter().enumerate() {
         let at = index as u64;
         if !core.is_lawful(turn) {
