@@ -33,7 +33,6 @@ pub fn script_for(
 }
 
 /// A server's script: these turns, and then those of the lines of the input.
-#[tactic(auto, using(crate::proofs::CommandLaws::first_come_first))]
 fn turns_after(
     alloc: Global,
     first: Turns,

@@ -41,21 +41,22 @@ pub fn generate(alloc: Global, streams: u32) -> Result<Turns, OutOfMemory>
     requires { streams ≤ MOST_STREAMS }
     ensures { IfOk result (λ turns. turns ≡ generated_turns streams) }
 {
-    let mut turns = session(alloc)?;
+    let mut turns = session(alloc, 7 + 6 * streams as usize)?;
     for number in 0..streams {
         push_stream(alloc, &mut turns, number)?;
     }
     Ok(turns)
 }
 
-/// The connection is established, the peer's settings come, and a session is asked for and accepted.
-fn session(alloc: Global) -> Result<Turns, OutOfMemory>
+/// The connection is established, the peer's settings come, and a session is asked for and accepted;
+/// with room for this many turns in all.
+fn session(alloc: Global, room: usize) -> Result<Turns, OutOfMemory>
     ensures { IfOk result (λ turns. turns ≡ session_turns) }
 {
     let control = Piece::from_slice(alloc, &[0x00, 0x04, 0x00])?;
     let request = request(alloc)?;
     let headers = HeaderList::new(alloc);
-    let mut turns = Turns::new(alloc);
+    let mut turns = Turns::from_vec(Vec::with_capacity(alloc, room)?);
     turns.push(Turn::Connected {
         uni: 9,
         bi: 9,
@@ -121,8 +122,10 @@ fn stream_piece(alloc: Global, number: u32) -> Result<Piece, OutOfMemory>
     requires { number < MOST_STREAMS }
     ensures { IfOk result (λ piece. piece ≡ stream_bytes number) }
 {
-    let mut bytes = Vec::from_array(alloc, [0x40, 0x54, 0x00])?;
-    for index in 0..number % 100 + 1 {
+    let count = number % 100 + 1;
+    let mut bytes = Vec::with_capacity(alloc, count as usize + 3)?;
+    bytes.extend_from_slice(&[0x40, 0x54, 0x00])?;
+    for index in 0..count {
         bytes.push(((number + index) % 256) as u8)?;
     }
     Ok(Piece::from_vec(bytes))
