@@ -7,7 +7,7 @@ use Rattle.wt_driver_state.specs.PeerSettings.{KeepsSettings, settings_read}
 use Rattle.wt_driver_state.specs.Stages.{StageSays, StagesFit, call_use}
 use Rattle.wt_driver_state.specs.Tie.{EntryNoted, Follows}
 use Rattle.wt_driver_spec.proofs.RestMoments.{open-says, quiet-call, quiet-call-rests, quiet-call-state}
-use Rattle.wt_driver_spec.proofs.ScanSlots.{slots-same}
+use Rattle.wt_driver_spec.proofs.ScanRests.{plain-scan}
 use Rattle.wt_driver_spec.specs.DriverState.{Arrived, Dequeued, DriverState, Held, slot_by, slots, state_of}
 use Rattle.wt_driver_spec.specs.Rest.{AtRest, Rests, begin_if}
 use Rattle.wt_driver_spec.specs.Step.{after_call, begin_scan}
@@ -18,44 +18,6 @@ use Rattle.wt_spec.specs.Scan.{Scan, SlotRule, bi_ids, bi_rule, dequeue, has, is
 use Rattle.wt_spec.specs.StreamTable.{CallView, Classified, Ending, DriverProgress, StreamTable, TransportView, control_start, first_at, verdict_of}
 use Rattle.wt_turn.specs.Log.{BytesRead, CallRecord, Called, ConnectStarted, HandshakeOver, Log, OpeningFailed, OpeningStarted, Polled, PrioritySet, ResponseStarted, is_open}
 use Rattle.wt_wire.specs.declared.side.Side.{Side}
-
--- ---- a scan that finds nothing to do
-
-module _ (ready : Bool) (d : CallView) (rule : SlotRule) where
-  -- after the first stream
-  module _ (k : ℕ) (ks : List ℕ) (p : Scan)
-      (again : (n : ℕ) → Rests ready rule n (slots d p.table ks) → (scan ready d rule ks (record p { occupied = n })).table ≡ p.table) where
-    held : (b : Bool) → Rests ready rule p.occupied ((if b then [] else record { id = k; phase = Held } ∷ []) ++ slots d p.table ks)
-        → (scan ready d rule ks (record p { occupied = occupied b p.occupied })).table ≡ p.table
-    held true r = again p.occupied r
-    held false r = again (suc p.occupied) r.1
-
-    free : (b : Bool) → has k p.table.dequeued ≡ b → Rests ready rule p.occupied (record { id = k; phase = if b then Dequeued else Arrived } ∷ slots d p.table ks)
-        → (scan ready d rule ks (dequeue (b || (ready && nat_lt p.occupied rule.slots)) d rule k p)).table ≡ p.table
-    free true e r = rw (r.0, e) (again (suc p.occupied) r.1)
-    free false e r = rw r.0 (again (suc p.occupied) r.1)
-
-    visited : (o : Option Verdict) → Rests ready rule p.occupied (slot_by k (d.released k) (has k p.table.dequeued) o ++ slots d p.table ks)
-        → (scan ready d rule ks (visit ready d rule k o p)).table ≡ p.table
-    visited (Some v) r = held (is_released (d.released k) v) r
-    visited None r = free (has k p.table.dequeued) refl r
-
-  -- it leaves the table
-  scan-leaves : (ks : List ℕ) (p : Scan) → Rests ready rule p.occupied (slots d p.table ks) → (scan ready d rule ks p).table ≡ p.table
-  scan-leaves [] p r = refl
-  scan-leaves (k ∷ ks) p r = by p.table.progress.ending (visited k ks p (λ n s. scan-leaves ks (record p { occupied = n }) s) (verdict_of k p.table.classified) r)
-    where
-      by : (o : Option Ending) → (scan ready d rule ks (visit ready d rule k (verdict_of k p.table.classified) p)).table ≡ p.table
-          → (unless_ended o (λ u. scan ready d rule ks (visit ready d rule k (verdict_of k u.table.classified) u)) p).table ≡ p.table
-      by None e = e
-      by (Some x) e = refl
-
--- so does that of a table with other progress
-plain-scan : (ready : Bool) (d : CallView) (rule : SlotRule) (ks : List ℕ) (s u : StreamTable) → u.dequeued ≡ s.dequeued → u.classified ≡ s.classified → Rests ready rule 0 (slots d s ks)
-    → (scan ready d rule ks (record { occupied = 0; table = u })).table ≡ u
-plain-scan ready d rule ks s u dequeued classified r =
-    scan-leaves ready d rule ks (record { occupied = 0; table = u })
-    (subst (Rests ready rule 0) (sym (slots-same d s u ks (λ j e. record { dequeued = ap (has j) dequeued; classified = ap (verdict_of j) classified }))) r)
 
 -- ---- the record of a call
 
