@@ -1,6 +1,6 @@
 -- A call of which no work comes leaves what a driver at rest keeps, but for the stops of the moment before.
-use Rattle.std.proofs.Common.{◌≡◌, ℕ, suc, Bool, true, false, List, [], ◌∷◌, ◌++◌, refl, sym, ap, subst, ◌∙◌}
-use Rattle.std.specs.Prelude.{◌&&◌, ◌||◌, Option, Some, None, if◌then◌else◌, nat_lt}
+use Rattle.std.proofs.Common.{◌≡◌, ℕ, Bool, true, List, ◌∷◌, refl, sym, ap, subst, ◌∙◌}
+use Rattle.std.specs.Prelude.{Option}
 use Rattle.wt_driver_state.specs.Calling.{leaves_at_rest}
 use Rattle.wt_driver_state.specs.DriverValue.{DriverValue, with_state}
 use Rattle.wt_driver_state.specs.PeerSettings.{KeepsSettings, settings_read}
@@ -8,14 +8,13 @@ use Rattle.wt_driver_state.specs.Stages.{StageSays, StagesFit, call_use}
 use Rattle.wt_driver_state.specs.Tie.{EntryNoted, Follows}
 use Rattle.wt_driver_spec.proofs.RestMoments.{open-says, quiet-call, quiet-call-rests, quiet-call-state}
 use Rattle.wt_driver_spec.proofs.ScanRests.{plain-scan}
-use Rattle.wt_driver_spec.specs.DriverState.{Arrived, Dequeued, DriverState, Held, slot_by, slots, state_of}
+use Rattle.wt_driver_spec.specs.DriverState.{DriverState, slots, state_of}
 use Rattle.wt_driver_spec.specs.Rest.{AtRest, Rests, begin_if}
 use Rattle.wt_driver_spec.specs.Step.{after_call, begin_scan}
 use Rattle.wt_driver_spec.specs.Uses.{classified_of, role_of}
-use Rattle.wt_proto.specs.declared.verdict.Verdict.{Verdict}
 use Rattle.wt_spec.specs.Driver.{apply_if, call_view, log_and_flush, stream_table, transport_view}
-use Rattle.wt_spec.specs.Scan.{Scan, SlotRule, bi_ids, bi_rule, dequeue, has, is_released, occupied, scan, scan_bis, scan_order, scan_unis, uni_ids, uni_rule, unless_ended, visit, without_stops}
-use Rattle.wt_spec.specs.StreamTable.{CallView, Classified, Ending, DriverProgress, StreamTable, TransportView, control_start, first_at, verdict_of}
+use Rattle.wt_spec.specs.Scan.{bi_ids, bi_rule, scan_bis, scan_order, scan_unis, uni_ids, uni_rule, without_stops}
+use Rattle.wt_spec.specs.StreamTable.{CallView, Classified, Ending, DriverProgress, StreamTable, TransportView, control_start, first_at}
 use Rattle.wt_turn.specs.Log.{BytesRead, CallRecord, Called, ConnectStarted, HandshakeOver, Log, OpeningFailed, OpeningStarted, Polled, PrioritySet, ResponseStarted, is_open}
 use Rattle.wt_wire.specs.declared.side.Side.{Side}
 

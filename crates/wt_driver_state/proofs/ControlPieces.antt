@@ -251,7 +251,7 @@ module _ (side : Side) (log : Log) (collected : ℕ) (d : DriverValue) (f : Foll
             (subst (λ (i : ℕ). inboxes.Refines side noted.inbox (log_bytes log id (take i bytes)) stage (uncollected_since collected log)) last_is r))
             begun-is.0 (begun-is.2 ∙ q)
             (subst (KeepsSettings side (log_bytes log id (take j bytes))) (sym (begun-is.3 ∙ (k ∙ ap (λ (x : Option Settings). option_or x d.settings) same-settings))) (keeps-then j (omega arith) run-before))
-            work)
+            (λ l m in_ leaves. work l m in_))
 
 -- the walk as the code asks for it
 pub walk-is : (log : Log) (id offset : ℕ) (bytes : List ℕ) → control_walk_of (drop offset (contents (log_bytes log id bytes) id)) (end_of (events_of (log_bytes log id bytes)) id) ≡ control_walk_of (drop offset (contents log id ++ bytes)) (end_of (events_of log) id)

@@ -25,6 +25,7 @@ use Rattle.wt_driver_state.proofs.Turning.{fits-on}
 use Rattle.wt_driver_state.specs.DriverValue.{DriverValue, with_state}
 use Rattle.wt_driver_state.specs.PeerSettings.{KeepsSettings, settings_read}
 use Rattle.wt_driver_state.specs.Reads.{PieceSoFar, ReadBy, is_reading, is_stream, reads_header}
+use Rattle.wt_driver_state.specs.Walks.{LeavesWalks, SameStream, is_walked}
 use Rattle.wt_driver_state.specs.Stages.{StageFits, StageSays, StagesFit, TableFits, call_use, peer_role}
 use Rattle.wt_driver_state.specs.Tie.{EntryNoted, Follows, uncollected_since, unreleased_datagrams}
 use Rattle.wt_inbox.specs.Stage as inboxes
@@ -124,6 +125,10 @@ module _ (side : Side) (log : Log) (collected id : ℕ) (bytes : List ℕ) where
 
     pub piece-end : length bytes ≤ offset → Follows side d (receive side log id bytes) collected
     piece-end le = subst (λ (l : Log). Follows side d l collected) (sym (ap (receive side s.log_now id) (drop_all offset bytes le)) ∙ s.left) s.follows
+
+pub or-parts : (a b : Bool) → (a || b) ≡ false → (a ≡ false) × (b ≡ false)
+or-parts true b e = absurd cc
+or-parts false b e = (refl, e)
 
 -- ---- what says nothing
 
@@ -394,6 +399,24 @@ module _ (side : Side) (log : Log) (collected : ℕ) (d : DriverValue) (f : Foll
         sends = λ e. (let g = bytes-send side id bytes log (f.sends o) in record { unfinished = g.unfinished; unreset = g.unreset; session = g.session });
       }
 
+-- ---- a byte of a stream that no walk goes over
+
+byte-elsewhere : (side : Side) (log : Log) (id b : ℕ) (x : Option (ℕ × ℕ)) → is_stream id x ≡ false → SameStream (transport_view side log) (transport_view side (Received id b ∷ log)) x
+byte-elsewhere side log id b None e = tt
+byte-elsewhere side log id b (Some s) e = (ap (λ (c : Bool). if c then contents log s.0 ++ b ∷ [] else contents log s.0) e, refl)
+
+byte-leaves : (side : Side) (log : Log) (id b : ℕ) → is_walked id (state_of side log) ≡ false → LeavesWalks side log (Received id b)
+byte-leaves side log id b e =
+    let parts = or-parts (is_stream id (state_of side log).session) (is_stream id (state_of side log).dispatched.control) e in
+    record { session = byte-elsewhere side log id b (state_of side log).session parts.0; control = byte-elsewhere side log id b (state_of side log).dispatched.control parts.1; no_session = refl }
+
+pub unwalked : (id : ℕ) (s : DriverState) (uni bi : Bool) → ReadBy id s uni bi false false → is_walked id s ≡ false
+unwalked id s uni bi r = λ i. r.session_is i || r.walk i
+
+run-walked : (id : ℕ) (bytes : List ℕ) (came : ℕ → Bool) (s : DriverState) → is_walked id (run_state bytes came s) ≡ is_walked id s
+run-walked id [] came s = refl
+run-walked id (b ∷ bytes) came s = refl
+
 -- ---- what the driver's steps lead to
 
 begun-state : (bytes : List ℕ) (s : DriverState) → 0 < length bytes → run_state bytes (λ m. s.progress.settings) s ≡ begin_scan s
@@ -471,13 +494,14 @@ module _ (side : Side) (log : Log) (collected : ℕ) (d : DriverValue) (f : Foll
 
     pub last-follows : (begun last : DriverValue) → inboxes.Refines side begun.inbox (log_bytes log id (take (suc j) bytes)) stage (uncollected_since collected log)
         → begun.state ≡ run_state (take j bytes) came s → begun.queue ≡ d.queue → KeepsSettings side (log_bytes log id (take j bytes)) begun.settings
-        → ((l : Log) (m : Entry) → EntryNoted side l m begun collected → Follows side last (log_and_flush side l m) collected)
+        → ((l : Log) (m : Entry) → EntryNoted side l m begun collected → (is_walked id s ≡ false → LeavesWalks side l m) → Follows side last (log_and_flush side l m) collected)
         → Follows side last (receive side log id (take (suc j) bytes)) collected
     last-follows begun last r st q k work =
         subst (λ (l : Log). Follows side last l collected) (sym received-so)
         (work (log_bytes log id (take j bytes)) (Received id final_byte)
         (last-noted side log collected d f id (take j bytes) (run_state (take j bytes) came s) run stage fit (run-ending (take j bytes) came s) o final_byte begun
-        (subst (λ (xs : List ℕ). inboxes.Refines side begun.inbox (log_bytes log id xs) stage (uncollected_since collected log)) (take-last j bytes below).1 r) st q k))
+        (subst (λ (xs : List ℕ). inboxes.Refines side begun.inbox (log_bytes log id xs) stage (uncollected_since collected log)) (take-last j bytes below).1 r) st q k)
+        (λ e. byte-leaves side (log_bytes log id (take j bytes)) id final_byte (ap (is_walked id) run.state ∙ (run-walked id (take j bytes) came s ∙ e))))
 
   -- a reader took n of them: those before the last are silent, and the work of the last is done
   module _ (n : ℕ) (within : n ≤ length bytes) (stage : ℕ → Stage) (fit : StagesFit side log stage)
@@ -485,7 +509,8 @@ module _ (side : Side) (log : Log) (collected : ℕ) (d : DriverValue) (f : Foll
       (mid begun last : DriverValue) (r : inboxes.Refines side mid.inbox (log_bytes log id (take n bytes)) stage (uncollected_since collected log))
       (st : mid.state ≡ record d.state { is_open = mid.inbox.transport.is_open }) (q : mid.queue ≡ d.queue) (k : mid.settings ≡ d.settings)
       (more : 1 < n → begun ≡ with_state mid (begin_scan mid.state)) (few : n ≤ 1 → begun ≡ mid)
-      (none : n ≡ 0 → last ≡ begun) (work : (l : Log) (m : Entry) → EntryNoted side l m begun collected → 0 < n → Follows side last (log_and_flush side l m) collected) where
+      (none : n ≡ 0 → last ≡ begun)
+      (work : (l : Log) (m : Entry) → EntryNoted side l m begun collected → (is_walked id s ≡ false → LeavesWalks side l m) → 0 < n → Follows side last (log_and_flush side l m) collected) where
     mid-state : mid.state ≡ s
     mid-state = same-state side log collected d f id (take n bytes) mid stage r st
 
@@ -534,7 +559,7 @@ module _ (side : Side) (log : Log) (collected : ℕ) (d : DriverValue) (f : Foll
           subst (λ (i : ℕ). Follows side last (receive side log id (take i bytes)) collected) (sym is)
           (last-follows j below (λ m. s.progress.settings) run stage fit begun last
           (subst (λ (v : InboxState). inboxes.Refines side v (log_bytes log id (take (suc j) bytes)) stage (uncollected_since collected log)) (sym x) there)
-          bs bq (subst (KeepsSettings side (log_bytes log id (take j bytes))) (sym bk) keeps) (λ l m in_. work l m in_ (omega arith)))
+          bs bq (subst (KeepsSettings side (log_bytes log id (take j bytes))) (sym bk) keeps) (λ l m in_ leaves. work l m in_ leaves (omega arith)))
 
       some-follows : Follows side last (receive side log id (take n bytes)) collected
       some-follows = by j refl

@@ -10,6 +10,7 @@ use Rattle.wt_driver_spec.specs.Rest.{AtRest}
 use Rattle.wt_driver_spec.specs.Step.{after_entry, begin_scan, scan_bi_slots, scan_uni_slots, with_no_stops}
 use Rattle.wt_driver_state.proofs.Moved.{ended-moves, not-over, open-moves, unless-open, unless-over, with-settings}
 use Rattle.wt_driver_state.proofs.OneReader.{no-fault, still-runs}
+use Rattle.wt_driver_state.proofs.Pieces.{or-parts}
 use Rattle.wt_driver_state.proofs.SettingsKept.{came-says, control-came, control-says, entry-keeps, scans-go-on}
 use Rattle.wt_driver_state.specs.DriverValue.{DriverValue}
 use Rattle.wt_driver_state.specs.Moving.{Moves, WalkFrom}
@@ -36,10 +37,6 @@ use Rattle.wt_wire.specs.declared.side.Side.{Side}
 use Rattle.wt_wire.specs.declared.side.StreamEnd.TheVariants as ends
 
 -- ---- which entries bring the walks nothing
-
-or-parts : (a b : Bool) → (a || b) ≡ false → (a ≡ false) × (b ≡ false)
-or-parts true b e = absurd cc
-or-parts false b e = (refl, e)
 
 module _ (side : Side) (log : Log) where
   abbrev view : TransportView

@@ -10,6 +10,7 @@ ghost use Rattle.wt_driver_state.specs.DriverValue.{with_state};
 ghost use Rattle.wt_driver_state.specs.OfLog.{OfEachLog};
 ghost use Rattle.wt_driver_state.specs.Reads.{PartTaken, ReadBy, ReadsBi, ReadsControl, ReadsSession, ReadsUni, is_reading, is_stream, reads_header};
 ghost use Rattle.wt_driver_state.specs.Tie.{EntryNoted, Follows};
+ghost use Rattle.wt_driver_state.specs.Walks.{LeavesWalks};
 ghost use Rattle.wt_inbox.specs.Stage.{BiHeader, ControlBody, Refines, SessionBody, Stage, UniHeader, awaits_bi, awaits_uni, control_offset, session_offset, with_stage};
 ghost use Rattle.wt_proto.specs.Bi.{bi_verdict_of};
 ghost use Rattle.wt_proto.specs.ControlWalk.{control_walk_of};
@@ -121,15 +122,16 @@ impl Driver {
         }
     }
 
-    /// A reader took `count` bytes: the work of the last one's moment.
-    fn work_after(&mut self, count: usize) -> Result<(), OutOfMemory>
+    /// A reader took `count` bytes: the work of the last one's moment. `walk` is as in `scan_and_flush`.
+    fn work_after(&mut self, count: usize, walk: bool) -> Result<(), OutOfMemory>
         ensures none { OnOk result (count ≡ 0 → self.new ≡ self.old) }
-        ensures log { (side : Side) (log : Log) (m : Entry) (collected : ℕ) → EntryNoted side log m self.old collected → 0 < count
+        ensures log { (side : Side) (log : Log) (m : Entry) (collected : ℕ) → EntryNoted side log m self.old collected
+            → (walk ≡ false → LeavesWalks side log m) → 0 < count
             → OnOk result (Follows side self.new (log_and_flush side log m) collected) }
         ensures has_given { OnOk result (self.new.has_given_settings ≡ self.old.has_given_settings) }
     {
         if count > 0 {
-            self.scan_and_flush(true)?;
+            self.scan_and_flush(walk)?;
         }
         Ok(())
     }
@@ -163,7 +165,7 @@ impl Driver {
     {
         let count = self.feed_uni(id, bytes)?;
         self.begin_after(count);
-        self.work_after(count)?;
+        self.work_after(count, false)?;
         Ok(count)
     }
 
@@ -196,7 +198,7 @@ impl Driver {
     {
         let count = self.feed_bi(id, bytes)?;
         self.begin_after(count);
-        self.work_after(count)?;
+        self.work_after(count, false)?;
         Ok(count)
     }
 
@@ -291,7 +293,7 @@ impl Driver {
     {
         let count = self.feed_session(id, bytes)?;
         self.begin_after(count);
-        self.work_after(count)?;
+        self.work_after(count, true)?;
         Ok(count)
     }
 

@@ -20,7 +20,7 @@ returns-clause-log c = λ side log collected f o reads l.
           c.feed_session.new.self c.begin_after.new.self c.work_after.new.self
           (c.in_ok-count.ensures.log side log f.refines.stage acts f.refines.inbox st.0 st.2)
           c.in_ok-count.ensures.state c.in_ok-count.ensures.queue c.in_ok-count.ensures.settings
-          c.begin_after.ensures.more c.begin_after.ensures.few c.in_ok-work_after.ensures.none (λ l m in_ some. c.in_ok-work_after.ensures.log side l m collected in_ some);
+          c.begin_after.ensures.more c.begin_after.ensures.few c.in_ok-work_after.ensures.none (λ l m in_ leaves some. c.in_ok-work_after.ensures.log side l m collected in_ (λ e. absurd cc) some);
       some = session-some side log collected d f id o bytes n st.0 st.1 (c.in_ok-count.ensures.stopped side log f.refines.stage acts f.refines.inbox st.0 st.2) l;
     }
 

@@ -1,6 +1,7 @@
-use Rattle.std.proofs.Common.{◌∙◌}
+use Rattle.std.proofs.Common.{true, false, ◌∙◌}
+use Rattle.wt_driver_spec.specs.DriverState.{state_of}
 use Rattle.wt_driver_state.proofs.OneReader.{uni-alone, uni-some}
-use Rattle.wt_driver_state.proofs.Pieces.{fed-follows, uni-quiet, uni-stage}
+use Rattle.wt_driver_state.proofs.Pieces.{fed-follows, kept-by, unwalked, uni-quiet, uni-stage}
 use Rattle.wt_driver_state.specs.Tie.{uncollected_since}
 use Rattle.wt_inbox.specs.Stage.{UniHeader, with_stage}
 use Rattle.wt_driver.proofs.driver.Driver.take_uni.Goals as goal
@@ -20,7 +21,7 @@ returns-clause-log c = λ side log collected f o reads l.
           c.feed_uni.new.self c.begin_after.new.self c.work_after.new.self
           (c.in_ok-count.ensures.log side log f.refines.stage acts f.refines.inbox st.0)
           c.in_ok-count.ensures.state c.in_ok-count.ensures.queue c.in_ok-count.ensures.settings
-          c.begin_after.ensures.more c.begin_after.ensures.few c.in_ok-work_after.ensures.none (λ l m in_ some. c.in_ok-work_after.ensures.log side l m collected in_ some);
+          c.begin_after.ensures.more c.begin_after.ensures.few c.in_ok-work_after.ensures.none (λ l m in_ leaves some. c.in_ok-work_after.ensures.log side l m collected in_ (λ e. leaves (unwalked id (state_of side log) true false (kept-by side log collected d f id bytes o true false false false by))) some);
       some = uni-some side log collected d f id o bytes n reads (c.in_ok-count.ensures.stopped side log f.refines.stage acts f.refines.inbox st.0) l;
     }
 
