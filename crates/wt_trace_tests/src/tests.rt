@@ -1,6 +1,7 @@
 //! What the contracts leave open: that memory suffices where there is enough, and worked cases.
 mod errors;
 mod generated;
+mod hostile;
 mod outside;
 mod print;
 mod program;
