@@ -25,7 +25,7 @@ use Rattle.wt_session_spec.specs.CallFacts.{facts_of}
 use Rattle.wt_session_spec.specs.Plan.{AcceptBi, AcceptUni, Establish, Plan, Receive, Step, perform}
 use Rattle.wt_session_spec.specs.Plans.{in_session_now, plan_of}
 use Rattle.wt_session_spec.specs.SessionState.{is_answering, session_state}
-use Rattle.wt_spec.specs.Answers.{call_effect, is_first, is_lawful, log_after, may_call}
+use Rattle.wt_spec.specs.Answers.{call_effect, is_first, is_lawful, log_after, may_call, named_session}
 use Rattle.wt_spec.specs.Connection.{first_of}
 use Rattle.wt_spec.specs.Driver.{call_view, delivers, settings_came, stream_table}
 use Rattle.wt_spec.specs.Effect.{Effect, log_call}
@@ -191,9 +191,9 @@ not-delivered p own k reply d e = absurd (let x = ap delivers_request e in cc)
 module _ (side : Side) (log : Log) (own : List Action) (k : ℕ) (reply : Reply) where
   at-once : (call : Call) → plan_of (facts_of side log) (session_state log) call ≡ Step own (RequestDelivered k) reply → (is_accept (turns.Call call) || is_receive (turns.Call call)) ≡ false
   unfolding plan_of
-  at-once calls.AcceptUni e = absurd (not-delivered _ own k reply (no-delivery AcceptUni (facts_of side log).session (λ s. refl)) e)
-  at-once calls.AcceptBi e = absurd (not-delivered _ own k reply (no-delivery AcceptBi (facts_of side log).session (λ s. refl)) e)
-  at-once calls.ReceiveDatagram e = absurd (not-delivered _ own k reply (no-delivery Receive (facts_of side log).session (λ s. refl)) e)
+  at-once (calls.AcceptUni session) e = absurd (not-delivered _ own k reply (no-delivery AcceptUni (named_session session (facts_of side log).session) (λ s. refl)) e)
+  at-once (calls.AcceptBi session) e = absurd (not-delivered _ own k reply (no-delivery AcceptBi (named_session session (facts_of side log).session) (λ s. refl)) e)
+  at-once (calls.ReceiveDatagram session) e = absurd (not-delivered _ own k reply (no-delivery Receive (named_session session (facts_of side log).session) (λ s. refl)) e)
   at-once _ e = refl
 
   delivered-calls : (call : Call) → plan_of (facts_of side log) (session_state log) call ≡ Step own (RequestDelivered k) reply → (call_effect side log call).log ≡ log_call side log own (RequestDelivered k)

@@ -64,6 +64,8 @@ pub fn may_call(side: Side, is_first: bool, s: &SessionTable, call: &Call) -> bo
             may_respond(side, s)
         }
         Call::Handshake => is_continuable(s.handshake()),
+        // Sessions don't end one by one yet.
+        Call::EndSession { .. } => false,
         _ => !is_first,
     }
 }

@@ -22,6 +22,7 @@ use wt_plan::{connect_plan, connection_plans};
 use wt_proto::response_walk::ResponseWalk;
 use wt_seam::Transport;
 use wt_turn::call::Call;
+use wt_turn::reply::Reply;
 use wt_wire::error::OutOfMemory;
 
 /// What a call does. The walk is that over the response, where a connect goes on.
@@ -52,15 +53,24 @@ pub fn plan(
         Call::TooManyRequests => handshake::refuse_for_now(alloc, t, s),
         Call::Handshake => handshake::go_on(alloc, t, d, s, walk),
         Call::EndpointClose { code, reason } => connection_plans::close(alloc, t, *code, reason),
-        Call::AcceptUni => Ok(in_session::accept_uni(alloc, session)),
-        Call::AcceptBi => Ok(in_session::accept_bi(alloc, session)),
-        Call::ReceiveDatagram => Ok(in_session::receive_datagram(alloc, session)),
-        Call::OpenUni => in_session::open_uni(alloc, t, session),
-        Call::OpenBi => in_session::open_bi(alloc, t, session),
+        Call::AcceptUni { session: name } => Ok(in_session::accept_uni(alloc, *name, session)),
+        Call::AcceptBi { session: name } => Ok(in_session::accept_bi(alloc, *name, session)),
+        Call::ReceiveDatagram { session: name } => Ok(in_session::receive_datagram(
+            alloc, *name, session,
+        )),
+        Call::OpenUni { session: name } => in_session::open_uni(alloc, t, *name, session),
+        Call::OpenBi { session: name } => in_session::open_bi(alloc, t, *name, session),
         Call::PollOpening { id } => in_session::poll_opening(alloc, t, s, session, *id),
-        Call::SendDatagram { payload } => in_session::send_datagram(alloc, t, session, payload),
-        Call::MaxDatagramSize => Ok(in_session::max_datagram_size(alloc, t, session)),
-        Call::SessionId => Ok(in_session::session_id(alloc, session)),
+        Call::SendDatagram {
+            payload,
+            session: name,
+        } => in_session::send_datagram(alloc, t, *name, session, payload),
+        // No session ends by a call yet, so none is there for it: the call isn't lawful.
+        Call::EndSession { .. } => Ok(Plan::only_reply(alloc, Reply::NoSession)),
+        Call::MaxDatagramSize { session: name } => {
+            Ok(in_session::max_datagram_size(alloc, t, *name, session))
+        }
+        Call::SessionId { session: name } => Ok(in_session::session_id(alloc, *name, session)),
         Call::Close { code, reason } => in_session::close(alloc, t, session, *code, reason),
         Call::Closed => in_session::closed(alloc, t, session),
         Call::Write { id, bytes } => sending::write(alloc, t, s, *id, bytes),

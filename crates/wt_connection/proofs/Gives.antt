@@ -1,5 +1,5 @@
 -- What a call gives stands for the log after it: the halves of a stream, and an opening.
-use Rattle.std.specs.Prelude.{[], ◌%◌, ◌&&◌, ◌*◌, ◌+◌, ◌/◌, ◌<◌, ◌==◌, ◌||◌, ◌∷◌, ◌≡◌, ◌≢◌, ◌≤◌, ◌⊎◌, Bool, Err, List, None, Ok, Result, Some, false, if◌then◌else◌, not, true, ℕ}
+use Rattle.std.specs.Prelude.{Bool, Err, List, None, Ok, Result, Some, [], false, if◌then◌else◌, not, true, ℕ, ◌%◌, ◌&&◌, ◌*◌, ◌+◌, ◌/◌, ◌<◌, ◌==◌, ◌||◌, ◌∷◌, ◌≡◌, ◌≢◌, ◌≤◌, ◌⊎◌}
 use Rattle.std.proofs.Common.{◌∙◌, ap, arith, refl, subst, sym}
 use Rattle.std.proofs.lemmas.Bool.{and_from, and_parts, eq-eqb, eqb-true, not-true, or_left, or_right}
 use Rattle.std.specs.List.{list_any}
@@ -200,43 +200,43 @@ module _ (side : Side) (log : Log) (call : Call) (kind k : ℕ) (m : (middle : L
       by true e = absurd (let a = any-stays (releases k) log m.0 (m.1).from_start (released k (calls_of log) e) in let f = (m.2).fresh in cc)
 
 module _ (side : Side) (log : Log) (r : IsReachable side log) (session : ℕ) (s : IsEstablished log session) where
-  uni-receives : (k : ℕ) → (call_effect side log calls.AcceptUni).reply ≡ replies.Uni k → has_receiving_half side (call_effect side log calls.AcceptUni).log k ≡ true
+  uni-receives : (k : ℕ) → (call_effect side log (calls.AcceptUni None)).reply ≡ replies.Uni k → has_receiving_half side (call_effect side log (calls.AcceptUni None)).log k ≡ true
   uni-receives k e =
       let l = may_use side log session s in
-      let later = (call_effect side log calls.AcceptUni).log in
-      let m = (streams-accepted-rightly side log (turns.Call calls.AcceptUni) r l).uni k e in
+      let later = (call_effect side log (calls.AcceptUni None)).log in
+      let m = (streams-accepted-rightly side log (turns.Call (calls.AcceptUni None)) r l).uni k e in
       and_from (is_accepted later k && not (k % 4 == local_uni side)) (not (list_any (gives_up k) (calls_of later)))
-      (and_from (is_accepted later k) (not (k % 4 == local_uni side)) (given-accepted side log calls.AcceptUni k l (ap given_stream e)) (other-than k (peer_uni side) (local_uni side) (uni-apart side) (kind-of side log calls.AcceptUni (peer_uni side) k m)))
-      (ap not (given-up-same side log (turns.Call calls.AcceptUni) k refl ∙ kept-half side log k r (fresh side log calls.AcceptUni (peer_uni side) k m)))
+      (and_from (is_accepted later k) (not (k % 4 == local_uni side)) (given-accepted side log (calls.AcceptUni None) k l (ap given_stream e)) (other-than k (peer_uni side) (local_uni side) (uni-apart side) (kind-of side log (calls.AcceptUni None) (peer_uni side) k m)))
+      (ap not (given-up-same side log (turns.Call (calls.AcceptUni None)) k refl ∙ kept-half side log k r (fresh side log (calls.AcceptUni None) (peer_uni side) k m)))
 
-  bi-given : (k : ℕ) → (call_effect side log calls.AcceptBi).reply ≡ replies.Bi k → (has_sending_half side (call_effect side log calls.AcceptBi).log k ≡ true) × (has_receiving_half side (call_effect side log calls.AcceptBi).log k ≡ true)
+  bi-given : (k : ℕ) → (call_effect side log (calls.AcceptBi None)).reply ≡ replies.Bi k → (has_sending_half side (call_effect side log (calls.AcceptBi None)).log k ≡ true) × (has_receiving_half side (call_effect side log (calls.AcceptBi None)).log k ≡ true)
   bi-given k e =
       let l = may_use side log session s in
-      let later = (call_effect side log calls.AcceptBi).log in
-      let m = (streams-accepted-rightly side log (turns.Call calls.AcceptBi) r l).bi k e in
-      let a = given-accepted side log calls.AcceptBi k l (ap given_stream e) in
-      let kd = kind-of side log calls.AcceptBi (peer_bi side) k m in (
+      let later = (call_effect side log (calls.AcceptBi None)).log in
+      let m = (streams-accepted-rightly side log (turns.Call (calls.AcceptBi None)) r l).bi k e in
+      let a = given-accepted side log (calls.AcceptBi None) k l (ap given_stream e) in
+      let kd = kind-of side log (calls.AcceptBi None) (peer_bi side) k m in (
         and_from (is_accepted later k) (not (k % 4 == peer_uni side)) a (other-than k (peer_bi side) (peer_uni side) (bi-from-peer side) kd),
         and_from (is_accepted later k && not (k % 4 == local_uni side)) (not (list_any (gives_up k) (calls_of later)))
             (and_from (is_accepted later k) (not (k % 4 == local_uni side)) a (other-than k (peer_bi side) (local_uni side) (bi-from-local side) kd))
-            (ap not (given-up-same side log (turns.Call calls.AcceptBi) k refl ∙ kept-half side log k r (fresh side log calls.AcceptBi (peer_bi side) k m))),
+            (ap not (given-up-same side log (turns.Call (calls.AcceptBi None)) k refl ∙ kept-half side log k r (fresh side log (calls.AcceptBi None) (peer_bi side) k m))),
       )
 
   -- the half that an accept gives stands after it
-  pub uni_stands : (a : Poll (Result ℕ ConnectionError)) → poll_reply replies.Uni a ≡ (call_effect side log calls.AcceptUni).reply → IfGiven a (λ k. has_receiving_half side (call_effect side log calls.AcceptUni).log k ≡ true)
+  pub uni_stands : (a : Poll (Result ℕ ConnectionError)) → poll_reply replies.Uni a ≡ (call_effect side log (calls.AcceptUni None)).reply → IfGiven a (λ k. has_receiving_half side (call_effect side log (calls.AcceptUni None)).log k ≡ true)
   uni_stands (Ready (Ok k)) e = uni-receives k (sym e)
   uni_stands (Ready (Err x)) e = tt
   uni_stands Pending e = tt
 
-  pub bi_sends : (a : Poll (Result (ℕ × ℕ) ConnectionError)) → poll_reply (λ halves. replies.Bi halves.0) a ≡ (call_effect side log calls.AcceptBi).reply
-      → IfGiven a (λ halves. has_sending_half side (call_effect side log calls.AcceptBi).log halves.0 ≡ true)
+  pub bi_sends : (a : Poll (Result (ℕ × ℕ) ConnectionError)) → poll_reply (λ halves. replies.Bi halves.0) a ≡ (call_effect side log (calls.AcceptBi None)).reply
+      → IfGiven a (λ halves. has_sending_half side (call_effect side log (calls.AcceptBi None)).log halves.0 ≡ true)
   bi_sends (Ready (Ok halves)) e = (bi-given halves.0 (sym e)).0
   bi_sends (Ready (Err x)) e = tt
   bi_sends Pending e = tt
 
-  pub bi_receives : (a : Poll (Result (ℕ × ℕ) ConnectionError)) → poll_reply (λ halves. replies.Bi halves.0) a ≡ (call_effect side log calls.AcceptBi).reply → IsOneStream a
-      → IfGiven a (λ halves. has_receiving_half side (call_effect side log calls.AcceptBi).log halves.1 ≡ true)
-  bi_receives (Ready (Ok halves)) e o = subst (λ (k : ℕ). has_receiving_half side (call_effect side log calls.AcceptBi).log k ≡ true) o (bi-given halves.0 (sym e)).1
+  pub bi_receives : (a : Poll (Result (ℕ × ℕ) ConnectionError)) → poll_reply (λ halves. replies.Bi halves.0) a ≡ (call_effect side log (calls.AcceptBi None)).reply → IsOneStream a
+      → IfGiven a (λ halves. has_receiving_half side (call_effect side log (calls.AcceptBi None)).log halves.1 ≡ true)
+  bi_receives (Ready (Ok halves)) e o = subst (λ (k : ℕ). has_receiving_half side (call_effect side log (calls.AcceptBi None)).log k ≡ true) o (bi-given halves.0 (sym e)).1
   bi_receives (Ready (Err x)) e o = tt
   bi_receives Pending e o = tt
 
@@ -341,41 +341,41 @@ small-bi Client = omega arith
 small-bi Server = omega arith
 
 module _ (side : Side) (log : Log) (r : IsReachable side log) (session : ℕ) (s : IsEstablished log session) where
-  open_uni_is : open_stream side log (local_uni side) session ≡ call_effect side log calls.OpenUni
+  open_uni_is : open_stream side log (local_uni side) session ≡ call_effect side log (calls.OpenUni None)
   unfolding call_effect
   open_uni_is = sym (ap (λ o. in_session side log (open_stream side log (local_uni side)) o) s.is)
 
-  open_bi_is : open_stream side log (local_bi side) session ≡ call_effect side log calls.OpenBi
+  open_bi_is : open_stream side log (local_bi side) session ≡ call_effect side log (calls.OpenBi None)
   unfolding call_effect
   open_bi_is = sym (ap (λ o. in_session side log (open_stream side log (local_bi side)) o) s.is)
 
-  begun-uni : (o : OpeningStream) → o.session ≡ session → (call_effect side log calls.OpenUni).reply ≡ replies.Opening o.id → IsOpening false (call_effect side log calls.OpenUni).log o
+  begun-uni : (o : OpeningStream) → o.session ≡ session → (call_effect side log (calls.OpenUni None)).reply ≡ replies.Opening o.id → IsOpening false (call_effect side log (calls.OpenUni None)).log o
   begun-uni o same e =
       let b = subst (λ (x : Effect). x.reply ≡ replies.Opening o.id → (is_opening x.log o.id ≡ true) × (o.id % 4 ≡ local_uni side)) open_uni_is
       (begins side log r (local_uni side) (small-uni side) (or_left (local_uni side == local_uni side) _ (eq-eqb (local_uni side) (local_uni side) refl)) session o.id) e in
       record {
         opens = b.0;
         kind = uni-kind side o.id b.1;
-        session = subst (λ (k : ℕ). IsEstablished (call_effect side log calls.OpenUni).log k) (sym same) (session-stays side log (turns.Call calls.OpenUni) session r (may_use side log session s) s);
+        session = subst (λ (k : ℕ). IsEstablished (call_effect side log (calls.OpenUni None)).log k) (sym same) (session-stays side log (turns.Call (calls.OpenUni None)) session r (may_use side log session s) s);
       }
 
-  begun-bi : (o : OpeningStream) → o.session ≡ session → (call_effect side log calls.OpenBi).reply ≡ replies.Opening o.id → IsOpening true (call_effect side log calls.OpenBi).log o
+  begun-bi : (o : OpeningStream) → o.session ≡ session → (call_effect side log (calls.OpenBi None)).reply ≡ replies.Opening o.id → IsOpening true (call_effect side log (calls.OpenBi None)).log o
   begun-bi o same e =
       let b = subst (λ (x : Effect). x.reply ≡ replies.Opening o.id → (is_opening x.log o.id ≡ true) × (o.id % 4 ≡ local_bi side)) open_bi_is
       (begins side log r (local_bi side) (small-bi side) (or_right (local_bi side == local_uni side) _ (eq-eqb (local_bi side) (local_bi side) refl)) session o.id) e in
       record {
         opens = b.0;
         kind = bi-kind side o.id b.1;
-        session = subst (λ (k : ℕ). IsEstablished (call_effect side log calls.OpenBi).log k) (sym same) (session-stays side log (turns.Call calls.OpenBi) session r (may_use side log session s) s);
+        session = subst (λ (k : ℕ). IsEstablished (call_effect side log (calls.OpenBi None)).log k) (sym same) (session-stays side log (turns.Call (calls.OpenBi None)) session r (may_use side log session s) s);
       }
 
   -- the opening that begins stands after the call
-  pub opens_uni : (a : Poll (Result OpeningStream ConnectionError)) → poll_reply (λ o. replies.Opening o.id) a ≡ (call_effect side log calls.OpenUni).reply → IfGiven a (λ o. o.session ≡ session) → IfGiven a (λ o. IsOpening false (call_effect side log calls.OpenUni).log o)
+  pub opens_uni : (a : Poll (Result OpeningStream ConnectionError)) → poll_reply (λ o. replies.Opening o.id) a ≡ (call_effect side log (calls.OpenUni None)).reply → IfGiven a (λ o. o.session ≡ session) → IfGiven a (λ o. IsOpening false (call_effect side log (calls.OpenUni None)).log o)
   opens_uni (Ready (Ok o)) e same = begun-uni o same (sym e)
   opens_uni (Ready (Err x)) e same = tt
   opens_uni Pending e same = tt
 
-  pub opens_bi : (a : Poll (Result OpeningStream ConnectionError)) → poll_reply (λ o. replies.Opening o.id) a ≡ (call_effect side log calls.OpenBi).reply → IfGiven a (λ o. o.session ≡ session) → IfGiven a (λ o. IsOpening true (call_effect side log calls.OpenBi).log o)
+  pub opens_bi : (a : Poll (Result OpeningStream ConnectionError)) → poll_reply (λ o. replies.Opening o.id) a ≡ (call_effect side log (calls.OpenBi None)).reply → IfGiven a (λ o. o.session ≡ session) → IfGiven a (λ o. IsOpening true (call_effect side log (calls.OpenBi None)).log o)
   opens_bi (Ready (Ok o)) e same = begun-bi o same (sym e)
   opens_bi (Ready (Err x)) e same = tt
   opens_bi Pending e same = tt

@@ -29,7 +29,7 @@ use Rattle.wt_session_spec.specs.HandshakePlans.{AllOut, Ended, HeadProgress, Re
 use Rattle.wt_session_spec.specs.Plan.{AcceptBi, AcceptUni, Establish, Plan, Receive, Step, closing_with, fail_with, only_reply, perform, send_and_reply}
 use Rattle.wt_session_spec.specs.Plans.{in_session_now, plan_of, with_half}
 use Rattle.wt_session_spec.specs.SessionState.{SessionState, has_receiving_now, has_sending_now, is_opening_now, session_state}
-use Rattle.wt_spec.specs.Answers.{call_effect}
+use Rattle.wt_spec.specs.Answers.{call_effect, named_session}
 use Rattle.wt_spec.specs.Connect.{address_of, outcome_error, port_of}
 use Rattle.wt_spec.specs.Connection.{accept_due, accept_first, give_or_pass, is_for_session, next_datagram, next_due, pass_stream, payload_limit, receive_first, receive_next, receive_or_pass, stream_header}
 use Rattle.wt_spec.specs.Effect.{Effect, is_empty, log_call}
@@ -225,15 +225,16 @@ plan-left f s calls.NotFound = start-left calls.NotFound f s false (response_byt
 plan-left f s calls.TooManyRequests = start-left calls.TooManyRequests f s false (response_bytes (codes "429"))
 plan-left f s calls.Handshake = handshake-left calls.Handshake f s s.handshake
 plan-left f s (calls.EndpointClose code reason) = refl
-plan-left f s calls.AcceptUni = session-left calls.AcceptUni f.session AcceptUni (λ k. tt)
-plan-left f s calls.AcceptBi = session-left calls.AcceptBi f.session AcceptBi (λ k. tt)
-plan-left f s calls.ReceiveDatagram = session-left calls.ReceiveDatagram f.session Receive (λ k. tt)
-plan-left f s calls.OpenUni = session-left calls.OpenUni f.session (opening_plan f (local_uni f.side)) (λ k. opening-left calls.OpenUni f (local_uni f.side) k)
-plan-left f s calls.OpenBi = session-left calls.OpenBi f.session (opening_plan f (local_bi f.side)) (λ k. opening-left calls.OpenBi f (local_bi f.side) k)
+plan-left f s (calls.AcceptUni session) = session-left (calls.AcceptUni session) (named_session session f.session) AcceptUni (λ k. tt)
+plan-left f s (calls.AcceptBi session) = session-left (calls.AcceptBi session) (named_session session f.session) AcceptBi (λ k. tt)
+plan-left f s (calls.ReceiveDatagram session) = session-left (calls.ReceiveDatagram session) (named_session session f.session) Receive (λ k. tt)
+plan-left f s (calls.OpenUni session) = session-left (calls.OpenUni session) (named_session session f.session) (opening_plan f (local_uni f.side)) (λ k. opening-left (calls.OpenUni session) f (local_uni f.side) k)
+plan-left f s (calls.OpenBi session) = session-left (calls.OpenBi session) (named_session session f.session) (opening_plan f (local_bi f.side)) (λ k. opening-left (calls.OpenBi session) f (local_bi f.side) k)
 plan-left f s (calls.PollOpening id) = session-left (calls.PollOpening id) f.session (poll_plan f s id) (λ k. poll-left f s id k)
-plan-left f s (calls.SendDatagram payload) = session-left (calls.SendDatagram payload) f.session (datagram_plan f payload) (λ k. datagram-left (calls.SendDatagram payload) f payload k)
-plan-left f s calls.MaxDatagramSize = session-left calls.MaxDatagramSize f.session (λ k. only_reply (replies.Size (payload_limit k f.datagram_fact))) (λ k. refl)
-plan-left f s calls.SessionId = session-left calls.SessionId f.session (λ k. only_reply (replies.Id k)) (λ k. refl)
+plan-left f s (calls.SendDatagram payload session) = session-left (calls.SendDatagram payload session) (named_session session f.session) (datagram_plan f payload) (λ k. datagram-left (calls.SendDatagram payload session) f payload k)
+plan-left f s (calls.MaxDatagramSize session) = session-left (calls.MaxDatagramSize session) (named_session session f.session) (λ k. only_reply (replies.Size (payload_limit k f.datagram_fact))) (λ k. refl)
+plan-left f s (calls.SessionId session) = session-left (calls.SessionId session) (named_session session f.session) (λ k. only_reply (replies.Id k)) (λ k. refl)
+plan-left f s (calls.EndSession session) = refl
 plan-left f s (calls.Close code reason) = session-left (calls.Close code reason) f.session (λ k. close_plan f code reason) (λ k. refl)
 plan-left f s calls.Closed = session-left calls.Closed f.session (λ k. closed_plan f) (λ k. refl)
 plan-left f s (calls.Write id bytes) = half-left (calls.Write id bytes) (has_sending_now f.side s id) (write_plan f id bytes) refl

@@ -1,5 +1,5 @@
 -- The calls on the established session: their plans are those by the log, and what their replies may be.
-use Rattle.std.specs.Prelude.{[], ◌/◌, ◌∷◌, ◌≡◌, Bool, List, Option, Some, false, if◌then◌else◌, length, nat_lt, not, true, ℕ}
+use Rattle.std.specs.Prelude.{Bool, List, None, Option, Some, [], false, if◌then◌else◌, length, nat_lt, not, true, ℕ, ◌/◌, ◌∷◌, ◌≡◌}
 use Rattle.std.proofs.Common.{◌∙◌, ap, refl, subst, sym}
 use Rattle.wt_halves.proofs.DriverAnswered.{facts_reported, leads, reported}
 use Rattle.wt_connection.specs.Openings.{IsOpening, OpeningStream, opening_in, ready_in}
@@ -98,23 +98,23 @@ bi-ready side log AllOut id own k = rw k refl
 bi-ready side log _ id own k = refl
 
 module _ (side : Side) (log : Log) (session : ℕ) (s : IsEstablished log session) where
-  pub accept_uni_is : accept_stream side replies.Uni (peer_uni side) log session ≡ call_effect side log calls.AcceptUni
+  pub accept_uni_is : accept_stream side replies.Uni (peer_uni side) log session ≡ call_effect side log (calls.AcceptUni None)
   unfolding call_effect
   accept_uni_is = sym (ap (λ o. in_session side log (accept_stream side replies.Uni (peer_uni side) log) o) s.is)
 
-  pub accept_bi_is : accept_stream side replies.Bi (peer_bi side) log session ≡ call_effect side log calls.AcceptBi
+  pub accept_bi_is : accept_stream side replies.Bi (peer_bi side) log session ≡ call_effect side log (calls.AcceptBi None)
   unfolding call_effect
   accept_bi_is = sym (ap (λ o. in_session side log (accept_stream side replies.Bi (peer_bi side) log) o) s.is)
 
-  pub receive_is : receive_datagram side log session ≡ call_effect side log calls.ReceiveDatagram
+  pub receive_is : receive_datagram side log session ≡ call_effect side log (calls.ReceiveDatagram None)
   unfolding call_effect
   receive_is = sym (ap (λ o. in_session side log (receive_datagram side log) o) s.is)
 
-  pub id_is : replies.Id session ≡ (call_effect side log calls.SessionId).reply
+  pub id_is : replies.Id session ≡ (call_effect side log (calls.SessionId None)).reply
   unfolding call_effect
   id_is = sym (ap (λ o. (in_session side log (λ k. poll_only side log (replies.Id k)) o).reply) s.is)
 
-  had : (plan : ℕ → Plan) → plan session ≡ with_session (facts_of side log) plan
+  had : (plan : ℕ → Plan) → plan session ≡ with_session (facts_of side log) None plan
   had plan = sym (ap (in_session_now plan) s.is)
 
   -- ---- calls that are planned
@@ -123,19 +123,19 @@ module _ (side : Side) (log : Log) (session : ℕ) (s : IsEstablished log sessio
     abbrev now : CallFacts
     now = facts_now d.inbox.transport (reported side d log collected f r)
 
-    pub open_uni_by_log : opening_plan now (local_uni d.inbox.transport.side) session ≡ plan_of (facts_of side log) (session_state log) calls.OpenUni
+    pub open_uni_by_log : opening_plan now (local_uni d.inbox.transport.side) session ≡ plan_of (facts_of side log) (session_state log) (calls.OpenUni None)
     unfolding plan_of
     open_uni_by_log = ap (λ (x : CallFacts). opening_plan x (local_uni x.side) session) (facts_reported side d log collected f r) ∙ had (opening_plan (facts_of side log) (local_uni side))
 
-    pub open_bi_by_log : opening_plan now (local_bi d.inbox.transport.side) session ≡ plan_of (facts_of side log) (session_state log) calls.OpenBi
+    pub open_bi_by_log : opening_plan now (local_bi d.inbox.transport.side) session ≡ plan_of (facts_of side log) (session_state log) (calls.OpenBi None)
     unfolding plan_of
     open_bi_by_log = ap (λ (x : CallFacts). opening_plan x (local_bi x.side) session) (facts_reported side d log collected f r) ∙ had (opening_plan (facts_of side log) (local_bi side))
 
-    pub datagram_by_log : (payload : List ℕ) → datagram_plan now payload session ≡ plan_of (facts_of side log) (session_state log) (calls.SendDatagram payload)
+    pub datagram_by_log : (payload : List ℕ) → datagram_plan now payload session ≡ plan_of (facts_of side log) (session_state log) (calls.SendDatagram payload None)
     unfolding plan_of
     datagram_by_log payload = ap (λ (x : CallFacts). datagram_plan x payload session) (facts_reported side d log collected f r) ∙ had (datagram_plan (facts_of side log) payload)
 
-    pub size_by_log : only_reply (replies.Size (payload_limit session d.inbox.transport.datagram_fact)) ≡ plan_of (facts_of side log) (session_state log) calls.MaxDatagramSize
+    pub size_by_log : only_reply (replies.Size (payload_limit session d.inbox.transport.datagram_fact)) ≡ plan_of (facts_of side log) (session_state log) (calls.MaxDatagramSize None)
     unfolding plan_of
     size_by_log = ap (λ (x : CallFacts). only_reply (replies.Size (payload_limit session x.datagram_fact))) (facts_reported side d log collected f r)
         ∙ had (λ k. only_reply (replies.Size (payload_limit k (facts_of side log).datagram_fact)))
@@ -148,15 +148,15 @@ module _ (side : Side) (log : Log) (session : ℕ) (s : IsEstablished log sessio
     unfolding plan_of
     closed_by_log = ap (λ (x : CallFacts). closed_plan x) (facts_reported side d log collected f r) ∙ had (λ k. closed_plan (facts_of side log))
 
-    pub open_uni_planned : (t : TransportState) → t ≡ d.inbox.transport → (p : planning.Plan) → ((x : DriverAnswers) → defined_plan p ≡ opening_plan (facts_now t x) (local_uni t.side) session) → defined_plan p ≡ plan_of (facts_of side log) (session_state log) calls.OpenUni
+    pub open_uni_planned : (t : TransportState) → t ≡ d.inbox.transport → (p : planning.Plan) → ((x : DriverAnswers) → defined_plan p ≡ opening_plan (facts_now t x) (local_uni t.side) session) → defined_plan p ≡ plan_of (facts_of side log) (session_state log) (calls.OpenUni None)
     open_uni_planned t same p e =
         e (reported side d log collected f r) ∙ ap (λ (u : TransportState). opening_plan (facts_now u (reported side d log collected f r)) (local_uni u.side) session) same ∙ open_uni_by_log
 
-    pub open_bi_planned : (t : TransportState) → t ≡ d.inbox.transport → (p : planning.Plan) → ((x : DriverAnswers) → defined_plan p ≡ opening_plan (facts_now t x) (local_bi t.side) session) → defined_plan p ≡ plan_of (facts_of side log) (session_state log) calls.OpenBi
+    pub open_bi_planned : (t : TransportState) → t ≡ d.inbox.transport → (p : planning.Plan) → ((x : DriverAnswers) → defined_plan p ≡ opening_plan (facts_now t x) (local_bi t.side) session) → defined_plan p ≡ plan_of (facts_of side log) (session_state log) (calls.OpenBi None)
     open_bi_planned t same p e =
         e (reported side d log collected f r) ∙ ap (λ (u : TransportState). opening_plan (facts_now u (reported side d log collected f r)) (local_bi u.side) session) same ∙ open_bi_by_log
 
-    pub datagram_planned : (payload : List ℕ) → (t : TransportState) → t ≡ d.inbox.transport → (p : planning.Plan) → ((x : DriverAnswers) → defined_plan p ≡ datagram_plan (facts_now t x) payload session) → defined_plan p ≡ plan_of (facts_of side log) (session_state log) (calls.SendDatagram payload)
+    pub datagram_planned : (payload : List ℕ) → (t : TransportState) → t ≡ d.inbox.transport → (p : planning.Plan) → ((x : DriverAnswers) → defined_plan p ≡ datagram_plan (facts_now t x) payload session) → defined_plan p ≡ plan_of (facts_of side log) (session_state log) (calls.SendDatagram payload None)
     datagram_planned payload t same p e =
         e (reported side d log collected f r) ∙ ap (λ (u : TransportState). datagram_plan (facts_now u (reported side d log collected f r)) payload session) same ∙ datagram_by_log payload
 
@@ -168,23 +168,23 @@ module _ (side : Side) (log : Log) (session : ℕ) (s : IsEstablished log sessio
     closed_planned t same p e =
         e (reported side d log collected f r) ∙ ap (λ (u : TransportState). closed_plan (facts_now u (reported side d log collected f r))) same ∙ closed_by_log
 
-    pub open_uni_comes : let reply = (call_effect side log calls.OpenUni).reply in poll_reply replies.Opening (opening_in reply) ≡ reply
-    open_uni_comes = subst (λ (x : Effect). poll_reply replies.Opening (opening_in x.reply) ≡ x.reply) (leads side log calls.OpenUni (opening_plan now (local_uni d.inbox.transport.side) session) open_uni_by_log)
+    pub open_uni_comes : let reply = (call_effect side log (calls.OpenUni None)).reply in poll_reply replies.Opening (opening_in reply) ≡ reply
+    open_uni_comes = subst (λ (x : Effect). poll_reply replies.Opening (opening_in x.reply) ≡ x.reply) (leads side log (calls.OpenUni None) (opening_plan now (local_uni d.inbox.transport.side) session) open_uni_by_log)
         (opening_comes now side log (local_uni d.inbox.transport.side) session)
 
-    pub open_bi_comes : let reply = (call_effect side log calls.OpenBi).reply in poll_reply replies.Opening (opening_in reply) ≡ reply
-    open_bi_comes = subst (λ (x : Effect). poll_reply replies.Opening (opening_in x.reply) ≡ x.reply) (leads side log calls.OpenBi (opening_plan now (local_bi d.inbox.transport.side) session) open_bi_by_log)
+    pub open_bi_comes : let reply = (call_effect side log (calls.OpenBi None)).reply in poll_reply replies.Opening (opening_in reply) ≡ reply
+    open_bi_comes = subst (λ (x : Effect). poll_reply replies.Opening (opening_in x.reply) ≡ x.reply) (leads side log (calls.OpenBi None) (opening_plan now (local_bi d.inbox.transport.side) session) open_bi_by_log)
         (opening_comes now side log (local_bi d.inbox.transport.side) session)
 
-    pub datagram_comes : (payload : List ℕ) → let reply = (call_effect side log (calls.SendDatagram payload)).reply in sent_reply (sent_in reply) ≡ reply
-    datagram_comes payload = subst (λ (x : Effect). sent_reply (sent_in x.reply) ≡ x.reply) (leads side log (calls.SendDatagram payload) (datagram_plan now payload session) (datagram_by_log payload))
+    pub datagram_comes : (payload : List ℕ) → let reply = (call_effect side log (calls.SendDatagram payload None)).reply in sent_reply (sent_in reply) ≡ reply
+    datagram_comes payload = subst (λ (x : Effect). sent_reply (sent_in x.reply) ≡ x.reply) (leads side log (calls.SendDatagram payload None) (datagram_plan now payload session) (datagram_by_log payload))
         (sent_comes now side log payload session)
 
     pub end_comes : let reply = (call_effect side log calls.Closed).reply in closed_poll_reply (closed_in reply) ≡ reply
     end_comes = subst (λ (x : Effect). closed_poll_reply (closed_in x.reply) ≡ x.reply) (leads side log calls.Closed (closed_plan now) closed_by_log) (closed_comes now side log)
 
-    pub size_replies : replies.Size (payload_limit session d.inbox.transport.datagram_fact) ≡ (call_effect side log calls.MaxDatagramSize).reply
-    size_replies = ap (λ (x : Effect). x.reply) (leads side log calls.MaxDatagramSize _ size_by_log)
+    pub size_replies : replies.Size (payload_limit session d.inbox.transport.datagram_fact) ≡ (call_effect side log (calls.MaxDatagramSize None)).reply
+    size_replies = ap (λ (x : Effect). x.reply) (leads side log (calls.MaxDatagramSize None) _ size_by_log)
 
     pub close_replies : (code : ℕ) (reason : List ℕ) → replies.Done ≡ (call_effect side log (calls.Close code reason)).reply
     close_replies code reason = ap (λ (x : Effect). x.reply) (leads side log (calls.Close code reason) _ (close_by_log code reason))

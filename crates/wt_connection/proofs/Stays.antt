@@ -193,6 +193,7 @@ past-first side log calls.Forbidden p f = absurd (cc)
 past-first side log calls.NotFound p f = absurd (cc)
 past-first side log calls.TooManyRequests p f = absurd (cc)
 past-first side log calls.Handshake p f = absurd (cc)
+past-first side log (calls.EndSession session) p f = absurd (cc)
 past-first side log _ p f = ap not f
 
 session-happened : (log : Log) (session : ℕ) → IsEstablished log session → is_first log ≡ false

@@ -19,4 +19,5 @@ is_past_handshake calls.Forbidden = false
 is_past_handshake calls.NotFound = false
 is_past_handshake calls.TooManyRequests = false
 is_past_handshake calls.Handshake = false
+is_past_handshake (calls.EndSession session) = false
 is_past_handshake _ = true

@@ -171,7 +171,7 @@ impl Connection {
     /// The session's id.
     pub fn session_id(&self) -> SessionId
         ensures now { result ≡ self.now }
-        ensures reply { (side : Side) (log : Log) → IsEstablished log self.now → replies.Id result ≡ (call_effect side log calls.SessionId).reply }
+        ensures reply { (side : Side) (log : Log) → IsEstablished log self.now → replies.Id result ≡ (call_effect side log (calls.SessionId None)).reply }
     {
         self.session
     }
@@ -192,9 +192,9 @@ impl Connection {
         alloc: Global,
         d: &mut Driver,
     ) -> Result<Poll<Result<RecvStream, ConnectionError>>, OutOfMemory>
-        ensures reply { IfOk result (RepliesTo d.old (HasSession self.old) calls.AcceptUni (poll_reply replies.Uni)) }
-        ensures log { OnOk result (LeadsOn d.old (HasSession self.old) calls.AcceptUni d.new) }
-        ensures in_log { IfOk result (Gives d.old (HasSession self.old) calls.AcceptUni HasReceiving) }
+        ensures reply { IfOk result (RepliesTo d.old (HasSession self.old) (calls.AcceptUni None) (poll_reply replies.Uni)) }
+        ensures log { OnOk result (LeadsOn d.old (HasSession self.old) (calls.AcceptUni None) d.new) }
+        ensures in_log { IfOk result (Gives d.old (HasSession self.old) (calls.AcceptUni None) HasReceiving) }
         ensures same { self.new ≡ self.old }
     {
         Ok(receiving_half(acting::accept_uni(alloc, d, self.session)?))
@@ -214,10 +214,10 @@ impl Connection {
         alloc: Global,
         d: &mut Driver,
     ) -> Result<Poll<Result<(SendStream, RecvStream), ConnectionError>>, OutOfMemory>
-        ensures reply { IfOk result (RepliesTo d.old (HasSession self.old) calls.AcceptBi (poll_reply (λ halves. replies.Bi halves.0))) }
-        ensures log { OnOk result (LeadsOn d.old (HasSession self.old) calls.AcceptBi d.new) }
-        ensures send_stands { IfOk result (Gives d.old (HasSession self.old) calls.AcceptBi (λ halves. HasSending halves.0)) }
-        ensures recv_stands { IfOk result (Gives d.old (HasSession self.old) calls.AcceptBi (λ halves. HasReceiving halves.1)) }
+        ensures reply { IfOk result (RepliesTo d.old (HasSession self.old) (calls.AcceptBi None) (poll_reply (λ halves. replies.Bi halves.0))) }
+        ensures log { OnOk result (LeadsOn d.old (HasSession self.old) (calls.AcceptBi None) d.new) }
+        ensures send_stands { IfOk result (Gives d.old (HasSession self.old) (calls.AcceptBi None) (λ halves. HasSending halves.0)) }
+        ensures recv_stands { IfOk result (Gives d.old (HasSession self.old) (calls.AcceptBi None) (λ halves. HasReceiving halves.1)) }
         ensures halves { IfOk result (λ a. IsOneStream a) }
         ensures same { self.new ≡ self.old }
     {
@@ -238,8 +238,8 @@ impl Connection {
         alloc: Global,
         d: &mut Driver,
     ) -> Result<Poll<Result<Datagram, ConnectionError>>, OutOfMemory>
-        ensures reply { IfOk result (RepliesTo d.old (HasSession self.old) calls.ReceiveDatagram (poll_reply (λ datagram. replies.Datagram datagram.payload))) }
-        ensures log { OnOk result (LeadsOn d.old (HasSession self.old) calls.ReceiveDatagram d.new) }
+        ensures reply { IfOk result (RepliesTo d.old (HasSession self.old) (calls.ReceiveDatagram None) (poll_reply (λ datagram. replies.Datagram datagram.payload))) }
+        ensures log { OnOk result (LeadsOn d.old (HasSession self.old) (calls.ReceiveDatagram None) d.new) }
         ensures session { IfOk result (λ a. IfGiven a (λ datagram. datagram.session ≡ self.old)) }
         ensures carried { IfOk result (λ a. IfGiven a (λ datagram. session_datagram datagram.bytes ≡ Ok datagram)) }
         ensures same { self.new ≡ self.old }
@@ -263,9 +263,9 @@ impl Connection {
         alloc: Global,
         d: &mut Driver,
     ) -> Result<Poll<Result<OpeningUniStream, ConnectionError>>, OutOfMemory>
-        ensures reply { IfOk result (RepliesTo d.old (HasSession self.old) calls.OpenUni (poll_reply (λ stream. replies.Opening stream.id))) }
-        ensures log { OnOk result (LeadsOn d.old (HasSession self.old) calls.OpenUni d.new) }
-        ensures in_log { IfOk result (Gives d.old (HasSession self.old) calls.OpenUni (HasOpening false)) }
+        ensures reply { IfOk result (RepliesTo d.old (HasSession self.old) (calls.OpenUni None) (poll_reply (λ stream. replies.Opening stream.id))) }
+        ensures log { OnOk result (LeadsOn d.old (HasSession self.old) (calls.OpenUni None) d.new) }
+        ensures in_log { IfOk result (Gives d.old (HasSession self.old) (calls.OpenUni None) (HasOpening false)) }
         ensures same { self.new ≡ self.old }
     {
         let plan = connection_plans::open_uni(alloc, transport(d), self.session)?;
@@ -286,9 +286,9 @@ impl Connection {
         alloc: Global,
         d: &mut Driver,
     ) -> Result<Poll<Result<OpeningBiStream, ConnectionError>>, OutOfMemory>
-        ensures reply { IfOk result (RepliesTo d.old (HasSession self.old) calls.OpenBi (poll_reply (λ stream. replies.Opening stream.id))) }
-        ensures log { OnOk result (LeadsOn d.old (HasSession self.old) calls.OpenBi d.new) }
-        ensures in_log { IfOk result (Gives d.old (HasSession self.old) calls.OpenBi (HasOpening true)) }
+        ensures reply { IfOk result (RepliesTo d.old (HasSession self.old) (calls.OpenBi None) (poll_reply (λ stream. replies.Opening stream.id))) }
+        ensures log { OnOk result (LeadsOn d.old (HasSession self.old) (calls.OpenBi None) d.new) }
+        ensures in_log { IfOk result (Gives d.old (HasSession self.old) (calls.OpenBi None) (HasOpening true)) }
         ensures same { self.new ≡ self.old }
     {
         let plan = connection_plans::open_bi(alloc, transport(d), self.session)?;
@@ -311,8 +311,8 @@ impl Connection {
         d: &mut Driver,
         payload: &[u8],
     ) -> Result<Result<(), SendDatagramError>, OutOfMemory>
-        ensures reply { IfOk result (RepliesTo d.old (HasSession self.old) (calls.SendDatagram payload.now) sent_reply) }
-        ensures log { OnOk result (LeadsOn d.old (HasSession self.old) (calls.SendDatagram payload.now) d.new) }
+        ensures reply { IfOk result (RepliesTo d.old (HasSession self.old) (calls.SendDatagram payload.now None) sent_reply) }
+        ensures log { OnOk result (LeadsOn d.old (HasSession self.old) (calls.SendDatagram payload.now None) d.new) }
         ensures same { self.new ≡ self.old }
     {
         let t = transport(d);
@@ -324,8 +324,8 @@ impl Connection {
     ///
     /// It takes no memory.
     pub fn max_datagram_size(&self, d: &mut Driver) -> Option<u64>
-        ensures reply { RepliesTo d.old (HasSession self.now) calls.MaxDatagramSize replies.Size result }
-        ensures log { LeadsOn d.old (HasSession self.now) calls.MaxDatagramSize d.new }
+        ensures reply { RepliesTo d.old (HasSession self.now) (calls.MaxDatagramSize None) replies.Size result }
+        ensures log { LeadsOn d.old (HasSession self.now) (calls.MaxDatagramSize None) d.new }
     {
         let limit = connection_plans::payload_limit(transport(d), self.session);
         record(d, &Record::Polled);

@@ -24,7 +24,7 @@ use Rattle.wt_seam_spec.specs.Outgoing.{bytes_within_credit, if_open, may_open, 
 use Rattle.wt_seam_spec.specs.Reports.{datagram_fact, end_of, is_acknowledged, is_connected, stop_of}
 use Rattle.wt_seam_spec.specs.Sent.{is_finished}
 use Rattle.wt_seam_spec.specs.Streams.{contents, local_bi, local_count, local_uni, peer_bi, peer_uni, stream_count}
-use Rattle.wt_spec.specs.Answers.{call_effect, in_session, log_after, log_from, on_receiving, on_sending, on_session, receive}
+use Rattle.wt_spec.specs.Answers.{call_effect, in_session, log_after, log_from, named_session, on_receiving, on_sending, on_session, receive}
 use Rattle.wt_spec.specs.Connect.{address_of, authority_of, connect, connect_to, outcome_error, path_of, port_of, request_head, reserved_name, server_name, unless_stopped, with_address}
 use Rattle.wt_spec.specs.Connection.{accept_stream, datagram_allowed, datagram_within, ends_opening, is_opening, open_stream, poll_opening, receive_datagram, send_datagram, send_header, starts_opening, stream_header}
 use Rattle.wt_spec.specs.Driver.{call_view, established_session, flush, is_moment, log_and_flush, settings_came, stream_table}
@@ -153,8 +153,8 @@ module _ (side : Side) (log : Log) (held : FitsAndRests side log) where
   send-leads : (payload : List ℕ) (s : ℕ) → Leads side (send_datagram side log payload s)
   send-leads payload s = either side (is_open log) _ _ (allowed-leads (datagram_bytes (s / 4) payload) (datagram_fact (events_of log))) (polls [] _)
 
-  session-leads : (call : ℕ → Effect) → ((s : ℕ) → Leads side (call s)) → Leads side (on_session side log call)
-  session-leads call f = by (established_session (calls_of log))
+  session-leads : (name : Option ℕ) (call : ℕ → Effect) → ((s : ℕ) → Leads side (call s)) → Leads side (on_session side log name call)
+  session-leads name call f = by (named_session name (established_session (calls_of log)))
     where
       by : (o : Option (ℕ × ℕ)) → Leads side (in_session side log call o)
       by None = polls [] replies.NoSession
@@ -323,17 +323,18 @@ module _ (side : Side) (log : Log) (held : FitsAndRests side log) where
   call-leads (calls.Accept headers) = starting true _
   call-leads calls.Handshake = continue-leads (handshake_state (calls_of log))
   call-leads (calls.EndpointClose code reason) = polls (if_open log (actions.Close code reason)) _
-  call-leads calls.AcceptUni = session-leads _ (λ s. accepting replies.Uni (peer_uni side) s)
-  call-leads calls.AcceptBi = session-leads _ (λ s. accepting replies.Bi (peer_bi side) s)
-  call-leads calls.ReceiveDatagram = session-leads _ receiving
-  call-leads calls.OpenUni = session-leads _ (λ s. open-leads (local_uni side) s (inl refl))
-  call-leads calls.OpenBi = session-leads _ (λ s. open-leads (local_bi side) s (inr refl))
-  call-leads (calls.PollOpening id) = session-leads _ (λ s. opening-leads id s)
-  call-leads (calls.SendDatagram payload) = session-leads _ (λ s. send-leads payload s)
-  call-leads calls.MaxDatagramSize = session-leads _ (λ s. polls [] _)
-  call-leads calls.SessionId = session-leads _ (λ s. polls [] _)
-  call-leads (calls.Close code reason) = session-leads _ (λ s. polls (if_open log (actions.Close code reason)) _)
-  call-leads calls.Closed = session-leads _ (λ s. polls [] _)
+  call-leads (calls.AcceptUni session) = session-leads session _ (λ s. accepting replies.Uni (peer_uni side) s)
+  call-leads (calls.AcceptBi session) = session-leads session _ (λ s. accepting replies.Bi (peer_bi side) s)
+  call-leads (calls.ReceiveDatagram session) = session-leads session _ receiving
+  call-leads (calls.OpenUni session) = session-leads session _ (λ s. open-leads (local_uni side) s (inl refl))
+  call-leads (calls.OpenBi session) = session-leads session _ (λ s. open-leads (local_bi side) s (inr refl))
+  call-leads (calls.PollOpening id) = session-leads None _ (λ s. opening-leads id s)
+  call-leads (calls.SendDatagram payload session) = session-leads session _ (λ s. send-leads payload s)
+  call-leads (calls.MaxDatagramSize session) = session-leads session _ (λ s. polls [] _)
+  call-leads (calls.SessionId session) = session-leads session _ (λ s. polls [] _)
+  call-leads (calls.EndSession session) = polls [] _
+  call-leads (calls.Close code reason) = session-leads None _ (λ s. polls (if_open log (actions.Close code reason)) _)
+  call-leads calls.Closed = session-leads None _ (λ s. polls [] _)
   call-leads (calls.Write id bytes) = sends id _ (write-leads written_reply id bytes (write_error log id))
   call-leads (calls.WriteAll id bytes) = sends id _ (write-leads all_written_reply id bytes (write_error log id))
   call-leads (calls.Finish id) = sends id _ (polls (finish_once log id) _)

@@ -25,6 +25,7 @@ use Rattle.wt_seam_spec.specs.Outgoing.{bytes_within_credit, if_open, may_open, 
 use Rattle.wt_seam_spec.specs.Reports.{datagram_fact, datagrams_of, end_of, is_acknowledged, is_connected, stop_of}
 use Rattle.wt_seam_spec.specs.Sent.{is_finished}
 use Rattle.wt_seam_spec.specs.Streams.{contents, local_bi, local_count, local_uni, peer_bi, peer_count, peer_uni, stream_count}
+use Rattle.wt_spec.proofs.Named.{by-name}
 use Rattle.wt_spec.specs.Answers.{call_effect, in_session, is_client, is_first, is_lawful, log_after, may_call, may_respond, on_receiving, on_sending, on_session, receive}
 use Rattle.wt_spec.specs.Connect.{address_of, authority_of, connect, connect_to, outcome_error, path_of, port_of, request_head, reserved_name, server_name, unless_stopped, with_address}
 use Rattle.wt_spec.specs.Connection.{accept_due, accept_first, datagram_allowed, datagram_within, ends_opening, give_or_pass, is_for_session, is_opening, next_datagram, next_due, open_stream, pass_stream, poll_opening, read_datagram, receive_first, receive_next, receive_or_pass, send_datagram, starts_opening, stream_header}
@@ -195,12 +196,9 @@ module _ (side : Side) (log : Log) (fits : Fits side log) (uses : Uses side log)
   send-uses : (payload : List ℕ) (s : ℕ) → LeadsUses side (send_datagram side log payload s)
   send-uses payload s = either side (is_open log) _ _ (allowed-uses (datagram_bytes (s / 4) payload) (datagram_fact (events_of log))) (polls [] _)
 
-  session-uses : (call : ℕ → Effect) → (RequestOpened side log → (s : ℕ) → LeadsUses side (call s)) → LeadsUses side (on_session side log call)
-  session-uses call f = by (established_session (calls_of log)) refl
-    where
-      by : (o : Option (ℕ × ℕ)) → established_session (calls_of log) ≡ o → LeadsUses side (in_session side log call o)
-      by None e = polls [] replies.NoSession
-      by (Some s) e = f (established-opened side log s uses e) s.0
+  session-uses : (name : Option ℕ) (call : ℕ → Effect) → (RequestOpened side log → (s : ℕ) → LeadsUses side (call s)) → LeadsUses side (on_session side log name call)
+  session-uses name call f = by-name (λ o. LeadsUses side (in_session side log call o)) name (established_session (calls_of log)) (λ n. polls [] replies.NoSession)
+      (λ s e n. f (established-opened side log s uses e) s.0)
 
   -- ---- halves
 
@@ -407,8 +405,8 @@ module _ (side : Side) (log : Log) (fits : Fits side log) (uses : Uses side log)
   receives k call p = half-leads side log fits uses (has_receiving_half side log k) call k p
 
   -- a session's call
-  on-session : (call : ℕ → Effect) → (RequestOpened side log → (s : ℕ) → LeadsUses side (call s)) → LeadsUses side (on_session side log call)
-  on-session call f = session-uses side log fits uses call f
+  on-session : (name : Option ℕ) (call : ℕ → Effect) → (RequestOpened side log → (s : ℕ) → LeadsUses side (call s)) → LeadsUses side (on_session side log name call)
+  on-session name call f = session-uses side log fits uses name call f
 
   -- a call that only polls
   plain : (own : List Action) (reply : Reply) → LeadsUses side (poll_sending side log own reply)
@@ -421,17 +419,18 @@ module _ (side : Side) (log : Log) (fits : Fits side log) (uses : Uses side log)
   call-uses (calls.Accept headers) may = starting side log fits uses true _ may
   call-uses calls.Handshake may = continue-uses side log fits uses (handshake_state (calls_of log)) refl
   call-uses (calls.EndpointClose code reason) may = plain (if_open log (actions.Close code reason)) _
-  call-uses calls.AcceptUni may = on-session _ (λ o s. accept-uses side replies.Uni (peer_uni side) s (suc (peer_count side (events_of log) (peer_uni side))) log fits uses)
-  call-uses calls.AcceptBi may = on-session _ (λ o s. accept-uses side replies.Bi (peer_bi side) s (suc (peer_count side (events_of log) (peer_bi side))) log fits uses)
-  call-uses calls.ReceiveDatagram may = on-session _ (λ o s. receive-uses side s (suc (length (datagrams_of (events_of log)))) log uses)
-  call-uses calls.OpenUni may = on-session _ (λ o s. open-uses side log fits uses (local_uni side) s o (inl refl))
-  call-uses calls.OpenBi may = on-session _ (λ o s. open-uses side log fits uses (local_bi side) s o (inr refl))
-  call-uses (calls.PollOpening id) may = on-session _ (λ o s. opening-leads side log fits uses id s)
-  call-uses (calls.SendDatagram payload) may = on-session _ (λ o s. send-uses side log fits uses payload s)
-  call-uses calls.MaxDatagramSize may = on-session _ (λ o s. plain [] _)
-  call-uses calls.SessionId may = on-session _ (λ o s. plain [] _)
-  call-uses (calls.Close code reason) may = on-session _ (λ o s. plain (if_open log (actions.Close code reason)) _)
-  call-uses calls.Closed may = on-session _ (λ o s. plain [] _)
+  call-uses (calls.AcceptUni session) may = on-session session _ (λ o s. accept-uses side replies.Uni (peer_uni side) s (suc (peer_count side (events_of log) (peer_uni side))) log fits uses)
+  call-uses (calls.AcceptBi session) may = on-session session _ (λ o s. accept-uses side replies.Bi (peer_bi side) s (suc (peer_count side (events_of log) (peer_bi side))) log fits uses)
+  call-uses (calls.ReceiveDatagram session) may = on-session session _ (λ o s. receive-uses side s (suc (length (datagrams_of (events_of log)))) log uses)
+  call-uses (calls.OpenUni session) may = on-session session _ (λ o s. open-uses side log fits uses (local_uni side) s o (inl refl))
+  call-uses (calls.OpenBi session) may = on-session session _ (λ o s. open-uses side log fits uses (local_bi side) s o (inr refl))
+  call-uses (calls.PollOpening id) may = on-session None _ (λ o s. opening-leads side log fits uses id s)
+  call-uses (calls.SendDatagram payload session) may = on-session session _ (λ o s. send-uses side log fits uses payload s)
+  call-uses (calls.MaxDatagramSize session) may = on-session session _ (λ o s. plain [] _)
+  call-uses (calls.SessionId session) may = on-session session _ (λ o s. plain [] _)
+  call-uses (calls.EndSession session) may = plain [] _
+  call-uses (calls.Close code reason) may = on-session None _ (λ o s. plain (if_open log (actions.Close code reason)) _)
+  call-uses calls.Closed may = on-session None _ (λ o s. plain [] _)
   call-uses (calls.Write id bytes) may = sends id _ (write-uses side log fits uses written_reply id bytes (write_error log id))
   call-uses (calls.WriteAll id bytes) may = sends id _ (write-uses side log fits uses all_written_reply id bytes (write_error log id))
   call-uses (calls.Finish id) may = sends id _ (plain (finish_once log id) _)

@@ -25,12 +25,13 @@ use Rattle.wt_wire.specs.declared.side.Side.TheVariants.{Client, Server}
 use Rattle.wt_wire.specs.declared.side.StreamEnd.{StreamEnd}
 use Rattle.wt_laws.proofs.Caused.{Caused, caused-accept, caused-connect-to, caused-continue, caused-deliver, caused-receive, caused-start, covered-whole, either, head-out, leaf, not-stopped, own-if, own-send, polled, unrefused, unrefused-whole}
 use Rattle.wt_laws.proofs.Steps.{EventNow, ByByte, ByEvent, ByLate, Nothing, Steps, blind-actions, blind-flush, calls-with}
-use Rattle.wt_laws.specs.Causes.{ByAcceptance, ByOpening, ByRejection, CloseCause, DatagramOf, FoundStream, OfCall, OfEndpoint, OfHeader, OfWrite, OwnCauses, accepted_kind, asked_size, bytes_for, head_frame_of, is_accept, is_receive, opened_kind, polls_opening, reads_from}
+use Rattle.wt_laws.specs.Causes.{ByAcceptance, ByOpening, ByRejection, CloseCause, DatagramOf, FoundStream, OfCall, OfEndpoint, OfHeader, OfWrite, OwnCauses, accepted_kind, asked_size, bytes_for, head_frame_of, is_accept, is_receive, name_in, opened_kind, polls_opening, reads_from}
 use Rattle.wt_turn.specs.Turns.{event_of, is_call}
 use Rattle.wt_laws.specs.RecordCauses.{AtEnd, HeaderStopped}
 use Rattle.wt_laws.specs.ReplyCauses.{AtClose, AtDatagram, AtEndpointClose, AtEvent, AtFinish, AtOpening, AtPriority, AtReset, AtStop, AtWrite, DoneCause, GivenStream, HeadUnsent, NoStreamToOpen, NoWriteCredit, NotClosed, NotEnded, NothingUnread, OfTheStream, ReplyCause, StoppedCause, TooFewUnread, asks_for_session, half_of, is_closed_error, needs_half, waits_for_end}
 use Rattle.wt_laws.specs.ReplyTells.{NoRecord, NonePassed, given_stream, is_quiet, read_piece}
-use Rattle.wt_spec.specs.Answers.{call_effect, in_session, is_client, is_first, is_lawful, may_call, may_respond, on_session, receive, turn_effect}
+use Rattle.wt_spec.proofs.Named.{by-name}
+use Rattle.wt_spec.specs.Answers.{call_effect, in_session, is_client, is_first, is_lawful, may_call, may_respond, named_session, names, on_session, receive, turn_effect}
 use Rattle.wt_spec.specs.Connection.{accept_stream, close_connection, closed_reply, continue_opening, datagram_allowed, datagram_within, is_opening, open_stream, payload_limit, poll_opening, receive_datagram, send_datagram, stream_header}
 use Rattle.wt_spec.specs.Driver.{established_session, flush, log_and_flush}
 use Rattle.wt_spec.specs.Effect.{Effect, head_left, is_covered, log_call, poll_sending, reply_with, transport_error}
@@ -53,15 +54,15 @@ module _ (side : Side) (turn : Turn) (by_call : is_call turn ≡ true) where
   local-kind : (kind n : ℕ) → nat_lt kind 4 ≡ true → (4 * n + kind) % 4 ≡ kind
   local-kind kind n l = let f : kind < 4 = ltb-true kind 4 l in omega arith
 
-  caused-open : (log : Log) (kind s offset : ℕ) → opened_kind side turn ≡ Some kind → nat_lt kind 4 ≡ true → (kind == local_uni side || kind == local_bi side) ≡ true → established_session (calls_of log) ≡ Some (s, offset) → Caused side turn log (open_stream side log kind s)
-  caused-open log kind s offset q l z d =
+  caused-open : (log : Log) (kind s offset : ℕ) → opened_kind side turn ≡ Some kind → nat_lt kind 4 ≡ true → (kind == local_uni side || kind == local_bi side) ≡ true → names (name_in turn) s ≡ true → established_session (calls_of log) ≡ Some (s, offset) → Caused side turn log (open_stream side log kind s)
+  caused-open log kind s offset q l z n d =
       either side turn by_call (not (is_open log)) _ _ (λ o. polled side turn by_call log _ refl (AtOpening kind q (not-true _ o) refl)) (λ o.
       either side turn by_call (may_open side log kind) _ _ (λ m. opens m (not-false _ o)) (λ m. polled side turn by_call log replies.Pending refl (not-false _ o, NoStreamToOpen kind q m)))
     where
       opens : may_open side log kind ≡ true → is_open log ≡ true → Caused side turn log (reply_with (log_call side log (actions_to_open side log kind) (OpeningStarted (next_id side log kind) s)) (replies.Opening (next_id side log kind)))
       opens m o =
-          leaf side turn by_call log (actions_to_open side log kind) (OpeningStarted (next_id side log kind) s) (replies.Opening (next_id side log kind)) (rw m ((o, kind, m, refl, z, OfCall s offset q d), tt))
-          (record { cause = record { opens = q ∙ ap Some (sym (local-kind kind (stream_count side log kind) l)); offset = offset; is_established = ap established_session (calls-with (actions_to_open side log kind) log) ∙ d; earlier = log; sent = rw m refl; allowed = rw (local-kind kind (stream_count side log kind) l) m; is_next = rw (local-kind kind (stream_count side log kind) l) refl }; kind = kind; own_is = refl; may = m; is_next = refl; small = l }) refl (o, kind, q, m, refl)
+          leaf side turn by_call log (actions_to_open side log kind) (OpeningStarted (next_id side log kind) s) (replies.Opening (next_id side log kind)) (rw m ((o, kind, m, refl, z, OfCall s offset q n d), tt))
+          (record { cause = record { opens = q ∙ ap Some (sym (local-kind kind (stream_count side log kind) l)); offset = offset; is_named = n; is_established = ap established_session (calls-with (actions_to_open side log kind) log) ∙ d; earlier = log; sent = rw m refl; allowed = rw (local-kind kind (stream_count side log kind) l) m; is_next = rw (local-kind kind (stream_count side log kind) l) refl }; kind = kind; own_is = refl; may = m; is_next = refl; small = l }) refl (o, kind, q, m, refl)
 
   still-opening : (own : List Action) (log : Log) (k : ℕ) → is_opening (with_actions own log) k ≡ is_opening log k
   still-opening own log k = blind-actions (λ g. is_opening g k) (λ a g. refl) own log
@@ -114,9 +115,9 @@ module _ (side : Side) (turn : Turn) (by_call : is_call turn ≡ true) where
   caused-allowed log bytes None t o e = polled side turn by_call log _ refl (bytes, t, inr e)
   caused-allowed log bytes (Some fact) t o e = caused-within log bytes fact t o e
 
-  caused-send-datagram : (log : Log) (payload : List ℕ) (s offset : ℕ) → established_session (calls_of log) ≡ Some (s, offset) → turn ≡ turns.Call (calls.SendDatagram payload) → Caused side turn log (send_datagram side log payload s)
-  caused-send-datagram log payload s offset d t =
-      let x : DatagramOf turn log (datagram_bytes (s / 4) payload) = record { payload = payload; session = s; offset = offset; sends = t; is_established = d; bytes_are = refl } in
+  caused-send-datagram : (log : Log) (payload : List ℕ) (name : Option ℕ) (s offset : ℕ) → names name s ≡ true → established_session (calls_of log) ≡ Some (s, offset) → turn ≡ turns.Call (calls.SendDatagram payload name) → Caused side turn log (send_datagram side log payload s)
+  caused-send-datagram log payload name s offset n d t =
+      let x : DatagramOf turn log (datagram_bytes (s / 4) payload) = record { payload = payload; name = name; session = s; offset = offset; sends = t; is_named = n; is_established = d; bytes_are = refl } in
       either side turn by_call (is_open log) _ _ (λ o. caused-allowed log (datagram_bytes (s / 4) payload) _ x o refl) (λ o. polled side turn by_call log _ refl (datagram_bytes (s / 4) payload, x, inl o))
 
   -- ---- the rest of a session's calls
@@ -128,9 +129,14 @@ module _ (side : Side) (turn : Turn) (by_call : is_call turn ≡ true) where
   closed-so log true t o = (o, NotClosed t)
   closed-so log false t o = (t, o, refl)
 
-  caused-session : (log : Log) (call : ℕ → Effect) (o : Option (ℕ × ℕ)) → asks_for_session turn ≡ true → established_session (calls_of log) ≡ o → ((s offset : ℕ) → established_session (calls_of log) ≡ Some (s, offset) → Caused side turn log (call s)) → Caused side turn log (in_session side log call o)
-  caused-session log call None a e f = polled side turn by_call log replies.NoSession refl (a, e)
-  caused-session log call (Some s) a e f = f s.0 s.1 e
+  caused-session : (log : Log) (name : Option ℕ) (call : ℕ → Effect) → asks_for_session turn ≡ true → name_in turn ≡ name
+      → ((s offset : ℕ) → names name s ≡ true → established_session (calls_of log) ≡ Some (s, offset) → Caused side turn log (call s)) → Caused side turn log (on_session side log name call)
+  caused-session log name call a t f = by-name (λ o. Caused side turn log (in_session side log call o)) name (established_session (calls_of log))
+      (λ n. polled side turn by_call log replies.NoSession refl (a, ap (λ m. named_session m (established_session (calls_of log))) t ∙ n)) (λ s e n. f s.0 s.1 n e)
+
+  -- the turn names the session that the call does
+  so-named : (name : Option ℕ) (s : ℕ) → name_in turn ≡ name → names name s ≡ true → names (name_in turn) s ≡ true
+  so-named name s t n = ap (λ m. names m s) t ∙ n
 
   -- ---- sending halves
 
@@ -293,11 +299,11 @@ module _ (side : Side) (turn : Turn) (by_call : is_call turn ≡ true) where
   given-stream : (log : Log) (kind k : ℕ) → accepted_kind side turn ≡ kind → FoundStream side turn log k true → GivenStream side turn log kind k
   given-stream log kind k e f = (f, e)
 
-  accepts : (log : Log) (reply : ℕ → Reply) (kind : ℕ) → is_accept turn ≡ true → asks_for_session turn ≡ true → accepted_kind side turn ≡ kind → ((k : ℕ) → given_stream (reply k) ≡ Some k) → ((g : Log) (k : ℕ) → FoundStream side turn g k true → ReplyCause side turn g (reply k))
-      → Caused side turn log (on_session side log (accept_stream side reply kind log))
-  accepts log reply kind a w e t q =
-      caused-session log (accept_stream side reply kind log) (established_session (calls_of log)) w refl
-      (λ s offset d. subst (λ n. Caused side turn log (accept_stream side reply n log s)) e (caused-accept side turn by_call a s offset reply t q log d))
+  accepts : (log : Log) (name : Option ℕ) (reply : ℕ → Reply) (kind : ℕ) → name_in turn ≡ name → is_accept turn ≡ true → asks_for_session turn ≡ true → accepted_kind side turn ≡ kind → ((k : ℕ) → given_stream (reply k) ≡ Some k) → ((g : Log) (k : ℕ) → FoundStream side turn g k true → ReplyCause side turn g (reply k))
+      → Caused side turn log (on_session side log name (accept_stream side reply kind log))
+  accepts log name reply kind x a w e t q =
+      caused-session log name (accept_stream side reply kind log) w x
+      (λ s offset n d. subst (λ n. Caused side turn log (accept_stream side reply n log s)) e (caused-accept side turn by_call a s offset (so-named name s x n) reply t q log d))
 
   caused-call : (log : Log) (c : Call) → turn ≡ turns.Call c → may_call side log c ≡ true → Caused side turn log (call_effect side log c)
   unfolding call_effect
@@ -312,24 +318,25 @@ module _ (side : Side) (turn : Turn) (by_call : is_call turn ≡ true) where
   caused-call log calls.TooManyRequests t l = rejects log (response_bytes (codes "429")) (ap head_frame_of t) l
   caused-call log calls.Handshake t l = caused-continue side turn by_call log (handshake_state (calls_of log)) t refl l
   caused-call log (calls.EndpointClose code reason) t l = caused-close log code reason (OfEndpoint t) (AtEndpointClose code reason t)
-  caused-call log calls.AcceptUni t l = accepts log replies.Uni (peer_uni side) (ap is_accept t) (ap asks_for_session t) (ap (accepted_kind side) t) (λ k. refl) (λ g k f. given-stream g (peer_uni side) k (ap (accepted_kind side) t) f)
-  caused-call log calls.AcceptBi t l = accepts log replies.Bi (peer_bi side) (ap is_accept t) (ap asks_for_session t) (ap (accepted_kind side) t) (λ k. refl) (λ g k f. given-stream g (peer_bi side) k (ap (accepted_kind side) t) f)
-  caused-call log calls.ReceiveDatagram t l =
-      caused-session log (receive_datagram side log) (established_session (calls_of log)) (ap asks_for_session t) refl (λ s offset d. caused-receive side turn by_call (ap is_receive t) s offset (suc (length (datagrams_of (events_of log)))) log d (omega arith))
-  caused-call log calls.OpenUni t l =
-      caused-session log (open_stream side log (local_uni side)) (established_session (calls_of log)) (ap asks_for_session t) refl
-      (λ s offset d. caused-open log (local_uni side) s offset (ap (opened_kind side) t) (small-local side).0 (or_left _ _ (eq-eqb (local_uni side) (local_uni side) refl)) d)
-  caused-call log calls.OpenBi t l =
-      caused-session log (open_stream side log (local_bi side)) (established_session (calls_of log)) (ap asks_for_session t) refl
-      (λ s offset d. caused-open log (local_bi side) s offset (ap (opened_kind side) t) (small-local side).1 (or_right (local_bi side == local_uni side) _ (eq-eqb (local_bi side) (local_bi side) refl)) d)
+  caused-call log (calls.AcceptUni session) t l = accepts log session replies.Uni (peer_uni side) (ap name_in t) (ap is_accept t) (ap asks_for_session t) (ap (accepted_kind side) t) (λ k. refl) (λ g k f. given-stream g (peer_uni side) k (ap (accepted_kind side) t) f)
+  caused-call log (calls.AcceptBi session) t l = accepts log session replies.Bi (peer_bi side) (ap name_in t) (ap is_accept t) (ap asks_for_session t) (ap (accepted_kind side) t) (λ k. refl) (λ g k f. given-stream g (peer_bi side) k (ap (accepted_kind side) t) f)
+  caused-call log (calls.ReceiveDatagram session) t l =
+      caused-session log session (receive_datagram side log) (ap asks_for_session t) (ap name_in t) (λ s offset n d. caused-receive side turn by_call (ap is_receive t) s offset (so-named session s (ap name_in t) n) (suc (length (datagrams_of (events_of log)))) log d (omega arith))
+  caused-call log (calls.OpenUni session) t l =
+      caused-session log session (open_stream side log (local_uni side)) (ap asks_for_session t) (ap name_in t)
+      (λ s offset n d. caused-open log (local_uni side) s offset (ap (opened_kind side) t) (small-local side).0 (or_left _ _ (eq-eqb (local_uni side) (local_uni side) refl)) (so-named session s (ap name_in t) n) d)
+  caused-call log (calls.OpenBi session) t l =
+      caused-session log session (open_stream side log (local_bi side)) (ap asks_for_session t) (ap name_in t)
+      (λ s offset n d. caused-open log (local_bi side) s offset (ap (opened_kind side) t) (small-local side).1 (or_right (local_bi side == local_uni side) _ (eq-eqb (local_bi side) (local_bi side) refl)) (so-named session s (ap name_in t) n) d)
   caused-call log (calls.PollOpening id) t l =
-      caused-session log (poll_opening side log id) (established_session (calls_of log)) (ap asks_for_session t) refl (λ s offset d. caused-poll log id s offset (ap (polls_opening id) t ∙ same-id id) d (ap (half_of side log) t))
-  caused-call log (calls.SendDatagram payload) t l =
-      caused-session log (send_datagram side log payload) (established_session (calls_of log)) (ap asks_for_session t) refl (λ s offset d. caused-send-datagram log payload s offset d t)
-  caused-call log calls.MaxDatagramSize t l = caused-session log _ (established_session (calls_of log)) (ap asks_for_session t) refl (λ s offset d. polled side turn by_call log (replies.Size (payload_limit s (datagram_fact (events_of log)))) refl (t, s, offset, d, refl))
-  caused-call log calls.SessionId t l = caused-session log _ (established_session (calls_of log)) (ap asks_for_session t) refl (λ s offset d. polled side turn by_call log (replies.Id s) refl (t, offset, d))
-  caused-call log (calls.Close code reason) t l = caused-session log _ (established_session (calls_of log)) (ap asks_for_session t) refl (λ s offset d. caused-close log code reason (OfCall s offset t d) (AtClose code reason t (ap is_some d)))
-  caused-call log calls.Closed t l = caused-session log _ (established_session (calls_of log)) (ap asks_for_session t) refl (λ s offset d. polled side turn by_call log (closed_reply log) (quiet-if (is_open log) replies.Pending (replies.Closed (transport_error log)) refl refl) (closed-so log (is_open log) t refl))
+      caused-session log None (poll_opening side log id) (ap asks_for_session t) (ap name_in t) (λ s offset n d. caused-poll log id s offset (ap (polls_opening id) t ∙ same-id id) d (ap (half_of side log) t))
+  caused-call log (calls.SendDatagram payload session) t l =
+      caused-session log session (send_datagram side log payload) (ap asks_for_session t) (ap name_in t) (λ s offset n d. caused-send-datagram log payload session s offset n d t)
+  caused-call log (calls.MaxDatagramSize session) t l = caused-session log session _ (ap asks_for_session t) (ap name_in t) (λ s offset n d. polled side turn by_call log (replies.Size (payload_limit s (datagram_fact (events_of log)))) refl (session, t, s, offset, n, d, refl))
+  caused-call log (calls.SessionId session) t l = caused-session log session _ (ap asks_for_session t) (ap name_in t) (λ s offset n d. polled side turn by_call log (replies.Id s) refl (session, t, n, offset, d))
+  caused-call log (calls.EndSession session) t l = absurd (cc)
+  caused-call log (calls.Close code reason) t l = caused-session log None _ (ap asks_for_session t) (ap name_in t) (λ s offset n d. caused-close log code reason (OfCall s offset t d) (AtClose code reason t (ap is_some d)))
+  caused-call log calls.Closed t l = caused-session log None _ (ap asks_for_session t) (ap name_in t) (λ s offset n d. polled side turn by_call log (closed_reply log) (quiet-if (is_open log) replies.Pending (replies.Closed (transport_error log)) refl refl) (closed-so log (is_open log) t refl))
   caused-call log (calls.Write id bytes) t l =
       let h = ap (bytes_for id) t ∙ rw (same-id id) refl in
       caused-half log _ id (has_sending_half side log id) (ap (half_of side log) t) (λ c. caused-write written_reply log id bytes (write_error log id) h c refl (quiet-written bytes (length (bytes_within_credit log id bytes))) (λ w o. written-reply log id bytes (length (bytes_within_credit log id bytes)) t refl h c w o))

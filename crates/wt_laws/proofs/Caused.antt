@@ -29,12 +29,12 @@ use Rattle.wt_wire.specs.declared.side.Side.TheVariants.{Client, Server}
 use Rattle.wt_laws.proofs.Classified.{next-is-due}
 use Rattle.wt_laws.proofs.Looks.{at-first, events-logged, left_to_release, next-within, pass-drops}
 use Rattle.wt_laws.proofs.Steps.{ByCall, Nothing, Steps, blind-actions, calls-logged, calls-with}
-use Rattle.wt_laws.specs.Causes.{ActionCause, ByAccept, ByAnswer, ByResponse, ConnectTo, Declines, DialCause, EndsStream, EstablishedBy, FoundDatagram, FoundStream, FromBefore, HandshakeCode, OfHandshake, OfPass, OfRejection, OfRequest, OfResponse, OwnCauses, Plain, Rejects, Reserves, ResponseFrom, ResponseIs, SendCause, StoppedEarly, Stops, accepted_kind, is_accept, is_receive, is_under_way}
+use Rattle.wt_laws.specs.Causes.{ActionCause, ByAccept, ByAnswer, ByResponse, ConnectTo, Declines, DialCause, EndsStream, EstablishedBy, FoundDatagram, FoundStream, FromBefore, HandshakeCode, OfHandshake, OfPass, OfRejection, OfRequest, OfResponse, OwnCauses, Plain, Rejects, Reserves, ResponseFrom, ResponseIs, SendCause, StoppedEarly, Stops, accepted_kind, is_accept, is_receive, is_under_way, name_in}
 use Rattle.wt_laws.specs.RecordCauses.{AcceptanceEnded, AcceptanceStopped, CallCause, ConnectEnded, NoMoreRequests, OverBy, OverCause, RejectionEnded}
 use Rattle.wt_laws.specs.ReplyCauses.{AfterSuccess, AsDriver, AtResponse, BeforeConnection, BeforeRequest, BeforeResponse, BeforeSettings, BeforeStream, ByRefusal, ByReserved, ByResponseFault, ByStatus, ByStop, ByStreamEnd, ConnectFailedCause, ConnectionEnded, Dialling, Finishing, HeadUnsent, NoAddress, NoConnection, NoDatagramLeft, NoRequest, NoResponse, NoSessionStream, NoSettings, NoStreamLeft, NoUrl, NotHttps, NotProceeding, OfTheRequest, OfTheResponse, PendingCause, RejectedCause, RejectionOver, RejectionRefused, ReplyCause, Unacknowledged, is_incoming}
 use Rattle.wt_turn.specs.Turns.{is_call}
 use Rattle.wt_laws.specs.ReplyTells.{Logged, NonePassed, OnePassed, OneRecord, HasPassed, TellsOf, ThenPolled, given_stream, is_pass, is_quiet}
-use Rattle.wt_spec.specs.Answers.{is_client}
+use Rattle.wt_spec.specs.Answers.{is_client, names}
 use Rattle.wt_spec.specs.Connect.{address_of, authority_of, connect_to, outcome_error, path_of, port_of, request_head, reserved_name, server_name, unless_stopped, with_address}
 use Rattle.wt_spec.specs.Connection.{accept_due, accept_first, accept_stream, give_or_pass, is_for_session, next_datagram, next_due, pass_stream, receive_first, receive_next, receive_or_pass}
 use Rattle.wt_spec.specs.Driver.{established_session, settings_came, released_datagrams, stream_table}
@@ -184,12 +184,12 @@ module _ (side : Side) (turn : Turn) (by_call : is_call turn ≡ true) where
   quiet-wait log true = refl
   quiet-wait log false = refl
 
-  pending-accept : (s offset : ℕ) (log : Log) (b : Bool) → is_accept turn ≡ true → established_session (calls_of log) ≡ Some (s, offset) → is_open log ≡ b → next_due side log (accepted_kind side turn) s ≡ None → ReplyCause side turn log (if b then replies.Pending else replies.Failed (driver_error side log))
-  pending-accept s offset log true a d o e = (o, NoStreamLeft s offset a d e)
-  pending-accept s offset log false a d o e = AsDriver (or_left (is_accept turn || is_receive turn) (is_incoming turn) (or_left (is_accept turn) (is_receive turn) a)) o refl
+  pending-accept : (s offset : ℕ) (log : Log) (b : Bool) → is_accept turn ≡ true → names (name_in turn) s ≡ true → established_session (calls_of log) ≡ Some (s, offset) → is_open log ≡ b → next_due side log (accepted_kind side turn) s ≡ None → ReplyCause side turn log (if b then replies.Pending else replies.Failed (driver_error side log))
+  pending-accept s offset log true a m d o e = (o, NoStreamLeft s offset a m d e)
+  pending-accept s offset log false a m d o e = AsDriver (or_left (is_accept turn || is_receive turn) (is_incoming turn) (or_left (is_accept turn) (is_receive turn) a)) o refl
 
-  found-it : (s offset : ℕ) (log : Log) (c : Classified) (b : Bool) → is_accept turn ≡ true → established_session (calls_of log) ≡ Some (s, offset) → next_due side log (accepted_kind side turn) s ≡ Some c → is_for_session s c.verdict ≡ b → FoundStream side turn log c.id b
-  found-it s offset log c b a d e n = record { accepts = a; session = s; offset = offset; is_established = d; found = c; is_next = e; same = refl; named = n }
+  found-it : (s offset : ℕ) (log : Log) (c : Classified) (b : Bool) → is_accept turn ≡ true → names (name_in turn) s ≡ true → established_session (calls_of log) ≡ Some (s, offset) → next_due side log (accepted_kind side turn) s ≡ Some c → is_for_session s c.verdict ≡ b → FoundStream side turn log c.id b
+  found-it s offset log c b a m d e n = record { accepts = a; session = s; offset = offset; is_named = m; is_established = d; found = c; is_next = e; same = refl; named = n }
 
   same-next : (s : ℕ) (log : Log) (k code kind : ℕ) → next_due side (Sent (actions.StopOut k code) ∷ log) kind s ≡ next_due side log kind s
   unfolding stream_table
@@ -204,18 +204,18 @@ module _ (side : Side) (turn : Turn) (by_call : is_call turn ≡ true) where
   open-due true own e n = refl
   open-due false own e n = absurd (cc)
 
-  module _ (a : is_accept turn ≡ true) (s offset : ℕ) (reply : ℕ → Reply) (t : (k : ℕ) → given_stream (reply k) ≡ Some k) (q : (log : Log) (k : ℕ) → FoundStream side turn log k true → ReplyCause side turn log (reply k)) where
+  module _ (a : is_accept turn ≡ true) (s offset : ℕ) (m : names (name_in turn) s ≡ true) (reply : ℕ → Reply) (t : (k : ℕ) → given_stream (reply k) ≡ Some k) (q : (log : Log) (k : ℕ) → FoundStream side turn log k true → ReplyCause side turn log (reply k)) where
     caused-give : (again : Log → Effect) (log : Log) (c : Classified) (b : Bool) → (b ≡ false → Caused side turn (pass_stream side log c.id) (again (pass_stream side log c.id))) → established_session (calls_of log) ≡ Some (s, offset)
         → next_due side log (accepted_kind side turn) s ≡ Some c → is_for_session s c.verdict ≡ b → (b ≡ false → is_open log ≡ true) → Caused side turn log (give_or_pass b side reply again log c.id)
-    caused-give again log c true f d e n o = call-decided log [] (StreamAccepted c.id) (reply c.id) tt (ByAccept (found-it s offset log c true a d e n)) (t c.id) (q log c.id (found-it s offset log c true a d e n))
+    caused-give again log c true f d e n o = call-decided log [] (StreamAccepted c.id) (reply c.id) tt (ByAccept (found-it s offset log c true a m d e n)) (t c.id) (q log c.id (found-it s offset log c true a m d e n))
     caused-give again log c false f d e n o =
-        again-after log (stopping c.id) (StreamPassed c.id) (or_left (is_accept turn) (is_receive turn) a) refl ((o refl, OfPass (found-it s offset log c false a d e n) refl), tt)
-        (found-it s offset (Sent (actions.StopOut c.id (code_of h3.BufferedStreamRejected)) ∷ log) c false a d (same-next s log c.id (code_of h3.BufferedStreamRejected) (accepted_kind side turn) ∙ e) n)
+        again-after log (stopping c.id) (StreamPassed c.id) (or_left (is_accept turn) (is_receive turn) a) refl ((o refl, OfPass (found-it s offset log c false a m d e n) refl), tt)
+        (found-it s offset (Sent (actions.StopOut c.id (code_of h3.BufferedStreamRejected)) ∷ log) c false a m d (same-next s log c.id (code_of h3.BufferedStreamRejected) (accepted_kind side turn) ∙ e) n)
         (f refl)
 
     caused-due : (again : Log → Effect) (log : Log) (o : Option Classified) → ((c : Classified) → next_due side log (accepted_kind side turn) s ≡ Some c → Caused side turn (pass_stream side log c.id) (again (pass_stream side log c.id)))
         → established_session (calls_of log) ≡ Some (s, offset) → next_due side log (accepted_kind side turn) s ≡ o → Caused side turn log (accept_due side reply again s log o)
-    caused-due again log None f d e = polled log (pending_or_failed side log) (quiet-wait log (is_open log)) (pending-accept s offset log (is_open log) a d refl e)
+    caused-due again log None f d e = polled log (pending_or_failed side log) (quiet-wait log (is_open log)) (pending-accept s offset log (is_open log) a m d refl e)
     caused-due again log (Some c) f d e =
         caused-give again log c (is_for_session s c.verdict) (λ n. f c e) d e refl (λ n. open-due (is_open log) (is_for_session s c.verdict) (next-is-due side log (accepted_kind side turn) s c e).turn_has_come n)
 
@@ -234,9 +234,9 @@ module _ (side : Side) (turn : Turn) (by_call : is_call turn ≡ true) where
   pending-receive log true a o e = (o, NoDatagramLeft a e)
   pending-receive log false a o e = AsDriver (or_left (is_accept turn || is_receive turn) (is_incoming turn) (or_right (is_accept turn) (is_receive turn) a)) o refl
 
-  module _ (a : is_receive turn ≡ true) (s offset : ℕ) where
+  module _ (a : is_receive turn ≡ true) (s offset : ℕ) (m : names (name_in turn) s ≡ true) where
     abbrev found-one : (log : Log) (d : ℕ × List ℕ) (b : Bool) → established_session (calls_of log) ≡ Some (s, offset) → next_datagram side log ≡ Some d → (4 * d.0 == s) ≡ b → FoundDatagram side turn log b
-    found-one log d b i e n = record { receives = a; session = s; offset = offset; is_established = i; datagram = d; is_next = e; named = n }
+    found-one log d b i e n = record { receives = a; session = s; offset = offset; is_named = m; is_established = i; datagram = d; is_next = e; named = n }
 
     caused-take : (again : Log → Effect) (log : Log) (d : ℕ × List ℕ) (b : Bool) → Caused side turn (log_call side log [] DatagramPassed) (again (log_call side log [] DatagramPassed))
         → established_session (calls_of log) ≡ Some (s, offset) → next_datagram side log ≡ Some d → (4 * d.0 == s) ≡ b → Caused side turn log (receive_or_pass b side again log d.1)

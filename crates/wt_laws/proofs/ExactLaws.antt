@@ -27,9 +27,11 @@ use Rattle.wt_wire.specs.declared.lookup.Lookup.{Lookup}
 use Rattle.wt_wire.specs.declared.side.Side.{Side}
 use Rattle.wt_wire.specs.declared.side.StreamEnd.{StreamEnd}
 use Rattle.wt_laws.specs.Exactly.{AsksFirst, ConnectGoesOn, ConnectsAnswer, GoesOutNow, IsOut, MaySend, ReceivingCallsAnswer, RequestGoesOn, RequestOut, RequestsAnswer, ResponsesAnswer, SendingCallsAnswer, SessionCallsAnswer, reply_to, response_by, response_rest, walk_at}
-use Rattle.wt_laws.specs.Left.{is_response_over}
+use Rattle.wt_laws.specs.Left.{asked_session, is_response_over}
 use Rattle.wt_laws.specs.ReplyCauses.{asks_for_session, half_of}
-use Rattle.wt_spec.specs.Answers.{call_effect, in_session}
+use Rattle.wt_laws.specs.Causes.{name_in}
+use Rattle.wt_spec.proofs.Named.{named-so}
+use Rattle.wt_spec.specs.Answers.{call_effect, in_session, names}
 use Rattle.wt_spec.specs.Connect.{address_of, connect, connect_to, outcome_error, port_of, unless_stopped, with_address}
 use Rattle.wt_spec.specs.Connection.{close_connection, closed_reply, continue_opening, datagram_allowed, is_opening, open_stream, poll_opening, send_datagram, stream_header}
 use Rattle.wt_spec.specs.Driver.{established_session, settings_came}
@@ -81,7 +83,10 @@ module _ (side : Side) (log : Log) where
 
   -- ---- the calls on a session
 
-  module _ (s offset : ℕ) (d : established_session (calls_of log) ≡ Some (s, offset)) where
+  module _ (s offset : ℕ) (name : Option ℕ) (d : established_session (calls_of log) ≡ Some (s, offset)) (n : names name s ≡ true) where
+    of_name : asked_session log name ≡ Some (s, offset)
+    of_name = named-so name _ (s, offset) d n
+
     opens-ended : (kind : ℕ) → is_open log ≡ false → Gives (replies.Failed (transport_error log)) (open_stream side log kind s)
     opens-ended kind o = yes (not (is_open log)) _ _ (ap not o) refl
 
@@ -94,26 +99,26 @@ module _ (side : Side) (log : Log) where
     reported : (payload : List ℕ) (o : Option DatagramFact) (r : Reply) → is_open log ≡ true → datagram_fact (events_of log) ≡ o → Gives r (datagram_allowed side log (datagram_bytes (s / 4) payload) o) → Gives r (send_datagram side log payload s)
     reported payload o r p f g = yes (is_open log) _ _ p (subst (λ z. Gives r (datagram_allowed side log (datagram_bytes (s / 4) payload) z)) (sym f) g)
 
-    pub session-calls : SessionCallsAnswer side log s
+    pub session-calls : SessionCallsAnswer side log s name
     unfolding call_effect
     session-calls = record {
-      uni_ended = λ o. in-it _ _ s offset d (opens-ended (local_uni side) o);
-      uni_opens = λ o m. in-it _ _ s offset d (opens-next (local_uni side) o m);
-      bi_ended = λ o. in-it _ _ s offset d (opens-ended (local_bi side) o);
-      bi_opens = λ o m. in-it _ _ s offset d (opens-next (local_bi side) o m);
+      uni_ended = λ o. in-it _ _ s offset of_name (opens-ended (local_uni side) o);
+      uni_opens = λ o m. in-it _ _ s offset of_name (opens-next (local_uni side) o m);
+      bi_ended = λ o. in-it _ _ s offset of_name (opens-ended (local_bi side) o);
+      bi_opens = λ o m. in-it _ _ s offset of_name (opens-next (local_bi side) o m);
       not_opening = λ k i. in-it (poll_opening side log k) _ s offset d (no (is_opening log k) _ _ i refl);
       opening_ended = λ k i o. in-it (poll_opening side log k) _ s offset d (polled k _ i (yes (not (is_open log)) _ _ (ap not o) refl));
       opening_refused = λ k i o r. in-it (poll_opening side log k) _ s offset d (polled k _ i (no (not (is_open log)) _ _ (ap not o) (yes (is_refused log k (head_left log k (stream_header k s))) _ _ r refl)));
       opened = λ k i o r c. in-it (poll_opening side log k) _ s offset d
           (polled k _ i (no (not (is_open log)) _ _ (ap not o) (no (is_refused log k (head_left log k (stream_header k s))) _ _ r (yes (is_covered log k (head_left log k (stream_header k s))) _ _ c refl))));
-      datagram_ended = λ payload o. in-it (send_datagram side log payload) _ s offset d (no (is_open log) _ _ o refl);
-      datagram_untold = λ payload o f. in-it (send_datagram side log payload) _ s offset d (reported payload None _ o f refl);
-      datagram_disabled = λ payload o f. in-it (send_datagram side log payload) _ s offset d (reported payload (Some facts.Disabled) _ o f refl);
-      datagram_unsupported = λ payload o f. in-it (send_datagram side log payload) _ s offset d (reported payload (Some facts.Unsupported) _ o f refl);
-      datagram_too_large = λ payload limit o f l. in-it (send_datagram side log payload) _ s offset d (reported payload (Some (facts.Limit limit)) _ o f (yes (nat_lt limit (length (datagram_bytes (s / 4) payload))) _ _ l refl));
-      datagram_sent = λ payload limit o f l. in-it (send_datagram side log payload) _ s offset d (reported payload (Some (facts.Limit limit)) _ o f (no (nat_lt limit (length (datagram_bytes (s / 4) payload))) _ _ l refl));
-      size = in-it _ _ s offset d refl;
-      id = in-it _ _ s offset d refl;
+      datagram_ended = λ payload o. in-it (send_datagram side log payload) _ s offset of_name (no (is_open log) _ _ o refl);
+      datagram_untold = λ payload o f. in-it (send_datagram side log payload) _ s offset of_name (reported payload None _ o f refl);
+      datagram_disabled = λ payload o f. in-it (send_datagram side log payload) _ s offset of_name (reported payload (Some facts.Disabled) _ o f refl);
+      datagram_unsupported = λ payload o f. in-it (send_datagram side log payload) _ s offset of_name (reported payload (Some facts.Unsupported) _ o f refl);
+      datagram_too_large = λ payload limit o f l. in-it (send_datagram side log payload) _ s offset of_name (reported payload (Some (facts.Limit limit)) _ o f (yes (nat_lt limit (length (datagram_bytes (s / 4) payload))) _ _ l refl));
+      datagram_sent = λ payload limit o f l. in-it (send_datagram side log payload) _ s offset of_name (reported payload (Some (facts.Limit limit)) _ o f (no (nat_lt limit (length (datagram_bytes (s / 4) payload))) _ _ l refl));
+      size = in-it _ _ s offset of_name refl;
+      id = in-it _ _ s offset of_name refl;
       close = λ code reason. in-it (λ j. close_connection side log code reason) _ s offset d refl;
       closed = λ o. in-it (λ j. poll_only side log (closed_reply log)) _ s offset d (no-reply (is_open log) _ _ o);
     }
@@ -326,17 +331,17 @@ module _ (side : Side) (log : Log) where
   lacks true call k e = absurd (cc)
   lacks false call k e = refl
 
-  no-session : (call : Call) → asks_for_session (turns.Call call) ≡ true → established_session (calls_of log) ≡ None → reply_to side log call ≡ replies.NoSession
+  no-session : (call : Call) → asks_for_session (turns.Call call) ≡ true → asked_session log (name_in (turns.Call call)) ≡ None → reply_to side log call ≡ replies.NoSession
   unfolding call_effect
-  no-session calls.AcceptUni a d = without _ (established_session (calls_of log)) d
-  no-session calls.AcceptBi a d = without _ (established_session (calls_of log)) d
-  no-session calls.ReceiveDatagram a d = without _ (established_session (calls_of log)) d
-  no-session calls.OpenUni a d = without _ (established_session (calls_of log)) d
-  no-session calls.OpenBi a d = without _ (established_session (calls_of log)) d
+  no-session (calls.AcceptUni session) a d = without _ (asked_session log session) d
+  no-session (calls.AcceptBi session) a d = without _ (asked_session log session) d
+  no-session (calls.ReceiveDatagram session) a d = without _ (asked_session log session) d
+  no-session (calls.OpenUni session) a d = without _ (asked_session log session) d
+  no-session (calls.OpenBi session) a d = without _ (asked_session log session) d
   no-session (calls.PollOpening id) a d = without _ (established_session (calls_of log)) d
-  no-session (calls.SendDatagram payload) a d = without _ (established_session (calls_of log)) d
-  no-session calls.MaxDatagramSize a d = without _ (established_session (calls_of log)) d
-  no-session calls.SessionId a d = without _ (established_session (calls_of log)) d
+  no-session (calls.SendDatagram payload session) a d = without _ (asked_session log session) d
+  no-session (calls.MaxDatagramSize session) a d = without _ (asked_session log session) d
+  no-session (calls.SessionId session) a d = without _ (asked_session log session) d
   no-session (calls.Close code reason) a d = without _ (established_session (calls_of log)) d
   no-session calls.Closed a d = without _ (established_session (calls_of log)) d
   no-session _ a d = absurd (cc)

@@ -147,8 +147,8 @@ found-sessions side turn log k f =
 
 -- a call opens streams of this end
 pub opened-local : (side : Side) (turn : Turn) (kind : ℕ) → opened_kind side turn ≡ Some kind → (kind == local_uni side || kind == local_bi side) ≡ true
-opened-local side (turns.Call calls.OpenUni) kind e = let s : local_uni side ≡ kind = cc in or_left (kind == local_uni side) _ (eq-eqb kind (local_uni side) (sym s))
-opened-local side (turns.Call calls.OpenBi) kind e = let s : local_bi side ≡ kind = cc in or_right (kind == local_uni side) _ (eq-eqb kind (local_bi side) (sym s))
+opened-local side (turns.Call (calls.OpenUni session)) kind e = let s : local_uni side ≡ kind = cc in or_left (kind == local_uni side) _ (eq-eqb kind (local_uni side) (sym s))
+opened-local side (turns.Call (calls.OpenBi session)) kind e = let s : local_bi side ≡ kind = cc in or_right (kind == local_uni side) _ (eq-eqb kind (local_bi side) (sym s))
 opened-local side _ kind e = absurd (cc)
 
 new-opening : (side : Side) (turn : Turn) (log : Log) (k : ℕ) (r : CallRecord) → RecordCause side turn log r → starts_opening k r ≡ true → is_local side k ≡ true

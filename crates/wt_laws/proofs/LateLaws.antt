@@ -28,7 +28,7 @@ use Rattle.wt_laws.proofs.Classified.{next-is-due}
 use Rattle.wt_laws.proofs.RunLaws.{late-bytes, none-since}
 use Rattle.wt_laws.specs.Reachable.{AllLawful}
 use Rattle.wt_laws.specs.Runs.{LateChangesNothing}
-use Rattle.wt_spec.specs.Answers.{actions_since, answer_to, answers_from, call_effect, in_session, is_client, is_first, is_lawful, log_after, may_call, receive, turn_effect}
+use Rattle.wt_spec.specs.Answers.{actions_since, answer_to, answers_from, call_effect, in_session, is_client, is_first, is_lawful, log_after, may_call, named_session, on_session, receive, turn_effect}
 use Rattle.wt_spec.specs.Connection.{accept_due, accept_first, accept_stream, accepts_stream, close_connection, ends_opening, first_of, give_or_pass, is_due, is_for_session, is_opening, next_datagram, next_due, open_stream, payload_limit, poll_opening, read_datagram, receive_datagram, receive_first, receive_next, receive_or_pass, send_datagram, starts_opening}
 use Rattle.wt_spec.specs.Driver.{apply_if, call_view, delivers, established_session, flush, log_and_flush, releases, settings_came, released_datagrams, stream_table, transport_view}
 use Rattle.wt_spec.specs.Scan.{scan_order}
@@ -149,8 +149,9 @@ module _ (side : Side) (a b : Log) (p : EndedAlike side a b) where
   same-wait : pending_or_failed side a ≡ pending_or_failed side b
   same-wait = closed-reply (is_open a) (is_open b) _ _ _ _ p.closed p.closed_too (ap (λ e. replies.Failed e) same-driver)
 
-  in-session : (call too : ℕ → Effect) → ((s : ℕ) → Alike side a b (call s) (too s)) → Alike side a b (in_session side a call (established_session (calls_of a))) (in_session side b too (established_session (calls_of b)))
-  in-session call too f = subst (λ z. Alike side a b (in_session side a call (established_session (calls_of a))) (in_session side b too z)) (ap established_session p.calls) (by (established_session (calls_of a)))
+  in-session : (name : Option ℕ) (call too : ℕ → Effect) → ((s : ℕ) → Alike side a b (call s) (too s)) → Alike side a b (on_session side a name call) (on_session side b name too)
+  in-session name call too f =
+      subst (λ z. Alike side a b (on_session side a name call) (in_session side b too (named_session name z))) (ap established_session p.calls) (by (named_session name (established_session (calls_of a))))
     where
       by : (o : Option (ℕ × ℕ)) → Alike side a b (in_session side a call o) (in_session side b too o)
       by None = polled replies.NoSession replies.NoSession refl
@@ -399,18 +400,19 @@ alike-call side a b p calls.Incoming l = alike-incoming side a b p
 alike-call side a b p (calls.Accept headers) l = alike-respond side a b p true _ _
 alike-call side a b p calls.Handshake l = alike-handshake side a b p
 alike-call side a b p (calls.EndpointClose code reason) l = alike-close side a b p code reason
-alike-call side a b p calls.AcceptUni l = in-session side a b p _ _ (λ s. alike-accept side a b p replies.Uni (peer_uni side) s)
-alike-call side a b p calls.AcceptBi l = in-session side a b p _ _ (λ s. alike-accept side a b p replies.Bi (peer_bi side) s)
-alike-call side a b p calls.ReceiveDatagram l =
-    in-session side a b p _ _ (λ s. subst (λ es. Alike side a b (receive_datagram side a s) (receive_first (suc (length (datagrams_of es))) side s b)) p.events (alike-receive side (suc (length (datagrams_of (events_of a)))) s a b p))
-alike-call side a b p calls.OpenUni l = in-session side a b p _ _ (λ s. alike-open side a b p (local_uni side) s)
-alike-call side a b p calls.OpenBi l = in-session side a b p _ _ (λ s. alike-open side a b p (local_bi side) s)
-alike-call side a b p (calls.PollOpening id) l = in-session side a b p _ _ (λ s. alike-poll side a b p id s)
-alike-call side a b p (calls.SendDatagram payload) l = in-session side a b p _ _ (λ s. alike-datagram side a b p payload s)
-alike-call side a b p calls.MaxDatagramSize l = in-session side a b p _ _ (λ s. polled side a b p _ _ (ap (λ es. replies.Size (payload_limit s (datagram_fact es))) p.events))
-alike-call side a b p calls.SessionId l = in-session side a b p _ _ (λ s. polled side a b p _ _ refl)
-alike-call side a b p (calls.Close code reason) l = in-session side a b p _ _ (λ s. alike-close side a b p code reason)
-alike-call side a b p calls.Closed l = in-session side a b p _ _ (λ s. polled side a b p _ _ (closed-reply side a b p (is_open a) (is_open b) _ _ _ _ p.closed p.closed_too (ap (λ e. replies.Closed e) (same-transport side a b p))))
+alike-call side a b p (calls.AcceptUni session) l = in-session side a b p session _ _ (λ s. alike-accept side a b p replies.Uni (peer_uni side) s)
+alike-call side a b p (calls.AcceptBi session) l = in-session side a b p session _ _ (λ s. alike-accept side a b p replies.Bi (peer_bi side) s)
+alike-call side a b p (calls.ReceiveDatagram session) l =
+    in-session side a b p session _ _ (λ s. subst (λ es. Alike side a b (receive_datagram side a s) (receive_first (suc (length (datagrams_of es))) side s b)) p.events (alike-receive side (suc (length (datagrams_of (events_of a)))) s a b p))
+alike-call side a b p (calls.OpenUni session) l = in-session side a b p session _ _ (λ s. alike-open side a b p (local_uni side) s)
+alike-call side a b p (calls.OpenBi session) l = in-session side a b p session _ _ (λ s. alike-open side a b p (local_bi side) s)
+alike-call side a b p (calls.PollOpening id) l = in-session side a b p None _ _ (λ s. alike-poll side a b p id s)
+alike-call side a b p (calls.SendDatagram payload session) l = in-session side a b p session _ _ (λ s. alike-datagram side a b p payload s)
+alike-call side a b p (calls.MaxDatagramSize session) l = in-session side a b p session _ _ (λ s. polled side a b p _ _ (ap (λ es. replies.Size (payload_limit s (datagram_fact es))) p.events))
+alike-call side a b p (calls.SessionId session) l = in-session side a b p session _ _ (λ s. polled side a b p _ _ refl)
+alike-call side a b p (calls.EndSession session) l = absurd (cc)
+alike-call side a b p (calls.Close code reason) l = in-session side a b p None _ _ (λ s. alike-close side a b p code reason)
+alike-call side a b p calls.Closed l = in-session side a b p None _ _ (λ s. polled side a b p _ _ (closed-reply side a b p (is_open a) (is_open b) _ _ _ _ p.closed p.closed_too (ap (λ e. replies.Closed e) (same-transport side a b p))))
 alike-call side a b p (calls.Write id bytes) l = on-half side a b p _ _ _ (λ k. write side b k bytes) id (same-sending side a b p id) (alike-write side a b p written_reply id bytes)
 alike-call side a b p (calls.WriteAll id bytes) l = on-half side a b p _ _ _ (λ k. write_all side b k bytes) id (same-sending side a b p id) (alike-write side a b p all_written_reply id bytes)
 alike-call side a b p (calls.Finish id) l = on-half side a b p _ _ _ (λ k. finish side b k) id (same-sending side a b p id) (alike-finish side a b p id)

@@ -61,7 +61,7 @@ module _ (side : Side) (log : Log) where
   started turn k l e =
       let why = why-reply side log turn l (replies.Opening k) e in
       let out = opening-out side log turn why.1 k why.2 e in
-      ap (λ g. list_any (starts_opening k) (calls_of g)) out.3
+      ap (λ g. list_any (starts_opening k) (calls_of g)) out.4
       ∙ ap (λ rs. list_any (starts_opening k) rs) (calls-logged side log (actions.Opened k ∷ []) (OpeningStarted k out.0))
       ∙ or_left (k == k) (list_any (starts_opening k) (calls_of log)) (eq-eqb k k refl)
 

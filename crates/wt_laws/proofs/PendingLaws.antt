@@ -36,11 +36,12 @@ use Rattle.wt_laws.proofs.During.{actions-extend, extend, flush-extends, steps-e
 use Rattle.wt_laws.proofs.Looks.{at-first, events-logged, left_to_release, next-within, pass-drops}
 use Rattle.wt_laws.proofs.Steps.{calls-logged}
 use Rattle.wt_laws.proofs.StreamLaws.{none-left}
-use Rattle.wt_laws.specs.Causes.{FoundDatagram, FoundStream, accepted_kind, is_accept, is_receive}
-use Rattle.wt_laws.specs.Left.{PassesDatagram, PassesNone, PassesStream, PassesTo, PendingExactly, lacks_response, connect_waits, datagram_reply, handshake_waits, has_no_stream, has_nothing_left, is_none_queued, is_pending, is_waiting, lacks_credit, may_dial, of_session, passing_reply, rejection_waits, request_waits, response_waits, session_reply, stream_reply}
+use Rattle.wt_laws.specs.Causes.{FoundDatagram, FoundStream, accepted_kind, is_accept, is_receive, name_in}
+use Rattle.wt_laws.specs.Left.{PassesDatagram, PassesNone, PassesStream, PassesTo, PendingExactly, asked_session, connect_waits, datagram_reply, handshake_waits, has_no_stream, has_nothing_left, is_none_queued, is_pending, is_waiting, lacks_credit, lacks_response, may_dial, of_session, passing_reply, rejection_waits, request_waits, response_waits, session_reply, stream_reply}
 use Rattle.wt_laws.specs.Laws.{GoesOnFrom, is_left_for}
 use Rattle.wt_laws.specs.ReplyTells.{given_stream}
-use Rattle.wt_spec.specs.Answers.{answer_to, call_effect, in_session, is_client, is_first, is_lawful, may_call, on_session, turn_effect}
+use Rattle.wt_spec.proofs.Named.{established-so, named-so, names-so}
+use Rattle.wt_spec.specs.Answers.{answer_to, call_effect, in_session, is_client, is_first, is_lawful, may_call, named_session, on_session, turn_effect}
 use Rattle.wt_spec.specs.Connect.{address_of, connect_to, outcome_error, port_of, unless_stopped, with_address}
 use Rattle.wt_spec.specs.Connection.{accept_due, accept_first, accept_stream, datagram_allowed, datagram_within, give_or_pass, is_for_session, is_opening, next_datagram, next_due, open_stream, pass_stream, poll_opening, receive_datagram, receive_first, receive_next, receive_or_pass, send_datagram, stream_header}
 use Rattle.wt_spec.specs.Driver.{established_session, session_id, settings_came, released_datagrams, stream_table}
@@ -339,12 +340,13 @@ module _ (side : Side) (log : Log) where
   waits-call calls.TooManyRequests l n = waits-respond false (response_bytes (codes "429")) _
   waits-call calls.Handshake l n = waits-continue (handshake_state (calls_of log)) l
   waits-call (calls.EndpointClose code reason) l n = and-false (is_open log)
-  waits-call calls.OpenUni l n = in-session (λ s. not (may_open side log (local_uni side))) _ (established_session (calls_of log)) (waits-open (local_uni side))
-  waits-call calls.OpenBi l n = in-session (λ s. not (may_open side log (local_bi side))) _ (established_session (calls_of log)) (waits-open (local_bi side))
+  waits-call (calls.OpenUni session) l n = in-session (λ s. not (may_open side log (local_uni side))) _ (asked_session log session) (waits-open (local_uni side))
+  waits-call (calls.OpenBi session) l n = in-session (λ s. not (may_open side log (local_bi side))) _ (asked_session log session) (waits-open (local_bi side))
   waits-call (calls.PollOpening id) l n = in-session (λ s. is_opening log id && lacks_credit log id (head_left log id (stream_header id s))) _ (established_session (calls_of log)) (waits-opening id)
-  waits-call (calls.SendDatagram payload) l n = quiet-session _ (established_session (calls_of log)) (quiet-datagram payload) ∙ and-false (is_open log)
-  waits-call calls.MaxDatagramSize l n = quiet-session _ (established_session (calls_of log)) (λ s. refl) ∙ and-false (is_open log)
-  waits-call calls.SessionId l n = quiet-session _ (established_session (calls_of log)) (λ s. refl) ∙ and-false (is_open log)
+  waits-call (calls.SendDatagram payload session) l n = quiet-session _ (asked_session log session) (quiet-datagram payload) ∙ and-false (is_open log)
+  waits-call (calls.MaxDatagramSize session) l n = quiet-session _ (asked_session log session) (λ s. refl) ∙ and-false (is_open log)
+  waits-call (calls.SessionId session) l n = quiet-session _ (asked_session log session) (λ s. refl) ∙ and-false (is_open log)
+  waits-call (calls.EndSession session) l n = absurd (cc)
   waits-call (calls.Close code reason) l n = quiet-session _ (established_session (calls_of log)) (λ s. refl) ∙ and-false (is_open log)
   waits-call calls.Closed l n = in-session (λ s. true) _ (established_session (calls_of log)) (λ s. reply-if (is_open log) _ _ refl refl ∙ and-true (is_open log))
   waits-call (calls.Write id bytes) l n = on-half (has_sending_half side log id) _ _ id (waits-write id bytes (write_error log id) refl)
@@ -388,30 +390,30 @@ module _ (side : Side) (turn : Turn) where
 
   -- ---- accepts
 
-  module _ (kind : ℕ) (a : is_accept turn ≡ true) (n : is_receive turn ≡ false) (i : accepted_kind side turn ≡ kind) (w : (g : Log) → has_nothing_left side turn g ≡ has_no_stream side g kind) (reply : ℕ → Reply) (v : (g : Log) → passing_reply side turn g ≡ Some (session_reply (λ s. stream_reply side g reply (next_due side g kind s)) (established_session (calls_of g)))) (q : (k : ℕ) → is_pending (reply k) ≡ false) (s offset : ℕ) where
-    nothing-so : (log : Log) (o : Option Classified) → established_session (calls_of log) ≡ Some (s, offset) → next_due side log kind s ≡ o → has_nothing_left side turn log ≡ not (is_some o)
+  module _ (kind : ℕ) (a : is_accept turn ≡ true) (n : is_receive turn ≡ false) (i : accepted_kind side turn ≡ kind) (w : (g : Log) → has_nothing_left side turn g ≡ has_no_stream side g (name_in turn) kind) (reply : ℕ → Reply) (v : (g : Log) → passing_reply side turn g ≡ Some (session_reply (λ s. stream_reply side g reply (next_due side g kind s)) (asked_session g (name_in turn)))) (q : (k : ℕ) → is_pending (reply k) ≡ false) (s offset : ℕ) where
+    nothing-so : (log : Log) (o : Option Classified) → asked_session log (name_in turn) ≡ Some (s, offset) → next_due side log kind s ≡ o → has_nothing_left side turn log ≡ not (is_some o)
     nothing-so log o d e = w log ∙ ap (of_session (λ j. not (is_some (next_due side log kind j)))) d ∙ ap (λ z. not (is_some z)) e
 
-    gives-so : (log : Log) (o : Option Classified) → established_session (calls_of log) ≡ Some (s, offset) → next_due side log kind s ≡ o → passing_reply side turn log ≡ Some (stream_reply side log reply o)
+    gives-so : (log : Log) (o : Option Classified) → asked_session log (name_in turn) ≡ Some (s, offset) → next_due side log kind s ≡ o → passing_reply side turn log ≡ Some (stream_reply side log reply o)
     gives-so log o d e = v log ∙ ap (λ z. Some (session_reply (λ j. stream_reply side log reply (next_due side log kind j)) z)) d ∙ ap (λ z. Some (stream_reply side log reply z)) e
 
     -- the stream that is found is the one that is due
-    same-found : (log : Log) (k : ℕ) (b : Bool) (o : Option Classified) → established_session (calls_of log) ≡ Some (s, offset) → next_due side log kind s ≡ o → (f : FoundStream side turn log k b) → o ≡ Some f.found × (f.session ≡ s)
+    same-found : (log : Log) (k : ℕ) (b : Bool) (o : Option Classified) → asked_session log (name_in turn) ≡ Some (s, offset) → next_due side log kind s ≡ o → (f : FoundStream side turn log k b) → o ≡ Some f.found × (f.session ≡ s)
     same-found log k b o d e f =
-        let same : f.session ≡ s = ap session_id (sym f.is_established ∙ d) in
+        let same : f.session ≡ s = ap session_id (sym f.is_established ∙ established-so (name_in turn) _ (s, offset) d) in
         (sym e ∙ ap (λ m. next_due side log m s) (sym i) ∙ ap (λ j. next_due side log (accepted_kind side turn) j) (sym same) ∙ f.is_next, same)
 
-    no-other : (log : Log) (k : ℕ) (c : Classified) → established_session (calls_of log) ≡ Some (s, offset) → next_due side log kind s ≡ Some c → is_for_session s c.verdict ≡ true → FoundStream side turn log k false → ⊥
+    no-other : (log : Log) (k : ℕ) (c : Classified) → asked_session log (name_in turn) ≡ Some (s, offset) → next_due side log kind s ≡ Some c → is_for_session s c.verdict ≡ true → FoundStream side turn log k false → ⊥
     no-other log k c d e t f =
         let x = same-found log k false (Some c) d e f in
         let y : c ≡ f.found = cc in
         absurd (let z = ap (λ (j : Classified). is_for_session s j.verdict) y in let v = ap (λ j. is_for_session j f.found.verdict) x.1 in let u = f.named in cc)
 
-    none-found : (log : Log) (k : ℕ) → established_session (calls_of log) ≡ Some (s, offset) → next_due side log kind s ≡ None → FoundStream side turn log k false → ⊥
+    none-found : (log : Log) (k : ℕ) → asked_session log (name_in turn) ≡ Some (s, offset) → next_due side log kind s ≡ None → FoundStream side turn log k false → ⊥
     none-found log k d e f = absurd (let x = (same-found log k false None d e f).0 in cc)
 
     decides-given : (again : Log → Effect) (log : Log) (c : Classified) (b : Bool) → Decides side turn (pass_stream side log c.id) (again (pass_stream side log c.id))
-        → established_session (calls_of log) ≡ Some (s, offset) → next_due side log kind s ≡ Some c → is_for_session s c.verdict ≡ b → Decides side turn log (give_or_pass b side reply again log c.id)
+        → asked_session log (name_in turn) ≡ Some (s, offset) → next_due side log kind s ≡ Some c → is_for_session s c.verdict ≡ b → Decides side turn log (give_or_pass b side reply again log c.id)
     decides-given again log c true r d e t = record {
       decided = log;
       passes = PassesNone;
@@ -423,7 +425,7 @@ module _ (side : Side) (turn : Turn) where
     }
     decides-given again log c false r d e t = record {
       decided = r.decided;
-      passes = PassesStream c.id (record { accepts = a; session = s; offset = offset; is_established = d; found = c; is_next = ap (λ m. next_due side log m s) i ∙ e; same = refl; named = t }) r.passes;
+      passes = PassesStream c.id (record { accepts = a; session = s; offset = offset; is_named = names-so (name_in turn) _ (s, offset) d; is_established = established-so (name_in turn) _ (s, offset) d; found = c; is_next = ap (λ m. next_due side log m s) i ∙ e; same = refl; named = t }) r.passes;
       reaches = r.reaches;
       no_stream = r.no_stream;
       no_datagram = r.no_datagram;
@@ -432,7 +434,7 @@ module _ (side : Side) (turn : Turn) where
     }
 
     decides-due : (again : Log → Effect) (log : Log) (o : Option Classified) → ((c : Classified) → next_due side log kind s ≡ Some c → Decides side turn (pass_stream side log c.id) (again (pass_stream side log c.id)))
-        → established_session (calls_of log) ≡ Some (s, offset) → next_due side log kind s ≡ o → Decides side turn log (accept_due side reply again s log o)
+        → asked_session log (name_in turn) ≡ Some (s, offset) → next_due side log kind s ≡ o → Decides side turn log (accept_due side reply again s log o)
     decides-due again log None f d e = record {
       decided = log;
       passes = PassesNone;
@@ -444,57 +446,57 @@ module _ (side : Side) (turn : Turn) where
     }
     decides-due again log (Some c) f d e = decides-given again log c (is_for_session s c.verdict) (f c e) d e refl
 
-    decides-first : (m : ℕ) (log : Log) → established_session (calls_of log) ≡ Some (s, offset) → left_to_release side log kind < m → Decides side turn log (accept_first m side reply kind s log)
+    decides-first : (m : ℕ) (log : Log) → asked_session log (name_in turn) ≡ Some (s, offset) → left_to_release side log kind < m → Decides side turn log (accept_first m side reply kind s log)
     decides-first zero log d l = absurd (omega arith)
     decides-first (suc m) log d l =
         decides-due (λ later. accept_first m side reply kind s later) log (next_due side log kind s)
-        (λ c e. decides-first m (pass_stream side log c.id) (ap established_session (calls-logged side log (actions.StopOut c.id (code_of h3.BufferedStreamRejected) ∷ []) (StreamPassed c.id)) ∙ d)
+        (λ c e. decides-first m (pass_stream side log c.id) (ap (λ (cs : List CallRecord). named_session (name_in turn) (established_session cs)) (calls-logged side log (actions.StopOut c.id (code_of h3.BufferedStreamRejected) ∷ []) (StreamPassed c.id)) ∙ d)
         (let p = pass-drops side log kind s c (actions.StopOut c.id (code_of h3.BufferedStreamRejected) ∷ []) e in omega arith)) d refl
 
   -- without a session nothing is passed
-  no-session : (log : Log) (call : ℕ → Effect) → established_session (calls_of log) ≡ None → has_nothing_left side turn log ≡ false → ((r : Reply) → passing_reply side turn log ≡ Some r → replies.NoSession ≡ r) → Decides side turn log (poll_only side log replies.NoSession)
+  no-session : (log : Log) (call : ℕ → Effect) → asked_session log (name_in turn) ≡ None → has_nothing_left side turn log ≡ false → ((r : Reply) → passing_reply side turn log ≡ Some r → replies.NoSession ≡ r) → Decides side turn log (poll_only side log replies.NoSession)
   no-session log call d w g = record {
     decided = log;
     passes = PassesNone;
     reaches = flush-extends side (Called Polled) log;
-    no_stream = λ k f. absurd (let x = f.is_established in cc);
-    no_datagram = λ f. absurd (let x = f.is_established in cc);
+    no_stream = λ k f. absurd (let x = named-so (name_in turn) _ (f.session, f.offset) f.is_established f.is_named in cc);
+    no_datagram = λ f. absurd (let x = named-so (name_in turn) _ (f.session, f.offset) f.is_established f.is_named in cc);
     exactly = and-false (is_open log) ∙ ap (λ b. is_open log && b) (sym w);
     gives = g;
   }
 
-  decides-in : (log : Log) (call : ℕ → Effect) (o : Option (ℕ × ℕ)) → established_session (calls_of log) ≡ o → (established_session (calls_of log) ≡ None → has_nothing_left side turn log ≡ false) → (established_session (calls_of log) ≡ None → (r : Reply) → passing_reply side turn log ≡ Some r → replies.NoSession ≡ r) → ((s offset : ℕ) → established_session (calls_of log) ≡ Some (s, offset) → Decides side turn log (call s))
+  decides-in : (log : Log) (call : ℕ → Effect) (o : Option (ℕ × ℕ)) → asked_session log (name_in turn) ≡ o → (asked_session log (name_in turn) ≡ None → has_nothing_left side turn log ≡ false) → (asked_session log (name_in turn) ≡ None → (r : Reply) → passing_reply side turn log ≡ Some r → replies.NoSession ≡ r) → ((s offset : ℕ) → asked_session log (name_in turn) ≡ Some (s, offset) → Decides side turn log (call s))
       → Decides side turn log (in_session side log call o)
   decides-in log call None d w g f = no-session log call d (w d) (g d)
   decides-in log call (Some s) d w g f = f s.0 s.1 d
 
-  decides-accept : (log : Log) (kind : ℕ) (reply : ℕ → Reply) → is_accept turn ≡ true → is_receive turn ≡ false → accepted_kind side turn ≡ kind → ((g : Log) → has_nothing_left side turn g ≡ has_no_stream side g kind)
-      → ((g : Log) → passing_reply side turn g ≡ Some (session_reply (λ s. stream_reply side g reply (next_due side g kind s)) (established_session (calls_of g)))) → ((k : ℕ) → is_pending (reply k) ≡ false)
-      → Decides side turn log (on_session side log (accept_stream side reply kind log))
+  decides-accept : (log : Log) (kind : ℕ) (reply : ℕ → Reply) → is_accept turn ≡ true → is_receive turn ≡ false → accepted_kind side turn ≡ kind → ((g : Log) → has_nothing_left side turn g ≡ has_no_stream side g (name_in turn) kind)
+      → ((g : Log) → passing_reply side turn g ≡ Some (session_reply (λ s. stream_reply side g reply (next_due side g kind s)) (asked_session g (name_in turn)))) → ((k : ℕ) → is_pending (reply k) ≡ false)
+      → Decides side turn log (on_session side log (name_in turn) (accept_stream side reply kind log))
   decides-accept log kind reply a n i w v q =
-      decides-in log (accept_stream side reply kind log) (established_session (calls_of log)) refl (λ d. w log ∙ ap (of_session (λ j. not (is_some (next_due side log kind j)))) d)
+      decides-in log (accept_stream side reply kind log) (asked_session log (name_in turn)) refl (λ d. w log ∙ ap (of_session (λ j. not (is_some (next_due side log kind j)))) d)
       (λ d r x. reported (passing_reply side turn log) replies.NoSession _ (v log ∙ ap (λ z. Some (session_reply (λ j. stream_reply side log reply (next_due side log kind j)) z)) d) r x refl)
       (λ s offset d. decides-first kind a n i w reply v q s offset (suc (peer_count side (events_of log) kind)) log d (at-first side log kind))
 
   -- ---- datagrams
 
-  module _ (a : is_receive turn ≡ true) (n : is_accept turn ≡ false) (w : (g : Log) → has_nothing_left side turn g ≡ of_session (λ s. not (is_some (next_datagram side g))) (established_session (calls_of g)))
-      (v : (g : Log) → passing_reply side turn g ≡ Some (session_reply (λ s. datagram_reply side g (next_datagram side g)) (established_session (calls_of g)))) (s offset : ℕ) where
-    none-so : (log : Log) (o : Option (ℕ × List ℕ)) → established_session (calls_of log) ≡ Some (s, offset) → next_datagram side log ≡ o → has_nothing_left side turn log ≡ not (is_some o)
+  module _ (a : is_receive turn ≡ true) (n : is_accept turn ≡ false) (w : (g : Log) → has_nothing_left side turn g ≡ of_session (λ s. not (is_some (next_datagram side g))) (asked_session g (name_in turn)))
+      (v : (g : Log) → passing_reply side turn g ≡ Some (session_reply (λ s. datagram_reply side g (next_datagram side g)) (asked_session g (name_in turn)))) (s offset : ℕ) where
+    none-so : (log : Log) (o : Option (ℕ × List ℕ)) → asked_session log (name_in turn) ≡ Some (s, offset) → next_datagram side log ≡ o → has_nothing_left side turn log ≡ not (is_some o)
     none-so log o d e = w log ∙ ap (of_session (λ j. not (is_some (next_datagram side log)))) d ∙ ap (λ z. not (is_some z)) e
 
-    datagram-so : (log : Log) (o : Option (ℕ × List ℕ)) → established_session (calls_of log) ≡ Some (s, offset) → next_datagram side log ≡ o → passing_reply side turn log ≡ Some (datagram_reply side log o)
+    datagram-so : (log : Log) (o : Option (ℕ × List ℕ)) → asked_session log (name_in turn) ≡ Some (s, offset) → next_datagram side log ≡ o → passing_reply side turn log ≡ Some (datagram_reply side log o)
     datagram-so log o d e = v log ∙ ap (λ z. Some (session_reply (λ j. datagram_reply side log (next_datagram side log)) z)) d ∙ ap (λ z. Some (datagram_reply side log z)) e
 
-    no-other-datagram : (log : Log) (x : ℕ × List ℕ) → established_session (calls_of log) ≡ Some (s, offset) → next_datagram side log ≡ Some x → (4 * x.0 == s) ≡ true → FoundDatagram side turn log false → ⊥
+    no-other-datagram : (log : Log) (x : ℕ × List ℕ) → asked_session log (name_in turn) ≡ Some (s, offset) → next_datagram side log ≡ Some x → (4 * x.0 == s) ≡ true → FoundDatagram side turn log false → ⊥
     no-other-datagram log x d e t f =
-        let same : f.session ≡ s = ap session_id (sym f.is_established ∙ d) in
+        let same : f.session ≡ s = ap session_id (sym f.is_established ∙ established-so (name_in turn) _ (s, offset) d) in
         let z = f.is_next in
         let y : x ≡ f.datagram = cc in
         absurd (let u = ap (λ (j : ℕ × List ℕ). 4 * j.0 == s) y in let v = ap (λ j. 4 * f.datagram.0 == j) same in let t2 = f.named in cc)
 
     decides-taken : (again : Log → Effect) (log : Log) (x : ℕ × List ℕ) (b : Bool) → Decides side turn (log_call side log [] DatagramPassed) (again (log_call side log [] DatagramPassed))
-        → established_session (calls_of log) ≡ Some (s, offset) → next_datagram side log ≡ Some x → (4 * x.0 == s) ≡ b → Decides side turn log (receive_or_pass b side again log x.1)
+        → asked_session log (name_in turn) ≡ Some (s, offset) → next_datagram side log ≡ Some x → (4 * x.0 == s) ≡ b → Decides side turn log (receive_or_pass b side again log x.1)
     decides-taken again log x true r d e t = record {
       decided = log;
       passes = PassesNone;
@@ -506,7 +508,7 @@ module _ (side : Side) (turn : Turn) where
     }
     decides-taken again log x false r d e t = record {
       decided = r.decided;
-      passes = PassesDatagram (record { receives = a; session = s; offset = offset; is_established = d; datagram = x; is_next = e; named = t }) r.passes;
+      passes = PassesDatagram (record { receives = a; session = s; offset = offset; is_named = names-so (name_in turn) _ (s, offset) d; is_established = established-so (name_in turn) _ (s, offset) d; datagram = x; is_next = e; named = t }) r.passes;
       reaches = r.reaches;
       no_stream = r.no_stream;
       no_datagram = r.no_datagram;
@@ -514,7 +516,7 @@ module _ (side : Side) (turn : Turn) where
       gives = r.gives;
     }
 
-    none-waits : (log : Log) → established_session (calls_of log) ≡ Some (s, offset) → next_datagram side log ≡ None → Decides side turn log (poll_only side log (pending_or_failed side log))
+    none-waits : (log : Log) → asked_session log (name_in turn) ≡ Some (s, offset) → next_datagram side log ≡ None → Decides side turn log (poll_only side log (pending_or_failed side log))
     none-waits log d e = record {
       decided = log;
       passes = PassesNone;
@@ -526,7 +528,7 @@ module _ (side : Side) (turn : Turn) where
     }
 
     decides-next : (again : Log → Effect) (log : Log) (o : Option (ℕ × List ℕ)) → ((x : ℕ × List ℕ) → next_datagram side log ≡ Some x → Decides side turn (log_call side log [] DatagramPassed) (again (log_call side log [] DatagramPassed)))
-        → established_session (calls_of log) ≡ Some (s, offset) → next_datagram side log ≡ o → Decides side turn log (receive_next side again s log o)
+        → asked_session log (name_in turn) ≡ Some (s, offset) → next_datagram side log ≡ o → Decides side turn log (receive_next side again s log o)
     decides-next again log None f d e = none-waits log d e
     decides-next again log (Some x) f d e = decides-taken again log x (4 * x.0 == s) (f x e) d e refl
 
@@ -534,19 +536,19 @@ module _ (side : Side) (turn : Turn) where
     none-next log None e l = e
     none-next log (Some x) e l = let z = next-within side log x e in absurd (omega arith)
 
-    decides-receive : (m : ℕ) (log : Log) → established_session (calls_of log) ≡ Some (s, offset) → length (datagrams_of (events_of log)) < released_datagrams (calls_of log) + m → Decides side turn log (receive_first m side s log)
+    decides-receive : (m : ℕ) (log : Log) → asked_session log (name_in turn) ≡ Some (s, offset) → length (datagrams_of (events_of log)) < released_datagrams (calls_of log) + m → Decides side turn log (receive_first m side s log)
     decides-receive zero log d l = none-waits log d (none-next log (next_datagram side log) refl (omega arith))
     decides-receive (suc m) log d l =
         decides-next (λ later. receive_first m side s later) log (next_datagram side log)
-        (λ x e. decides-receive m (log_call side log [] DatagramPassed) (ap established_session (calls-logged side log [] DatagramPassed) ∙ d)
+        (λ x e. decides-receive m (log_call side log [] DatagramPassed) (ap (λ (cs : List CallRecord). named_session (name_in turn) (established_session cs)) (calls-logged side log [] DatagramPassed) ∙ d)
         (rw (calls-logged side log [] DatagramPassed, events-logged side log [] DatagramPassed) (omega arith))) d refl
 
   -- ---- every turn
 
   none-passing : (t : Turn) (log : Log) → (is_accept t || is_receive t) ≡ false → passing_reply side t log ≡ None
-  none-passing (turns.Call calls.AcceptUni) log n = absurd (cc)
-  none-passing (turns.Call calls.AcceptBi) log n = absurd (cc)
-  none-passing (turns.Call calls.ReceiveDatagram) log n = absurd (cc)
+  none-passing (turns.Call (calls.AcceptUni session)) log n = absurd (cc)
+  none-passing (turns.Call (calls.AcceptBi session)) log n = absurd (cc)
+  none-passing (turns.Call (calls.ReceiveDatagram session)) log n = absurd (cc)
   none-passing (turns.Call _) log n = refl
   none-passing _ log n = refl
 
@@ -557,20 +559,20 @@ module _ (side : Side) (turn : Turn) where
 
 decides-passing : (side : Side) (log : Log) (t : Turn) → (is_accept t || is_receive t) ≡ true → Decides side t log (turn_effect side log t)
 unfolding call_effect
-decides-passing side log (turns.Call calls.AcceptUni) p = decides-accept side (turns.Call calls.AcceptUni) log (peer_uni side) replies.Uni refl refl refl (λ g. refl) (λ g. refl) (λ k. refl)
-decides-passing side log (turns.Call calls.AcceptBi) p = decides-accept side (turns.Call calls.AcceptBi) log (peer_bi side) replies.Bi refl refl refl (λ g. refl) (λ g. refl) (λ k. refl)
-decides-passing side log (turns.Call calls.ReceiveDatagram) p =
-    let t = turns.Call calls.ReceiveDatagram in
-    decides-in side t log (receive_datagram side log) (established_session (calls_of log)) refl (λ d. ap (of_session (λ j. not (is_some (next_datagram side log)))) d)
+decides-passing side log (turns.Call (calls.AcceptUni session)) p = decides-accept side (turns.Call (calls.AcceptUni session)) log (peer_uni side) replies.Uni refl refl refl (λ g. refl) (λ g. refl) (λ k. refl)
+decides-passing side log (turns.Call (calls.AcceptBi session)) p = decides-accept side (turns.Call (calls.AcceptBi session)) log (peer_bi side) replies.Bi refl refl refl (λ g. refl) (λ g. refl) (λ k. refl)
+decides-passing side log (turns.Call (calls.ReceiveDatagram session)) p =
+    let t = turns.Call (calls.ReceiveDatagram session) in
+    decides-in side t log (receive_datagram side log) (asked_session log session) refl (λ d. ap (of_session (λ j. not (is_some (next_datagram side log)))) d)
     (λ d r x. reported (passing_reply side t log) replies.NoSession _ (ap (λ z. Some (session_reply (λ j. datagram_reply side log (next_datagram side log)) z)) d) r x refl)
     (λ s offset d. decides-receive side t refl refl (λ g. refl) (λ g. refl) s offset (suc (length (datagrams_of (events_of log)))) log d (omega arith))
 decides-passing side log (turns.Call _) p = absurd (cc)
 decides-passing side log _ p = absurd (cc)
 
 -- where an accept gives no stream, none is due
-module _ (side : Side) (log : Log) (reply : Reply) (s at_ : ℕ) (d : established_session (calls_of log) ≡ Some (s, at_)) (n : given_stream reply ≡ None) where
-  none-due : (give : ℕ → Reply) (kind : ℕ) → ((j : ℕ) → given_stream (give j) ≡ Some j) → reply ≡ session_reply (λ (j : ℕ). stream_reply side log give (next_due side log kind j)) (established_session (calls_of log)) → next_due side log kind s ≡ None
-  none-due give kind f e = by (next_due side log kind s) refl
+module _ (side : Side) (log : Log) (reply : Reply) (s at_ : ℕ) (n : given_stream reply ≡ None) where
+  none-due : (name : Option ℕ) (give : ℕ → Reply) (kind : ℕ) → asked_session log name ≡ Some (s, at_) → ((j : ℕ) → given_stream (give j) ≡ Some j) → reply ≡ session_reply (λ (j : ℕ). stream_reply side log give (next_due side log kind j)) (asked_session log name) → next_due side log kind s ≡ None
+  none-due name give kind d f e = by (next_due side log kind s) refl
     where
       by : (o : Option Classified) → next_due side log kind s ≡ o → o ≡ None
       by None q = refl
@@ -578,14 +580,14 @@ module _ (side : Side) (log : Log) (reply : Reply) (s at_ : ℕ) (d : establishe
           let x : reply ≡ give c.id = e ∙ ap (session_reply (λ (j : ℕ). stream_reply side log give (next_due side log kind j))) d ∙ ap (stream_reply side log give) q in
           let y = f c.id in let z = ap given_stream x in absurd (cc)
 
-  accept-none : (turn : Turn) → is_accept turn ≡ true → ((r : Reply) → passing_reply side turn log ≡ Some r → reply ≡ r) → next_due side log (accepted_kind side turn) s ≡ None
-  accept-none (turns.Call calls.AcceptUni) a g = none-due replies.Uni (peer_uni side) (λ j. refl) (g _ refl)
-  accept-none (turns.Call calls.AcceptBi) a g = none-due replies.Bi (peer_bi side) (λ j. refl) (g _ refl)
-  accept-none _ a g = absurd (cc)
+  accept-none : (turn : Turn) → is_accept turn ≡ true → asked_session log (name_in turn) ≡ Some (s, at_) → ((r : Reply) → passing_reply side turn log ≡ Some r → reply ≡ r) → next_due side log (accepted_kind side turn) s ≡ None
+  accept-none (turns.Call (calls.AcceptUni session)) a d g = none-due session replies.Uni (peer_uni side) d (λ j. refl) (g _ refl)
+  accept-none (turns.Call (calls.AcceptBi session)) a d g = none-due session replies.Bi (peer_bi side) d (λ j. refl) (g _ refl)
+  accept-none _ a d g = absurd (cc)
 
-left-so : (side : Side) (turn : Turn) (log : Log) (reply : Reply) → ((r : Reply) → passing_reply side turn log ≡ Some r → reply ≡ r) → (s at_ : ℕ) → is_accept turn ≡ true → given_stream reply ≡ None → established_session (calls_of log) ≡ Some (s, at_)
+left-so : (side : Side) (turn : Turn) (log : Log) (reply : Reply) → ((r : Reply) → passing_reply side turn log ≡ Some r → reply ≡ r) → (s at_ : ℕ) → is_accept turn ≡ true → given_stream reply ≡ None → asked_session log (name_in turn) ≡ Some (s, at_)
     → list_any (is_left_for log (accepted_kind side turn) s) (stream_table side log).classified ≡ false
-left-so side turn log reply g s at_ a n d = none-left side log (accepted_kind side turn) s (accept-none side log reply s at_ d n turn a g)
+left-so side turn log reply g s at_ a n d = none-left side log (accepted_kind side turn) s (accept-none side log reply s at_ n turn a d g)
 
 passes-extend : {side : Side} {turn : Turn} {middle log : Log} → PassesTo side turn middle log → GoesOnFrom log middle
 passes-extend PassesNone = ([], refl)

@@ -86,14 +86,14 @@ unfolding stream_table flush call_effect uni_verdict_of bi_verdict_of bi_decides
 recorded-session_accepted = refl
 
 abbrev turns-stream_read_to_its_end : List Turn
-turns-stream_read_to_its_end = (turns.Connected 9 9 1000 (facts.Limit 1200) ∷ turns.PeerUni ∷ turns.Bytes 2 (0 ∷ 4 ∷ 0 ∷ []) ∷ turns.PeerBi ∷ turns.Bytes 0 (1 ∷ 64 ∷ 80 ∷ 0 ∷ 0 ∷ 39 ∷ 3 ∷ 58 ∷ 97 ∷ 117 ∷ 116 ∷ 104 ∷ 111 ∷ 114 ∷ 105 ∷ 116 ∷ 121 ∷ 1 ∷ 104 ∷ 39 ∷ 0 ∷ 58 ∷ 109 ∷ 101 ∷ 116 ∷ 104 ∷ 111 ∷ 100 ∷ 7 ∷ 67 ∷ 79 ∷ 78 ∷ 78 ∷ 69 ∷ 67 ∷ 84 ∷ 37 ∷ 58 ∷ 112 ∷ 97 ∷ 116 ∷ 104 ∷ 1 ∷ 47 ∷ 39 ∷ 2 ∷ 58 ∷ 112 ∷ 114 ∷ 111 ∷ 116 ∷ 111 ∷ 99 ∷ 111 ∷ 108 ∷ 12 ∷ 119 ∷ 101 ∷ 98 ∷ 116 ∷ 114 ∷ 97 ∷ 110 ∷ 115 ∷ 112 ∷ 111 ∷ 114 ∷ 116 ∷ 39 ∷ 0 ∷ 58 ∷ 115 ∷ 99 ∷ 104 ∷ 101 ∷ 109 ∷ 101 ∷ 5 ∷ 104 ∷ 116 ∷ 116 ∷ 112 ∷ 115 ∷ []) ∷ turns.Call calls.Incoming ∷ turns.Call (calls.Accept ([])) ∷ turns.PeerUni ∷ turns.Bytes 6 (64 ∷ 84 ∷ 0 ∷ 104 ∷ 105 ∷ []) ∷ turns.Call calls.AcceptUni ∷ turns.Call (calls.Read 6 16) ∷ turns.Call (calls.Read 6 16) ∷ turns.End 6 ∷ turns.Call (calls.Read 6 16) ∷ [])
+turns-stream_read_to_its_end = (turns.Connected 9 9 1000 (facts.Limit 1200) ∷ turns.PeerUni ∷ turns.Bytes 2 (0 ∷ 4 ∷ 0 ∷ []) ∷ turns.PeerBi ∷ turns.Bytes 0 (1 ∷ 64 ∷ 80 ∷ 0 ∷ 0 ∷ 39 ∷ 3 ∷ 58 ∷ 97 ∷ 117 ∷ 116 ∷ 104 ∷ 111 ∷ 114 ∷ 105 ∷ 116 ∷ 121 ∷ 1 ∷ 104 ∷ 39 ∷ 0 ∷ 58 ∷ 109 ∷ 101 ∷ 116 ∷ 104 ∷ 111 ∷ 100 ∷ 7 ∷ 67 ∷ 79 ∷ 78 ∷ 78 ∷ 69 ∷ 67 ∷ 84 ∷ 37 ∷ 58 ∷ 112 ∷ 97 ∷ 116 ∷ 104 ∷ 1 ∷ 47 ∷ 39 ∷ 2 ∷ 58 ∷ 112 ∷ 114 ∷ 111 ∷ 116 ∷ 111 ∷ 99 ∷ 111 ∷ 108 ∷ 12 ∷ 119 ∷ 101 ∷ 98 ∷ 116 ∷ 114 ∷ 97 ∷ 110 ∷ 115 ∷ 112 ∷ 111 ∷ 114 ∷ 116 ∷ 39 ∷ 0 ∷ 58 ∷ 115 ∷ 99 ∷ 104 ∷ 101 ∷ 109 ∷ 101 ∷ 5 ∷ 104 ∷ 116 ∷ 116 ∷ 112 ∷ 115 ∷ []) ∷ turns.Call calls.Incoming ∷ turns.Call (calls.Accept ([])) ∷ turns.PeerUni ∷ turns.Bytes 6 (64 ∷ 84 ∷ 0 ∷ 104 ∷ 105 ∷ []) ∷ turns.Call (calls.AcceptUni None) ∷ turns.Call (calls.Read 6 16) ∷ turns.Call (calls.Read 6 16) ∷ turns.End 6 ∷ turns.Call (calls.Read 6 16) ∷ [])
 
 pub recorded-stream_read_to_its_end : shown (9 ∷ 10 ∷ 11 ∷ 13 ∷ []) (run Server turns-stream_read_to_its_end) ≡ ends Finished (answer (replies.Uni 6) ([]) ∷ answer (replies.Read (Some (104 ∷ 105 ∷ []))) ([]) ∷ answer replies.Pending ([]) ∷ answer (replies.Read None) ([]) ∷ [])
 unfolding stream_table flush call_effect uni_verdict_of bi_verdict_of bi_decides control_walk_of control_decides session_walk_of session_decides response_walk_of response_decides response_of request_of datagram_of close_value_at frame_at varint_at varint_bytes string_at line_at field_lines_from continuation_at prefixed_at prefixed_bytes with_pair pair_at pairs_from is_text_from ipv4_bits ipv6_bits
 recorded-stream_read_to_its_end = refl
 
 abbrev turns-stream_read_byte_by_byte : List Turn
-turns-stream_read_byte_by_byte = (turns.Connected 9 9 1000 (facts.Limit 1200) ∷ turns.PeerUni ∷ turns.Bytes 2 (0 ∷ 4 ∷ 0 ∷ []) ∷ turns.PeerBi ∷ turns.Bytes 0 (1 ∷ 64 ∷ 80 ∷ 0 ∷ 0 ∷ 39 ∷ 3 ∷ 58 ∷ 97 ∷ 117 ∷ 116 ∷ 104 ∷ 111 ∷ 114 ∷ 105 ∷ 116 ∷ 121 ∷ 1 ∷ 104 ∷ 39 ∷ 0 ∷ 58 ∷ 109 ∷ 101 ∷ 116 ∷ 104 ∷ 111 ∷ 100 ∷ 7 ∷ 67 ∷ 79 ∷ 78 ∷ 78 ∷ 69 ∷ 67 ∷ 84 ∷ 37 ∷ 58 ∷ 112 ∷ 97 ∷ 116 ∷ 104 ∷ 1 ∷ 47 ∷ 39 ∷ 2 ∷ 58 ∷ 112 ∷ 114 ∷ 111 ∷ 116 ∷ 111 ∷ 99 ∷ 111 ∷ 108 ∷ 12 ∷ 119 ∷ 101 ∷ 98 ∷ 116 ∷ 114 ∷ 97 ∷ 110 ∷ 115 ∷ 112 ∷ 111 ∷ 114 ∷ 116 ∷ 39 ∷ 0 ∷ 58 ∷ 115 ∷ 99 ∷ 104 ∷ 101 ∷ 109 ∷ 101 ∷ 5 ∷ 104 ∷ 116 ∷ 116 ∷ 112 ∷ 115 ∷ []) ∷ turns.Call calls.Incoming ∷ turns.Call (calls.Accept ([])) ∷ turns.PeerUni ∷ turns.Bytes 6 (64 ∷ []) ∷ turns.Bytes 6 (84 ∷ []) ∷ turns.Bytes 6 (0 ∷ []) ∷ turns.Bytes 6 (104 ∷ []) ∷ turns.Bytes 6 (105 ∷ []) ∷ turns.Call calls.AcceptUni ∷ turns.Call (calls.Read 6 16) ∷ turns.Call (calls.Read 6 16) ∷ turns.End 6 ∷ turns.Call (calls.Read 6 16) ∷ [])
+turns-stream_read_byte_by_byte = (turns.Connected 9 9 1000 (facts.Limit 1200) ∷ turns.PeerUni ∷ turns.Bytes 2 (0 ∷ 4 ∷ 0 ∷ []) ∷ turns.PeerBi ∷ turns.Bytes 0 (1 ∷ 64 ∷ 80 ∷ 0 ∷ 0 ∷ 39 ∷ 3 ∷ 58 ∷ 97 ∷ 117 ∷ 116 ∷ 104 ∷ 111 ∷ 114 ∷ 105 ∷ 116 ∷ 121 ∷ 1 ∷ 104 ∷ 39 ∷ 0 ∷ 58 ∷ 109 ∷ 101 ∷ 116 ∷ 104 ∷ 111 ∷ 100 ∷ 7 ∷ 67 ∷ 79 ∷ 78 ∷ 78 ∷ 69 ∷ 67 ∷ 84 ∷ 37 ∷ 58 ∷ 112 ∷ 97 ∷ 116 ∷ 104 ∷ 1 ∷ 47 ∷ 39 ∷ 2 ∷ 58 ∷ 112 ∷ 114 ∷ 111 ∷ 116 ∷ 111 ∷ 99 ∷ 111 ∷ 108 ∷ 12 ∷ 119 ∷ 101 ∷ 98 ∷ 116 ∷ 114 ∷ 97 ∷ 110 ∷ 115 ∷ 112 ∷ 111 ∷ 114 ∷ 116 ∷ 39 ∷ 0 ∷ 58 ∷ 115 ∷ 99 ∷ 104 ∷ 101 ∷ 109 ∷ 101 ∷ 5 ∷ 104 ∷ 116 ∷ 116 ∷ 112 ∷ 115 ∷ []) ∷ turns.Call calls.Incoming ∷ turns.Call (calls.Accept ([])) ∷ turns.PeerUni ∷ turns.Bytes 6 (64 ∷ []) ∷ turns.Bytes 6 (84 ∷ []) ∷ turns.Bytes 6 (0 ∷ []) ∷ turns.Bytes 6 (104 ∷ []) ∷ turns.Bytes 6 (105 ∷ []) ∷ turns.Call (calls.AcceptUni None) ∷ turns.Call (calls.Read 6 16) ∷ turns.Call (calls.Read 6 16) ∷ turns.End 6 ∷ turns.Call (calls.Read 6 16) ∷ [])
 
 pub recorded-stream_read_byte_by_byte : shown (13 ∷ 14 ∷ 15 ∷ 17 ∷ []) (run Server turns-stream_read_byte_by_byte) ≡ ends Finished (answer (replies.Uni 6) ([]) ∷ answer (replies.Read (Some (104 ∷ 105 ∷ []))) ([]) ∷ answer replies.Pending ([]) ∷ answer (replies.Read None) ([]) ∷ [])
 unfolding stream_table flush call_effect uni_verdict_of bi_verdict_of bi_decides control_walk_of control_decides session_walk_of session_decides response_walk_of response_decides response_of request_of datagram_of close_value_at frame_at varint_at varint_bytes string_at line_at field_lines_from continuation_at prefixed_at prefixed_bytes with_pair pair_at pairs_from is_text_from ipv4_bits ipv6_bits
@@ -114,7 +114,7 @@ unfolding stream_table flush call_effect uni_verdict_of bi_verdict_of bi_decides
 recorded-request_waits_for_settings = refl
 
 abbrev turns-second_control_stream : List Turn
-turns-second_control_stream = (turns.Connected 9 9 1000 (facts.Limit 1200) ∷ turns.PeerUni ∷ turns.Bytes 2 (0 ∷ 4 ∷ 0 ∷ []) ∷ turns.PeerBi ∷ turns.Bytes 0 (1 ∷ 64 ∷ 80 ∷ 0 ∷ 0 ∷ 39 ∷ 3 ∷ 58 ∷ 97 ∷ 117 ∷ 116 ∷ 104 ∷ 111 ∷ 114 ∷ 105 ∷ 116 ∷ 121 ∷ 1 ∷ 104 ∷ 39 ∷ 0 ∷ 58 ∷ 109 ∷ 101 ∷ 116 ∷ 104 ∷ 111 ∷ 100 ∷ 7 ∷ 67 ∷ 79 ∷ 78 ∷ 78 ∷ 69 ∷ 67 ∷ 84 ∷ 37 ∷ 58 ∷ 112 ∷ 97 ∷ 116 ∷ 104 ∷ 1 ∷ 47 ∷ 39 ∷ 2 ∷ 58 ∷ 112 ∷ 114 ∷ 111 ∷ 116 ∷ 111 ∷ 99 ∷ 111 ∷ 108 ∷ 12 ∷ 119 ∷ 101 ∷ 98 ∷ 116 ∷ 114 ∷ 97 ∷ 110 ∷ 115 ∷ 112 ∷ 111 ∷ 114 ∷ 116 ∷ 39 ∷ 0 ∷ 58 ∷ 115 ∷ 99 ∷ 104 ∷ 101 ∷ 109 ∷ 101 ∷ 5 ∷ 104 ∷ 116 ∷ 116 ∷ 112 ∷ 115 ∷ []) ∷ turns.Call calls.Incoming ∷ turns.Call (calls.Accept ([])) ∷ turns.PeerUni ∷ turns.Bytes 6 (0 ∷ []) ∷ turns.Call calls.AcceptUni ∷ turns.Call calls.Closed ∷ turns.Call calls.OpenUni ∷ [])
+turns-second_control_stream = (turns.Connected 9 9 1000 (facts.Limit 1200) ∷ turns.PeerUni ∷ turns.Bytes 2 (0 ∷ 4 ∷ 0 ∷ []) ∷ turns.PeerBi ∷ turns.Bytes 0 (1 ∷ 64 ∷ 80 ∷ 0 ∷ 0 ∷ 39 ∷ 3 ∷ 58 ∷ 97 ∷ 117 ∷ 116 ∷ 104 ∷ 111 ∷ 114 ∷ 105 ∷ 116 ∷ 121 ∷ 1 ∷ 104 ∷ 39 ∷ 0 ∷ 58 ∷ 109 ∷ 101 ∷ 116 ∷ 104 ∷ 111 ∷ 100 ∷ 7 ∷ 67 ∷ 79 ∷ 78 ∷ 78 ∷ 69 ∷ 67 ∷ 84 ∷ 37 ∷ 58 ∷ 112 ∷ 97 ∷ 116 ∷ 104 ∷ 1 ∷ 47 ∷ 39 ∷ 2 ∷ 58 ∷ 112 ∷ 114 ∷ 111 ∷ 116 ∷ 111 ∷ 99 ∷ 111 ∷ 108 ∷ 12 ∷ 119 ∷ 101 ∷ 98 ∷ 116 ∷ 114 ∷ 97 ∷ 110 ∷ 115 ∷ 112 ∷ 111 ∷ 114 ∷ 116 ∷ 39 ∷ 0 ∷ 58 ∷ 115 ∷ 99 ∷ 104 ∷ 101 ∷ 109 ∷ 101 ∷ 5 ∷ 104 ∷ 116 ∷ 116 ∷ 112 ∷ 115 ∷ []) ∷ turns.Call calls.Incoming ∷ turns.Call (calls.Accept ([])) ∷ turns.PeerUni ∷ turns.Bytes 6 (0 ∷ []) ∷ turns.Call (calls.AcceptUni None) ∷ turns.Call calls.Closed ∷ turns.Call (calls.OpenUni None) ∷ [])
 
 pub recorded-second_control_stream : shown (8 ∷ 9 ∷ 10 ∷ 11 ∷ []) (run Server turns-second_control_stream) ≡ ends Finished (answer replies.Done (actions.Close 259 ([]) ∷ []) ∷ answer (replies.Failed (errors.LocalH3Error h3.StreamCreation)) ([]) ∷ answer (replies.Closed errors.LocallyClosed) ([]) ∷ answer (replies.Failed errors.LocallyClosed) ([]) ∷ [])
 unfolding stream_table flush call_effect uni_verdict_of bi_verdict_of bi_decides control_walk_of control_decides session_walk_of session_decides response_walk_of response_decides response_of request_of datagram_of close_value_at frame_at varint_at varint_bytes string_at line_at field_lines_from continuation_at prefixed_at prefixed_bytes with_pair pair_at pairs_from is_text_from ipv4_bits ipv6_bits
@@ -128,7 +128,7 @@ unfolding stream_table flush call_effect uni_verdict_of bi_verdict_of bi_decides
 recorded-five_streams_wait = refl
 
 abbrev turns-foreign_stream_passed : List Turn
-turns-foreign_stream_passed = (turns.Connected 9 9 1000 (facts.Limit 1200) ∷ turns.PeerUni ∷ turns.Bytes 2 (0 ∷ 4 ∷ 0 ∷ []) ∷ turns.PeerBi ∷ turns.Bytes 0 (1 ∷ 64 ∷ 80 ∷ 0 ∷ 0 ∷ 39 ∷ 3 ∷ 58 ∷ 97 ∷ 117 ∷ 116 ∷ 104 ∷ 111 ∷ 114 ∷ 105 ∷ 116 ∷ 121 ∷ 1 ∷ 104 ∷ 39 ∷ 0 ∷ 58 ∷ 109 ∷ 101 ∷ 116 ∷ 104 ∷ 111 ∷ 100 ∷ 7 ∷ 67 ∷ 79 ∷ 78 ∷ 78 ∷ 69 ∷ 67 ∷ 84 ∷ 37 ∷ 58 ∷ 112 ∷ 97 ∷ 116 ∷ 104 ∷ 1 ∷ 47 ∷ 39 ∷ 2 ∷ 58 ∷ 112 ∷ 114 ∷ 111 ∷ 116 ∷ 111 ∷ 99 ∷ 111 ∷ 108 ∷ 12 ∷ 119 ∷ 101 ∷ 98 ∷ 116 ∷ 114 ∷ 97 ∷ 110 ∷ 115 ∷ 112 ∷ 111 ∷ 114 ∷ 116 ∷ 39 ∷ 0 ∷ 58 ∷ 115 ∷ 99 ∷ 104 ∷ 101 ∷ 109 ∷ 101 ∷ 5 ∷ 104 ∷ 116 ∷ 116 ∷ 112 ∷ 115 ∷ []) ∷ turns.Call calls.Incoming ∷ turns.Call (calls.Accept ([])) ∷ turns.PeerUni ∷ turns.Bytes 6 (64 ∷ 84 ∷ 4 ∷ 97 ∷ []) ∷ turns.PeerUni ∷ turns.Bytes 10 (64 ∷ 84 ∷ 0 ∷ 98 ∷ []) ∷ turns.Call calls.AcceptUni ∷ turns.Call (calls.Read 10 9) ∷ turns.Call (calls.Read 6 9) ∷ [])
+turns-foreign_stream_passed = (turns.Connected 9 9 1000 (facts.Limit 1200) ∷ turns.PeerUni ∷ turns.Bytes 2 (0 ∷ 4 ∷ 0 ∷ []) ∷ turns.PeerBi ∷ turns.Bytes 0 (1 ∷ 64 ∷ 80 ∷ 0 ∷ 0 ∷ 39 ∷ 3 ∷ 58 ∷ 97 ∷ 117 ∷ 116 ∷ 104 ∷ 111 ∷ 114 ∷ 105 ∷ 116 ∷ 121 ∷ 1 ∷ 104 ∷ 39 ∷ 0 ∷ 58 ∷ 109 ∷ 101 ∷ 116 ∷ 104 ∷ 111 ∷ 100 ∷ 7 ∷ 67 ∷ 79 ∷ 78 ∷ 78 ∷ 69 ∷ 67 ∷ 84 ∷ 37 ∷ 58 ∷ 112 ∷ 97 ∷ 116 ∷ 104 ∷ 1 ∷ 47 ∷ 39 ∷ 2 ∷ 58 ∷ 112 ∷ 114 ∷ 111 ∷ 116 ∷ 111 ∷ 99 ∷ 111 ∷ 108 ∷ 12 ∷ 119 ∷ 101 ∷ 98 ∷ 116 ∷ 114 ∷ 97 ∷ 110 ∷ 115 ∷ 112 ∷ 111 ∷ 114 ∷ 116 ∷ 39 ∷ 0 ∷ 58 ∷ 115 ∷ 99 ∷ 104 ∷ 101 ∷ 109 ∷ 101 ∷ 5 ∷ 104 ∷ 116 ∷ 116 ∷ 112 ∷ 115 ∷ []) ∷ turns.Call calls.Incoming ∷ turns.Call (calls.Accept ([])) ∷ turns.PeerUni ∷ turns.Bytes 6 (64 ∷ 84 ∷ 4 ∷ 97 ∷ []) ∷ turns.PeerUni ∷ turns.Bytes 10 (64 ∷ 84 ∷ 0 ∷ 98 ∷ []) ∷ turns.Call (calls.AcceptUni None) ∷ turns.Call (calls.Read 10 9) ∷ turns.Call (calls.Read 6 9) ∷ [])
 
 pub recorded-foreign_stream_passed : shown (11 ∷ 12 ∷ 13 ∷ []) (run Server turns-foreign_stream_passed) ≡ ends Finished (answer (replies.Uni 10) (actions.StopOut 6 966049156 ∷ []) ∷ answer (replies.Read (Some (98 ∷ []))) ([]) ∷ answer replies.NoStream ([]) ∷ [])
 unfolding stream_table flush call_effect uni_verdict_of bi_verdict_of bi_decides control_walk_of control_decides session_walk_of session_decides response_walk_of response_decides response_of request_of datagram_of close_value_at frame_at varint_at varint_bytes string_at line_at field_lines_from continuation_at prefixed_at prefixed_bytes with_pair pair_at pairs_from is_text_from ipv4_bits ipv6_bits
@@ -149,7 +149,7 @@ unfolding stream_table flush call_effect uni_verdict_of bi_verdict_of bi_decides
 recorded-fault_uncovered_in_three = refl
 
 abbrev turns-session_stream_ended : List Turn
-turns-session_stream_ended = (turns.Connected 9 9 1000 (facts.Limit 1200) ∷ turns.PeerUni ∷ turns.Bytes 2 (0 ∷ 4 ∷ 0 ∷ []) ∷ turns.PeerBi ∷ turns.Bytes 0 (1 ∷ 64 ∷ 80 ∷ 0 ∷ 0 ∷ 39 ∷ 3 ∷ 58 ∷ 97 ∷ 117 ∷ 116 ∷ 104 ∷ 111 ∷ 114 ∷ 105 ∷ 116 ∷ 121 ∷ 1 ∷ 104 ∷ 39 ∷ 0 ∷ 58 ∷ 109 ∷ 101 ∷ 116 ∷ 104 ∷ 111 ∷ 100 ∷ 7 ∷ 67 ∷ 79 ∷ 78 ∷ 78 ∷ 69 ∷ 67 ∷ 84 ∷ 37 ∷ 58 ∷ 112 ∷ 97 ∷ 116 ∷ 104 ∷ 1 ∷ 47 ∷ 39 ∷ 2 ∷ 58 ∷ 112 ∷ 114 ∷ 111 ∷ 116 ∷ 111 ∷ 99 ∷ 111 ∷ 108 ∷ 12 ∷ 119 ∷ 101 ∷ 98 ∷ 116 ∷ 114 ∷ 97 ∷ 110 ∷ 115 ∷ 112 ∷ 111 ∷ 114 ∷ 116 ∷ 39 ∷ 0 ∷ 58 ∷ 115 ∷ 99 ∷ 104 ∷ 101 ∷ 109 ∷ 101 ∷ 5 ∷ 104 ∷ 116 ∷ 116 ∷ 112 ∷ 115 ∷ []) ∷ turns.Call calls.Incoming ∷ turns.Call (calls.Accept ([])) ∷ turns.End 0 ∷ turns.Call calls.AcceptUni ∷ turns.Call calls.Closed ∷ [])
+turns-session_stream_ended = (turns.Connected 9 9 1000 (facts.Limit 1200) ∷ turns.PeerUni ∷ turns.Bytes 2 (0 ∷ 4 ∷ 0 ∷ []) ∷ turns.PeerBi ∷ turns.Bytes 0 (1 ∷ 64 ∷ 80 ∷ 0 ∷ 0 ∷ 39 ∷ 3 ∷ 58 ∷ 97 ∷ 117 ∷ 116 ∷ 104 ∷ 111 ∷ 114 ∷ 105 ∷ 116 ∷ 121 ∷ 1 ∷ 104 ∷ 39 ∷ 0 ∷ 58 ∷ 109 ∷ 101 ∷ 116 ∷ 104 ∷ 111 ∷ 100 ∷ 7 ∷ 67 ∷ 79 ∷ 78 ∷ 78 ∷ 69 ∷ 67 ∷ 84 ∷ 37 ∷ 58 ∷ 112 ∷ 97 ∷ 116 ∷ 104 ∷ 1 ∷ 47 ∷ 39 ∷ 2 ∷ 58 ∷ 112 ∷ 114 ∷ 111 ∷ 116 ∷ 111 ∷ 99 ∷ 111 ∷ 108 ∷ 12 ∷ 119 ∷ 101 ∷ 98 ∷ 116 ∷ 114 ∷ 97 ∷ 110 ∷ 115 ∷ 112 ∷ 111 ∷ 114 ∷ 116 ∷ 39 ∷ 0 ∷ 58 ∷ 115 ∷ 99 ∷ 104 ∷ 101 ∷ 109 ∷ 101 ∷ 5 ∷ 104 ∷ 116 ∷ 116 ∷ 112 ∷ 115 ∷ []) ∷ turns.Call calls.Incoming ∷ turns.Call (calls.Accept ([])) ∷ turns.End 0 ∷ turns.Call (calls.AcceptUni None) ∷ turns.Call calls.Closed ∷ [])
 
 pub recorded-session_stream_ended : shown (7 ∷ 8 ∷ 9 ∷ []) (run Server turns-session_stream_ended) ≡ ends Finished (answer replies.Done (actions.Close 256 ([]) ∷ []) ∷ answer (replies.Failed (errors.ApplicationClosed (record { code = 0; reason = ([]) }))) ([]) ∷ answer (replies.Closed errors.LocallyClosed) ([]) ∷ [])
 unfolding stream_table flush call_effect uni_verdict_of bi_verdict_of bi_decides control_walk_of control_decides session_walk_of session_decides response_walk_of response_decides response_of request_of datagram_of close_value_at frame_at varint_at varint_bytes string_at line_at field_lines_from continuation_at prefixed_at prefixed_bytes with_pair pair_at pairs_from is_text_from ipv4_bits ipv6_bits
@@ -163,7 +163,7 @@ unfolding stream_table flush call_effect uni_verdict_of bi_verdict_of bi_decides
 recorded-session_stream_cut = refl
 
 abbrev turns-session_closed_by_capsule : List Turn
-turns-session_closed_by_capsule = (turns.Connected 9 9 1000 (facts.Limit 1200) ∷ turns.PeerUni ∷ turns.Bytes 2 (0 ∷ 4 ∷ 0 ∷ []) ∷ turns.PeerBi ∷ turns.Bytes 0 (1 ∷ 64 ∷ 80 ∷ 0 ∷ 0 ∷ 39 ∷ 3 ∷ 58 ∷ 97 ∷ 117 ∷ 116 ∷ 104 ∷ 111 ∷ 114 ∷ 105 ∷ 116 ∷ 121 ∷ 1 ∷ 104 ∷ 39 ∷ 0 ∷ 58 ∷ 109 ∷ 101 ∷ 116 ∷ 104 ∷ 111 ∷ 100 ∷ 7 ∷ 67 ∷ 79 ∷ 78 ∷ 78 ∷ 69 ∷ 67 ∷ 84 ∷ 37 ∷ 58 ∷ 112 ∷ 97 ∷ 116 ∷ 104 ∷ 1 ∷ 47 ∷ 39 ∷ 2 ∷ 58 ∷ 112 ∷ 114 ∷ 111 ∷ 116 ∷ 111 ∷ 99 ∷ 111 ∷ 108 ∷ 12 ∷ 119 ∷ 101 ∷ 98 ∷ 116 ∷ 114 ∷ 97 ∷ 110 ∷ 115 ∷ 112 ∷ 111 ∷ 114 ∷ 116 ∷ 39 ∷ 0 ∷ 58 ∷ 115 ∷ 99 ∷ 104 ∷ 101 ∷ 109 ∷ 101 ∷ 5 ∷ 104 ∷ 116 ∷ 116 ∷ 112 ∷ 115 ∷ []) ∷ turns.Call calls.Incoming ∷ turns.Call (calls.Accept ([])) ∷ turns.Bytes 0 (0 ∷ 10 ∷ 104 ∷ 67 ∷ 7 ∷ 0 ∷ 0 ∷ 0 ∷ 7 ∷ 98 ∷ 121 ∷ 101 ∷ []) ∷ turns.Call calls.AcceptBi ∷ [])
+turns-session_closed_by_capsule = (turns.Connected 9 9 1000 (facts.Limit 1200) ∷ turns.PeerUni ∷ turns.Bytes 2 (0 ∷ 4 ∷ 0 ∷ []) ∷ turns.PeerBi ∷ turns.Bytes 0 (1 ∷ 64 ∷ 80 ∷ 0 ∷ 0 ∷ 39 ∷ 3 ∷ 58 ∷ 97 ∷ 117 ∷ 116 ∷ 104 ∷ 111 ∷ 114 ∷ 105 ∷ 116 ∷ 121 ∷ 1 ∷ 104 ∷ 39 ∷ 0 ∷ 58 ∷ 109 ∷ 101 ∷ 116 ∷ 104 ∷ 111 ∷ 100 ∷ 7 ∷ 67 ∷ 79 ∷ 78 ∷ 78 ∷ 69 ∷ 67 ∷ 84 ∷ 37 ∷ 58 ∷ 112 ∷ 97 ∷ 116 ∷ 104 ∷ 1 ∷ 47 ∷ 39 ∷ 2 ∷ 58 ∷ 112 ∷ 114 ∷ 111 ∷ 116 ∷ 111 ∷ 99 ∷ 111 ∷ 108 ∷ 12 ∷ 119 ∷ 101 ∷ 98 ∷ 116 ∷ 114 ∷ 97 ∷ 110 ∷ 115 ∷ 112 ∷ 111 ∷ 114 ∷ 116 ∷ 39 ∷ 0 ∷ 58 ∷ 115 ∷ 99 ∷ 104 ∷ 101 ∷ 109 ∷ 101 ∷ 5 ∷ 104 ∷ 116 ∷ 116 ∷ 112 ∷ 115 ∷ []) ∷ turns.Call calls.Incoming ∷ turns.Call (calls.Accept ([])) ∷ turns.Bytes 0 (0 ∷ 10 ∷ 104 ∷ 67 ∷ 7 ∷ 0 ∷ 0 ∷ 0 ∷ 7 ∷ 98 ∷ 121 ∷ 101 ∷ []) ∷ turns.Call (calls.AcceptBi None) ∷ [])
 
 pub recorded-session_closed_by_capsule : shown (7 ∷ 8 ∷ []) (run Server turns-session_closed_by_capsule) ≡ ends Finished (answer replies.Done (actions.ResetOut 0 256 ∷ actions.Close 256 ([]) ∷ []) ∷ answer (replies.Failed (errors.ApplicationClosed (record { code = 7; reason = (98 ∷ 121 ∷ 101 ∷ []) }))) ([]) ∷ [])
 unfolding stream_table flush call_effect uni_verdict_of bi_verdict_of bi_decides control_walk_of control_decides session_walk_of session_decides response_walk_of response_decides response_of request_of datagram_of close_value_at frame_at varint_at varint_bytes string_at line_at field_lines_from continuation_at prefixed_at prefixed_bytes with_pair pair_at pairs_from is_text_from ipv4_bits ipv6_bits
@@ -240,56 +240,56 @@ unfolding stream_table flush call_effect uni_verdict_of bi_verdict_of bi_decides
 recorded-reserved_header = refl
 
 abbrev turns-datagrams_received : List Turn
-turns-datagrams_received = (turns.Connected 9 9 1000 (facts.Limit 1200) ∷ turns.PeerUni ∷ turns.Bytes 2 (0 ∷ 4 ∷ 0 ∷ []) ∷ turns.PeerBi ∷ turns.Bytes 0 (1 ∷ 64 ∷ 80 ∷ 0 ∷ 0 ∷ 39 ∷ 3 ∷ 58 ∷ 97 ∷ 117 ∷ 116 ∷ 104 ∷ 111 ∷ 114 ∷ 105 ∷ 116 ∷ 121 ∷ 1 ∷ 104 ∷ 39 ∷ 0 ∷ 58 ∷ 109 ∷ 101 ∷ 116 ∷ 104 ∷ 111 ∷ 100 ∷ 7 ∷ 67 ∷ 79 ∷ 78 ∷ 78 ∷ 69 ∷ 67 ∷ 84 ∷ 37 ∷ 58 ∷ 112 ∷ 97 ∷ 116 ∷ 104 ∷ 1 ∷ 47 ∷ 39 ∷ 2 ∷ 58 ∷ 112 ∷ 114 ∷ 111 ∷ 116 ∷ 111 ∷ 99 ∷ 111 ∷ 108 ∷ 12 ∷ 119 ∷ 101 ∷ 98 ∷ 116 ∷ 114 ∷ 97 ∷ 110 ∷ 115 ∷ 112 ∷ 111 ∷ 114 ∷ 116 ∷ 39 ∷ 0 ∷ 58 ∷ 115 ∷ 99 ∷ 104 ∷ 101 ∷ 109 ∷ 101 ∷ 5 ∷ 104 ∷ 116 ∷ 116 ∷ 112 ∷ 115 ∷ []) ∷ turns.Call calls.Incoming ∷ turns.Call (calls.Accept ([])) ∷ turns.Datagram (1 ∷ 97 ∷ []) ∷ turns.Datagram (0 ∷ 104 ∷ 105 ∷ []) ∷ turns.Datagram (64 ∷ []) ∷ turns.Call calls.ReceiveDatagram ∷ turns.Call calls.ReceiveDatagram ∷ [])
+turns-datagrams_received = (turns.Connected 9 9 1000 (facts.Limit 1200) ∷ turns.PeerUni ∷ turns.Bytes 2 (0 ∷ 4 ∷ 0 ∷ []) ∷ turns.PeerBi ∷ turns.Bytes 0 (1 ∷ 64 ∷ 80 ∷ 0 ∷ 0 ∷ 39 ∷ 3 ∷ 58 ∷ 97 ∷ 117 ∷ 116 ∷ 104 ∷ 111 ∷ 114 ∷ 105 ∷ 116 ∷ 121 ∷ 1 ∷ 104 ∷ 39 ∷ 0 ∷ 58 ∷ 109 ∷ 101 ∷ 116 ∷ 104 ∷ 111 ∷ 100 ∷ 7 ∷ 67 ∷ 79 ∷ 78 ∷ 78 ∷ 69 ∷ 67 ∷ 84 ∷ 37 ∷ 58 ∷ 112 ∷ 97 ∷ 116 ∷ 104 ∷ 1 ∷ 47 ∷ 39 ∷ 2 ∷ 58 ∷ 112 ∷ 114 ∷ 111 ∷ 116 ∷ 111 ∷ 99 ∷ 111 ∷ 108 ∷ 12 ∷ 119 ∷ 101 ∷ 98 ∷ 116 ∷ 114 ∷ 97 ∷ 110 ∷ 115 ∷ 112 ∷ 111 ∷ 114 ∷ 116 ∷ 39 ∷ 0 ∷ 58 ∷ 115 ∷ 99 ∷ 104 ∷ 101 ∷ 109 ∷ 101 ∷ 5 ∷ 104 ∷ 116 ∷ 116 ∷ 112 ∷ 115 ∷ []) ∷ turns.Call calls.Incoming ∷ turns.Call (calls.Accept ([])) ∷ turns.Datagram (1 ∷ 97 ∷ []) ∷ turns.Datagram (0 ∷ 104 ∷ 105 ∷ []) ∷ turns.Datagram (64 ∷ []) ∷ turns.Call (calls.ReceiveDatagram None) ∷ turns.Call (calls.ReceiveDatagram None) ∷ [])
 
 pub recorded-datagrams_received : shown (7 ∷ 8 ∷ 9 ∷ 10 ∷ 11 ∷ []) (run Server turns-datagrams_received) ≡ ends Finished (answer replies.Done ([]) ∷ answer replies.Done ([]) ∷ answer replies.Done ([]) ∷ answer (replies.Datagram (104 ∷ 105 ∷ [])) (actions.Close 51 ([]) ∷ []) ∷ answer (replies.Failed (errors.LocalH3Error h3.Datagram)) ([]) ∷ [])
 unfolding stream_table flush call_effect uni_verdict_of bi_verdict_of bi_decides control_walk_of control_decides session_walk_of session_decides response_walk_of response_decides response_of request_of datagram_of close_value_at frame_at varint_at varint_bytes string_at line_at field_lines_from continuation_at prefixed_at prefixed_bytes with_pair pair_at pairs_from is_text_from ipv4_bits ipv6_bits
 recorded-datagrams_received = refl
 
 abbrev turns-datagrams_sent : List Turn
-turns-datagrams_sent = (turns.Connected 9 9 1000 (facts.Limit 1200) ∷ turns.PeerUni ∷ turns.Bytes 2 (0 ∷ 4 ∷ 0 ∷ []) ∷ turns.PeerBi ∷ turns.Bytes 0 (1 ∷ 64 ∷ 80 ∷ 0 ∷ 0 ∷ 39 ∷ 3 ∷ 58 ∷ 97 ∷ 117 ∷ 116 ∷ 104 ∷ 111 ∷ 114 ∷ 105 ∷ 116 ∷ 121 ∷ 1 ∷ 104 ∷ 39 ∷ 0 ∷ 58 ∷ 109 ∷ 101 ∷ 116 ∷ 104 ∷ 111 ∷ 100 ∷ 7 ∷ 67 ∷ 79 ∷ 78 ∷ 78 ∷ 69 ∷ 67 ∷ 84 ∷ 37 ∷ 58 ∷ 112 ∷ 97 ∷ 116 ∷ 104 ∷ 1 ∷ 47 ∷ 39 ∷ 2 ∷ 58 ∷ 112 ∷ 114 ∷ 111 ∷ 116 ∷ 111 ∷ 99 ∷ 111 ∷ 108 ∷ 12 ∷ 119 ∷ 101 ∷ 98 ∷ 116 ∷ 114 ∷ 97 ∷ 110 ∷ 115 ∷ 112 ∷ 111 ∷ 114 ∷ 116 ∷ 39 ∷ 0 ∷ 58 ∷ 115 ∷ 99 ∷ 104 ∷ 101 ∷ 109 ∷ 101 ∷ 5 ∷ 104 ∷ 116 ∷ 116 ∷ 112 ∷ 115 ∷ []) ∷ turns.Call calls.Incoming ∷ turns.Call (calls.Accept ([])) ∷ turns.DatagramLimit (facts.Limit 0) ∷ turns.Call calls.MaxDatagramSize ∷ turns.DatagramLimit (facts.Limit 3) ∷ turns.Call calls.MaxDatagramSize ∷ turns.Call (calls.SendDatagram (104 ∷ 105 ∷ [])) ∷ turns.Call (calls.SendDatagram (97 ∷ 98 ∷ 99 ∷ [])) ∷ turns.DatagramLimit facts.Disabled ∷ turns.Call (calls.SendDatagram ([])) ∷ [])
+turns-datagrams_sent = (turns.Connected 9 9 1000 (facts.Limit 1200) ∷ turns.PeerUni ∷ turns.Bytes 2 (0 ∷ 4 ∷ 0 ∷ []) ∷ turns.PeerBi ∷ turns.Bytes 0 (1 ∷ 64 ∷ 80 ∷ 0 ∷ 0 ∷ 39 ∷ 3 ∷ 58 ∷ 97 ∷ 117 ∷ 116 ∷ 104 ∷ 111 ∷ 114 ∷ 105 ∷ 116 ∷ 121 ∷ 1 ∷ 104 ∷ 39 ∷ 0 ∷ 58 ∷ 109 ∷ 101 ∷ 116 ∷ 104 ∷ 111 ∷ 100 ∷ 7 ∷ 67 ∷ 79 ∷ 78 ∷ 78 ∷ 69 ∷ 67 ∷ 84 ∷ 37 ∷ 58 ∷ 112 ∷ 97 ∷ 116 ∷ 104 ∷ 1 ∷ 47 ∷ 39 ∷ 2 ∷ 58 ∷ 112 ∷ 114 ∷ 111 ∷ 116 ∷ 111 ∷ 99 ∷ 111 ∷ 108 ∷ 12 ∷ 119 ∷ 101 ∷ 98 ∷ 116 ∷ 114 ∷ 97 ∷ 110 ∷ 115 ∷ 112 ∷ 111 ∷ 114 ∷ 116 ∷ 39 ∷ 0 ∷ 58 ∷ 115 ∷ 99 ∷ 104 ∷ 101 ∷ 109 ∷ 101 ∷ 5 ∷ 104 ∷ 116 ∷ 116 ∷ 112 ∷ 115 ∷ []) ∷ turns.Call calls.Incoming ∷ turns.Call (calls.Accept ([])) ∷ turns.DatagramLimit (facts.Limit 0) ∷ turns.Call (calls.MaxDatagramSize None) ∷ turns.DatagramLimit (facts.Limit 3) ∷ turns.Call (calls.MaxDatagramSize None) ∷ turns.Call (calls.SendDatagram (104 ∷ 105 ∷ []) None) ∷ turns.Call (calls.SendDatagram (97 ∷ 98 ∷ 99 ∷ []) None) ∷ turns.DatagramLimit facts.Disabled ∷ turns.Call (calls.SendDatagram ([]) None) ∷ [])
 
 pub recorded-datagrams_sent : shown (8 ∷ 10 ∷ 11 ∷ 12 ∷ 14 ∷ []) (run Server turns-datagrams_sent) ≡ ends Finished (answer (replies.Size None) ([]) ∷ answer (replies.Size (Some 2)) ([]) ∷ answer replies.Done (actions.DatagramOut (0 ∷ 104 ∷ 105 ∷ []) ∷ []) ∷ answer (replies.DatagramFailed datagrams.TooLarge) ([]) ∷ answer (replies.DatagramFailed datagrams.Disabled) ([]) ∷ [])
 unfolding stream_table flush call_effect uni_verdict_of bi_verdict_of bi_decides control_walk_of control_decides session_walk_of session_decides response_walk_of response_decides response_of request_of datagram_of close_value_at frame_at varint_at varint_bytes string_at line_at field_lines_from continuation_at prefixed_at prefixed_bytes with_pair pair_at pairs_from is_text_from ipv4_bits ipv6_bits
 recorded-datagrams_sent = refl
 
 abbrev turns-stream_written : List Turn
-turns-stream_written = (turns.Connected 9 9 25 (facts.Limit 1200) ∷ turns.PeerUni ∷ turns.Bytes 2 (0 ∷ 4 ∷ 0 ∷ []) ∷ turns.PeerBi ∷ turns.Bytes 0 (1 ∷ 64 ∷ 80 ∷ 0 ∷ 0 ∷ 39 ∷ 3 ∷ 58 ∷ 97 ∷ 117 ∷ 116 ∷ 104 ∷ 111 ∷ 114 ∷ 105 ∷ 116 ∷ 121 ∷ 1 ∷ 104 ∷ 39 ∷ 0 ∷ 58 ∷ 109 ∷ 101 ∷ 116 ∷ 104 ∷ 111 ∷ 100 ∷ 7 ∷ 67 ∷ 79 ∷ 78 ∷ 78 ∷ 69 ∷ 67 ∷ 84 ∷ 37 ∷ 58 ∷ 112 ∷ 97 ∷ 116 ∷ 104 ∷ 1 ∷ 47 ∷ 39 ∷ 2 ∷ 58 ∷ 112 ∷ 114 ∷ 111 ∷ 116 ∷ 111 ∷ 99 ∷ 111 ∷ 108 ∷ 12 ∷ 119 ∷ 101 ∷ 98 ∷ 116 ∷ 114 ∷ 97 ∷ 110 ∷ 115 ∷ 112 ∷ 111 ∷ 114 ∷ 116 ∷ 39 ∷ 0 ∷ 58 ∷ 115 ∷ 99 ∷ 104 ∷ 101 ∷ 109 ∷ 101 ∷ 5 ∷ 104 ∷ 116 ∷ 116 ∷ 112 ∷ 115 ∷ []) ∷ turns.Call calls.Incoming ∷ turns.Call (calls.Accept ([])) ∷ turns.Call calls.OpenUni ∷ turns.Call (calls.PollOpening 7) ∷ turns.Call (calls.WriteAll 7 (97 ∷ 97 ∷ 97 ∷ 97 ∷ 97 ∷ 97 ∷ 97 ∷ 97 ∷ 97 ∷ 97 ∷ 97 ∷ 97 ∷ 97 ∷ 97 ∷ 97 ∷ 97 ∷ 97 ∷ 97 ∷ 97 ∷ 97 ∷ [])) ∷ turns.Call (calls.Write 7 (97 ∷ 98 ∷ 99 ∷ 100 ∷ 101 ∷ [])) ∷ turns.Call (calls.Write 7 (99 ∷ 100 ∷ 101 ∷ [])) ∷ turns.Call (calls.Write 7 ([])) ∷ turns.MaxData 7 28 ∷ turns.Call (calls.Write 7 (99 ∷ 100 ∷ 101 ∷ [])) ∷ turns.Call (calls.WriteAll 7 (97 ∷ [])) ∷ turns.Call (calls.Finish 7) ∷ turns.Call (calls.Write 7 (97 ∷ [])) ∷ turns.Acked 7 ∷ turns.Call (calls.Finish 7) ∷ turns.Call (calls.ResetSend 7 1) ∷ turns.Call (calls.Priority 7) ∷ [])
+turns-stream_written = (turns.Connected 9 9 25 (facts.Limit 1200) ∷ turns.PeerUni ∷ turns.Bytes 2 (0 ∷ 4 ∷ 0 ∷ []) ∷ turns.PeerBi ∷ turns.Bytes 0 (1 ∷ 64 ∷ 80 ∷ 0 ∷ 0 ∷ 39 ∷ 3 ∷ 58 ∷ 97 ∷ 117 ∷ 116 ∷ 104 ∷ 111 ∷ 114 ∷ 105 ∷ 116 ∷ 121 ∷ 1 ∷ 104 ∷ 39 ∷ 0 ∷ 58 ∷ 109 ∷ 101 ∷ 116 ∷ 104 ∷ 111 ∷ 100 ∷ 7 ∷ 67 ∷ 79 ∷ 78 ∷ 78 ∷ 69 ∷ 67 ∷ 84 ∷ 37 ∷ 58 ∷ 112 ∷ 97 ∷ 116 ∷ 104 ∷ 1 ∷ 47 ∷ 39 ∷ 2 ∷ 58 ∷ 112 ∷ 114 ∷ 111 ∷ 116 ∷ 111 ∷ 99 ∷ 111 ∷ 108 ∷ 12 ∷ 119 ∷ 101 ∷ 98 ∷ 116 ∷ 114 ∷ 97 ∷ 110 ∷ 115 ∷ 112 ∷ 111 ∷ 114 ∷ 116 ∷ 39 ∷ 0 ∷ 58 ∷ 115 ∷ 99 ∷ 104 ∷ 101 ∷ 109 ∷ 101 ∷ 5 ∷ 104 ∷ 116 ∷ 116 ∷ 112 ∷ 115 ∷ []) ∷ turns.Call calls.Incoming ∷ turns.Call (calls.Accept ([])) ∷ turns.Call (calls.OpenUni None) ∷ turns.Call (calls.PollOpening 7) ∷ turns.Call (calls.WriteAll 7 (97 ∷ 97 ∷ 97 ∷ 97 ∷ 97 ∷ 97 ∷ 97 ∷ 97 ∷ 97 ∷ 97 ∷ 97 ∷ 97 ∷ 97 ∷ 97 ∷ 97 ∷ 97 ∷ 97 ∷ 97 ∷ 97 ∷ 97 ∷ [])) ∷ turns.Call (calls.Write 7 (97 ∷ 98 ∷ 99 ∷ 100 ∷ 101 ∷ [])) ∷ turns.Call (calls.Write 7 (99 ∷ 100 ∷ 101 ∷ [])) ∷ turns.Call (calls.Write 7 ([])) ∷ turns.MaxData 7 28 ∷ turns.Call (calls.Write 7 (99 ∷ 100 ∷ 101 ∷ [])) ∷ turns.Call (calls.WriteAll 7 (97 ∷ [])) ∷ turns.Call (calls.Finish 7) ∷ turns.Call (calls.Write 7 (97 ∷ [])) ∷ turns.Acked 7 ∷ turns.Call (calls.Finish 7) ∷ turns.Call (calls.ResetSend 7 1) ∷ turns.Call (calls.Priority 7) ∷ [])
 
 pub recorded-stream_written : shown (7 ∷ 8 ∷ 9 ∷ 10 ∷ 11 ∷ 12 ∷ 14 ∷ 15 ∷ 16 ∷ 17 ∷ 19 ∷ 20 ∷ 21 ∷ []) (run Server turns-stream_written) ≡ ends Finished (answer (replies.Opening 7) (actions.Opened 7 ∷ []) ∷ answer (replies.SendReady 7) (actions.Send 7 (64 ∷ 84 ∷ 0 ∷ []) ∷ []) ∷ answer replies.AllWritten (actions.Send 7 (97 ∷ 97 ∷ 97 ∷ 97 ∷ 97 ∷ 97 ∷ 97 ∷ 97 ∷ 97 ∷ 97 ∷ 97 ∷ 97 ∷ 97 ∷ 97 ∷ 97 ∷ 97 ∷ 97 ∷ 97 ∷ 97 ∷ 97 ∷ []) ∷ []) ∷ answer (replies.Written 2) (actions.Send 7 (97 ∷ 98 ∷ []) ∷ []) ∷ answer replies.Pending ([]) ∷ answer (replies.Written 0) ([]) ∷ answer (replies.Written 3) (actions.Send 7 (99 ∷ 100 ∷ 101 ∷ []) ∷ []) ∷ answer (replies.Count 0) ([]) ∷ answer replies.Pending (actions.Finish 7 ∷ []) ∷ answer (replies.WriteFailed writes.Closed) ([]) ∷ answer replies.Finished ([]) ∷ answer replies.ClosedStream ([]) ∷ answer replies.ClosedStream ([]) ∷ [])
 unfolding stream_table flush call_effect uni_verdict_of bi_verdict_of bi_decides control_walk_of control_decides session_walk_of session_decides response_walk_of response_decides response_of request_of datagram_of close_value_at frame_at varint_at varint_bytes string_at line_at field_lines_from continuation_at prefixed_at prefixed_bytes with_pair pair_at pairs_from is_text_from ipv4_bits ipv6_bits
 recorded-stream_written = refl
 
 abbrev turns-bidirectional_stream : List Turn
-turns-bidirectional_stream = (turns.Connected 9 9 1000 (facts.Limit 1200) ∷ turns.PeerUni ∷ turns.Bytes 2 (0 ∷ 4 ∷ 0 ∷ []) ∷ turns.PeerBi ∷ turns.Bytes 0 (1 ∷ 64 ∷ 80 ∷ 0 ∷ 0 ∷ 39 ∷ 3 ∷ 58 ∷ 97 ∷ 117 ∷ 116 ∷ 104 ∷ 111 ∷ 114 ∷ 105 ∷ 116 ∷ 121 ∷ 1 ∷ 104 ∷ 39 ∷ 0 ∷ 58 ∷ 109 ∷ 101 ∷ 116 ∷ 104 ∷ 111 ∷ 100 ∷ 7 ∷ 67 ∷ 79 ∷ 78 ∷ 78 ∷ 69 ∷ 67 ∷ 84 ∷ 37 ∷ 58 ∷ 112 ∷ 97 ∷ 116 ∷ 104 ∷ 1 ∷ 47 ∷ 39 ∷ 2 ∷ 58 ∷ 112 ∷ 114 ∷ 111 ∷ 116 ∷ 111 ∷ 99 ∷ 111 ∷ 108 ∷ 12 ∷ 119 ∷ 101 ∷ 98 ∷ 116 ∷ 114 ∷ 97 ∷ 110 ∷ 115 ∷ 112 ∷ 111 ∷ 114 ∷ 116 ∷ 39 ∷ 0 ∷ 58 ∷ 115 ∷ 99 ∷ 104 ∷ 101 ∷ 109 ∷ 101 ∷ 5 ∷ 104 ∷ 116 ∷ 116 ∷ 112 ∷ 115 ∷ []) ∷ turns.Call calls.Incoming ∷ turns.Call (calls.Accept ([])) ∷ turns.Call calls.OpenBi ∷ turns.Call (calls.PollOpening 1) ∷ turns.Bytes 1 (97 ∷ []) ∷ turns.Call (calls.Read 1 9) ∷ turns.Call (calls.Priority 1) ∷ turns.Stop 1 9 ∷ turns.Call (calls.Write 1 (97 ∷ [])) ∷ turns.Call (calls.Stopped 1) ∷ turns.Call calls.OpenUni ∷ turns.Stop 7 3 ∷ turns.Call (calls.PollOpening 7) ∷ [])
+turns-bidirectional_stream = (turns.Connected 9 9 1000 (facts.Limit 1200) ∷ turns.PeerUni ∷ turns.Bytes 2 (0 ∷ 4 ∷ 0 ∷ []) ∷ turns.PeerBi ∷ turns.Bytes 0 (1 ∷ 64 ∷ 80 ∷ 0 ∷ 0 ∷ 39 ∷ 3 ∷ 58 ∷ 97 ∷ 117 ∷ 116 ∷ 104 ∷ 111 ∷ 114 ∷ 105 ∷ 116 ∷ 121 ∷ 1 ∷ 104 ∷ 39 ∷ 0 ∷ 58 ∷ 109 ∷ 101 ∷ 116 ∷ 104 ∷ 111 ∷ 100 ∷ 7 ∷ 67 ∷ 79 ∷ 78 ∷ 78 ∷ 69 ∷ 67 ∷ 84 ∷ 37 ∷ 58 ∷ 112 ∷ 97 ∷ 116 ∷ 104 ∷ 1 ∷ 47 ∷ 39 ∷ 2 ∷ 58 ∷ 112 ∷ 114 ∷ 111 ∷ 116 ∷ 111 ∷ 99 ∷ 111 ∷ 108 ∷ 12 ∷ 119 ∷ 101 ∷ 98 ∷ 116 ∷ 114 ∷ 97 ∷ 110 ∷ 115 ∷ 112 ∷ 111 ∷ 114 ∷ 116 ∷ 39 ∷ 0 ∷ 58 ∷ 115 ∷ 99 ∷ 104 ∷ 101 ∷ 109 ∷ 101 ∷ 5 ∷ 104 ∷ 116 ∷ 116 ∷ 112 ∷ 115 ∷ []) ∷ turns.Call calls.Incoming ∷ turns.Call (calls.Accept ([])) ∷ turns.Call (calls.OpenBi None) ∷ turns.Call (calls.PollOpening 1) ∷ turns.Bytes 1 (97 ∷ []) ∷ turns.Call (calls.Read 1 9) ∷ turns.Call (calls.Priority 1) ∷ turns.Stop 1 9 ∷ turns.Call (calls.Write 1 (97 ∷ [])) ∷ turns.Call (calls.Stopped 1) ∷ turns.Call (calls.OpenUni None) ∷ turns.Stop 7 3 ∷ turns.Call (calls.PollOpening 7) ∷ [])
 
 pub recorded-bidirectional_stream : shown (7 ∷ 8 ∷ 10 ∷ 11 ∷ 13 ∷ 14 ∷ 17 ∷ []) (run Server turns-bidirectional_stream) ≡ ends Finished (answer (replies.Opening 1) (actions.Opened 1 ∷ []) ∷ answer (replies.BiReady 1) (actions.Send 1 (64 ∷ 65 ∷ 0 ∷ []) ∷ []) ∷ answer (replies.Read (Some (97 ∷ []))) ([]) ∷ answer (replies.Priority (pos 0)) ([]) ∷ answer (replies.WriteFailed (writes.Stopped 9)) ([]) ∷ answer (replies.StoppedBy (writes.Stopped 9)) ([]) ∷ answer (replies.OpeningFailed openings.Refused) ([]) ∷ [])
 unfolding stream_table flush call_effect uni_verdict_of bi_verdict_of bi_decides control_walk_of control_decides session_walk_of session_decides response_walk_of response_decides response_of request_of datagram_of close_value_at frame_at varint_at varint_bytes string_at line_at field_lines_from continuation_at prefixed_at prefixed_bytes with_pair pair_at pairs_from is_text_from ipv4_bits ipv6_bits
 recorded-bidirectional_stream = refl
 
 abbrev turns-no_stream_credit : List Turn
-turns-no_stream_credit = (turns.Connected 1 9 1000 (facts.Limit 1200) ∷ turns.PeerUni ∷ turns.Bytes 2 (0 ∷ 4 ∷ 0 ∷ []) ∷ turns.PeerBi ∷ turns.Bytes 0 (1 ∷ 64 ∷ 80 ∷ 0 ∷ 0 ∷ 39 ∷ 3 ∷ 58 ∷ 97 ∷ 117 ∷ 116 ∷ 104 ∷ 111 ∷ 114 ∷ 105 ∷ 116 ∷ 121 ∷ 1 ∷ 104 ∷ 39 ∷ 0 ∷ 58 ∷ 109 ∷ 101 ∷ 116 ∷ 104 ∷ 111 ∷ 100 ∷ 7 ∷ 67 ∷ 79 ∷ 78 ∷ 78 ∷ 69 ∷ 67 ∷ 84 ∷ 37 ∷ 58 ∷ 112 ∷ 97 ∷ 116 ∷ 104 ∷ 1 ∷ 47 ∷ 39 ∷ 2 ∷ 58 ∷ 112 ∷ 114 ∷ 111 ∷ 116 ∷ 111 ∷ 99 ∷ 111 ∷ 108 ∷ 12 ∷ 119 ∷ 101 ∷ 98 ∷ 116 ∷ 114 ∷ 97 ∷ 110 ∷ 115 ∷ 112 ∷ 111 ∷ 114 ∷ 116 ∷ 39 ∷ 0 ∷ 58 ∷ 115 ∷ 99 ∷ 104 ∷ 101 ∷ 109 ∷ 101 ∷ 5 ∷ 104 ∷ 116 ∷ 116 ∷ 112 ∷ 115 ∷ []) ∷ turns.Call calls.Incoming ∷ turns.Call (calls.Accept ([])) ∷ turns.Call calls.OpenUni ∷ [])
+turns-no_stream_credit = (turns.Connected 1 9 1000 (facts.Limit 1200) ∷ turns.PeerUni ∷ turns.Bytes 2 (0 ∷ 4 ∷ 0 ∷ []) ∷ turns.PeerBi ∷ turns.Bytes 0 (1 ∷ 64 ∷ 80 ∷ 0 ∷ 0 ∷ 39 ∷ 3 ∷ 58 ∷ 97 ∷ 117 ∷ 116 ∷ 104 ∷ 111 ∷ 114 ∷ 105 ∷ 116 ∷ 121 ∷ 1 ∷ 104 ∷ 39 ∷ 0 ∷ 58 ∷ 109 ∷ 101 ∷ 116 ∷ 104 ∷ 111 ∷ 100 ∷ 7 ∷ 67 ∷ 79 ∷ 78 ∷ 78 ∷ 69 ∷ 67 ∷ 84 ∷ 37 ∷ 58 ∷ 112 ∷ 97 ∷ 116 ∷ 104 ∷ 1 ∷ 47 ∷ 39 ∷ 2 ∷ 58 ∷ 112 ∷ 114 ∷ 111 ∷ 116 ∷ 111 ∷ 99 ∷ 111 ∷ 108 ∷ 12 ∷ 119 ∷ 101 ∷ 98 ∷ 116 ∷ 114 ∷ 97 ∷ 110 ∷ 115 ∷ 112 ∷ 111 ∷ 114 ∷ 116 ∷ 39 ∷ 0 ∷ 58 ∷ 115 ∷ 99 ∷ 104 ∷ 101 ∷ 109 ∷ 101 ∷ 5 ∷ 104 ∷ 116 ∷ 116 ∷ 112 ∷ 115 ∷ []) ∷ turns.Call calls.Incoming ∷ turns.Call (calls.Accept ([])) ∷ turns.Call (calls.OpenUni None) ∷ [])
 
 pub recorded-no_stream_credit : shown (7 ∷ []) (run Server turns-no_stream_credit) ≡ ends Finished (answer replies.Pending ([]) ∷ [])
 unfolding stream_table flush call_effect uni_verdict_of bi_verdict_of bi_decides control_walk_of control_decides session_walk_of session_decides response_walk_of response_decides response_of request_of datagram_of close_value_at frame_at varint_at varint_bytes string_at line_at field_lines_from continuation_at prefixed_at prefixed_bytes with_pair pair_at pairs_from is_text_from ipv4_bits ipv6_bits
 recorded-no_stream_credit = refl
 
 abbrev turns-read_exactly : List Turn
-turns-read_exactly = (turns.Connected 9 9 1000 (facts.Limit 1200) ∷ turns.PeerUni ∷ turns.Bytes 2 (0 ∷ 4 ∷ 0 ∷ []) ∷ turns.PeerBi ∷ turns.Bytes 0 (1 ∷ 64 ∷ 80 ∷ 0 ∷ 0 ∷ 39 ∷ 3 ∷ 58 ∷ 97 ∷ 117 ∷ 116 ∷ 104 ∷ 111 ∷ 114 ∷ 105 ∷ 116 ∷ 121 ∷ 1 ∷ 104 ∷ 39 ∷ 0 ∷ 58 ∷ 109 ∷ 101 ∷ 116 ∷ 104 ∷ 111 ∷ 100 ∷ 7 ∷ 67 ∷ 79 ∷ 78 ∷ 78 ∷ 69 ∷ 67 ∷ 84 ∷ 37 ∷ 58 ∷ 112 ∷ 97 ∷ 116 ∷ 104 ∷ 1 ∷ 47 ∷ 39 ∷ 2 ∷ 58 ∷ 112 ∷ 114 ∷ 111 ∷ 116 ∷ 111 ∷ 99 ∷ 111 ∷ 108 ∷ 12 ∷ 119 ∷ 101 ∷ 98 ∷ 116 ∷ 114 ∷ 97 ∷ 110 ∷ 115 ∷ 112 ∷ 111 ∷ 114 ∷ 116 ∷ 39 ∷ 0 ∷ 58 ∷ 115 ∷ 99 ∷ 104 ∷ 101 ∷ 109 ∷ 101 ∷ 5 ∷ 104 ∷ 116 ∷ 116 ∷ 112 ∷ 115 ∷ []) ∷ turns.Call calls.Incoming ∷ turns.Call (calls.Accept ([])) ∷ turns.PeerBi ∷ turns.Bytes 4 (33 ∷ 0 ∷ 64 ∷ 65 ∷ 0 ∷ 97 ∷ 98 ∷ 99 ∷ 100 ∷ []) ∷ turns.Call calls.AcceptBi ∷ turns.Call (calls.ReadExact 4 6) ∷ turns.Call (calls.ReadExact 4 2) ∷ turns.End 4 ∷ turns.Call (calls.ReadExact 4 3) ∷ turns.Call (calls.Read 4 9) ∷ turns.Call (calls.StopRecv 4 5) ∷ turns.Call (calls.Read 4 9) ∷ turns.Call (calls.Write 4 (97 ∷ [])) ∷ [])
+turns-read_exactly = (turns.Connected 9 9 1000 (facts.Limit 1200) ∷ turns.PeerUni ∷ turns.Bytes 2 (0 ∷ 4 ∷ 0 ∷ []) ∷ turns.PeerBi ∷ turns.Bytes 0 (1 ∷ 64 ∷ 80 ∷ 0 ∷ 0 ∷ 39 ∷ 3 ∷ 58 ∷ 97 ∷ 117 ∷ 116 ∷ 104 ∷ 111 ∷ 114 ∷ 105 ∷ 116 ∷ 121 ∷ 1 ∷ 104 ∷ 39 ∷ 0 ∷ 58 ∷ 109 ∷ 101 ∷ 116 ∷ 104 ∷ 111 ∷ 100 ∷ 7 ∷ 67 ∷ 79 ∷ 78 ∷ 78 ∷ 69 ∷ 67 ∷ 84 ∷ 37 ∷ 58 ∷ 112 ∷ 97 ∷ 116 ∷ 104 ∷ 1 ∷ 47 ∷ 39 ∷ 2 ∷ 58 ∷ 112 ∷ 114 ∷ 111 ∷ 116 ∷ 111 ∷ 99 ∷ 111 ∷ 108 ∷ 12 ∷ 119 ∷ 101 ∷ 98 ∷ 116 ∷ 114 ∷ 97 ∷ 110 ∷ 115 ∷ 112 ∷ 111 ∷ 114 ∷ 116 ∷ 39 ∷ 0 ∷ 58 ∷ 115 ∷ 99 ∷ 104 ∷ 101 ∷ 109 ∷ 101 ∷ 5 ∷ 104 ∷ 116 ∷ 116 ∷ 112 ∷ 115 ∷ []) ∷ turns.Call calls.Incoming ∷ turns.Call (calls.Accept ([])) ∷ turns.PeerBi ∷ turns.Bytes 4 (33 ∷ 0 ∷ 64 ∷ 65 ∷ 0 ∷ 97 ∷ 98 ∷ 99 ∷ 100 ∷ []) ∷ turns.Call (calls.AcceptBi None) ∷ turns.Call (calls.ReadExact 4 6) ∷ turns.Call (calls.ReadExact 4 2) ∷ turns.End 4 ∷ turns.Call (calls.ReadExact 4 3) ∷ turns.Call (calls.Read 4 9) ∷ turns.Call (calls.StopRecv 4 5) ∷ turns.Call (calls.Read 4 9) ∷ turns.Call (calls.Write 4 (97 ∷ [])) ∷ [])
 
 pub recorded-read_exactly : shown (9 ∷ 10 ∷ 11 ∷ 13 ∷ 14 ∷ 15 ∷ 16 ∷ 17 ∷ []) (run Server turns-read_exactly) ≡ ends Finished (answer (replies.Bi 4) ([]) ∷ answer replies.Pending ([]) ∷ answer (replies.Exact (97 ∷ 98 ∷ [])) ([]) ∷ answer (replies.ExactFailed (exacts.FinishedEarly 2) (99 ∷ 100 ∷ [])) ([]) ∷ answer (replies.Read None) ([]) ∷ answer replies.Done (actions.StopOut 4 5 ∷ []) ∷ answer replies.NoStream ([]) ∷ answer (replies.Written 1) (actions.Send 4 (97 ∷ []) ∷ []) ∷ [])
 unfolding stream_table flush call_effect uni_verdict_of bi_verdict_of bi_decides control_walk_of control_decides session_walk_of session_decides response_walk_of response_decides response_of request_of datagram_of close_value_at frame_at varint_at varint_bytes string_at line_at field_lines_from continuation_at prefixed_at prefixed_bytes with_pair pair_at pairs_from is_text_from ipv4_bits ipv6_bits
 recorded-read_exactly = refl
 
 abbrev turns-loss_with_streams_left : List Turn
-turns-loss_with_streams_left = (turns.Connected 9 9 1000 (facts.Limit 1200) ∷ turns.PeerUni ∷ turns.Bytes 2 (0 ∷ 4 ∷ 0 ∷ []) ∷ turns.PeerBi ∷ turns.Bytes 0 (1 ∷ 64 ∷ 80 ∷ 0 ∷ 0 ∷ 39 ∷ 3 ∷ 58 ∷ 97 ∷ 117 ∷ 116 ∷ 104 ∷ 111 ∷ 114 ∷ 105 ∷ 116 ∷ 121 ∷ 1 ∷ 104 ∷ 39 ∷ 0 ∷ 58 ∷ 109 ∷ 101 ∷ 116 ∷ 104 ∷ 111 ∷ 100 ∷ 7 ∷ 67 ∷ 79 ∷ 78 ∷ 78 ∷ 69 ∷ 67 ∷ 84 ∷ 37 ∷ 58 ∷ 112 ∷ 97 ∷ 116 ∷ 104 ∷ 1 ∷ 47 ∷ 39 ∷ 2 ∷ 58 ∷ 112 ∷ 114 ∷ 111 ∷ 116 ∷ 111 ∷ 99 ∷ 111 ∷ 108 ∷ 12 ∷ 119 ∷ 101 ∷ 98 ∷ 116 ∷ 114 ∷ 97 ∷ 110 ∷ 115 ∷ 112 ∷ 111 ∷ 114 ∷ 116 ∷ 39 ∷ 0 ∷ 58 ∷ 115 ∷ 99 ∷ 104 ∷ 101 ∷ 109 ∷ 101 ∷ 5 ∷ 104 ∷ 116 ∷ 116 ∷ 112 ∷ 115 ∷ []) ∷ turns.Call calls.Incoming ∷ turns.Call (calls.Accept ([])) ∷ turns.PeerUni ∷ turns.Bytes 6 (64 ∷ 84 ∷ 0 ∷ 97 ∷ []) ∷ turns.PeerUni ∷ turns.Bytes 10 (64 ∷ 84 ∷ 0 ∷ 97 ∷ []) ∷ turns.Loss losses.TimedOut ∷ turns.Call calls.AcceptUni ∷ turns.Call calls.AcceptUni ∷ turns.Call calls.AcceptUni ∷ turns.Call (calls.Read 6 9) ∷ turns.Call (calls.Read 6 9) ∷ turns.Call calls.Closed ∷ [])
+turns-loss_with_streams_left = (turns.Connected 9 9 1000 (facts.Limit 1200) ∷ turns.PeerUni ∷ turns.Bytes 2 (0 ∷ 4 ∷ 0 ∷ []) ∷ turns.PeerBi ∷ turns.Bytes 0 (1 ∷ 64 ∷ 80 ∷ 0 ∷ 0 ∷ 39 ∷ 3 ∷ 58 ∷ 97 ∷ 117 ∷ 116 ∷ 104 ∷ 111 ∷ 114 ∷ 105 ∷ 116 ∷ 121 ∷ 1 ∷ 104 ∷ 39 ∷ 0 ∷ 58 ∷ 109 ∷ 101 ∷ 116 ∷ 104 ∷ 111 ∷ 100 ∷ 7 ∷ 67 ∷ 79 ∷ 78 ∷ 78 ∷ 69 ∷ 67 ∷ 84 ∷ 37 ∷ 58 ∷ 112 ∷ 97 ∷ 116 ∷ 104 ∷ 1 ∷ 47 ∷ 39 ∷ 2 ∷ 58 ∷ 112 ∷ 114 ∷ 111 ∷ 116 ∷ 111 ∷ 99 ∷ 111 ∷ 108 ∷ 12 ∷ 119 ∷ 101 ∷ 98 ∷ 116 ∷ 114 ∷ 97 ∷ 110 ∷ 115 ∷ 112 ∷ 111 ∷ 114 ∷ 116 ∷ 39 ∷ 0 ∷ 58 ∷ 115 ∷ 99 ∷ 104 ∷ 101 ∷ 109 ∷ 101 ∷ 5 ∷ 104 ∷ 116 ∷ 116 ∷ 112 ∷ 115 ∷ []) ∷ turns.Call calls.Incoming ∷ turns.Call (calls.Accept ([])) ∷ turns.PeerUni ∷ turns.Bytes 6 (64 ∷ 84 ∷ 0 ∷ 97 ∷ []) ∷ turns.PeerUni ∷ turns.Bytes 10 (64 ∷ 84 ∷ 0 ∷ 97 ∷ []) ∷ turns.Loss losses.TimedOut ∷ turns.Call (calls.AcceptUni None) ∷ turns.Call (calls.AcceptUni None) ∷ turns.Call (calls.AcceptUni None) ∷ turns.Call (calls.Read 6 9) ∷ turns.Call (calls.Read 6 9) ∷ turns.Call calls.Closed ∷ [])
 
 pub recorded-loss_with_streams_left : shown (12 ∷ 13 ∷ 14 ∷ 15 ∷ 16 ∷ 17 ∷ []) (run Server turns-loss_with_streams_left) ≡ ends Finished (answer (replies.Uni 6) ([]) ∷ answer (replies.Uni 10) ([]) ∷ answer (replies.Failed errors.TimedOut) ([]) ∷ answer (replies.Read (Some (97 ∷ []))) ([]) ∷ answer (replies.ReadFailed reads.NotConnected) ([]) ∷ answer (replies.Closed errors.TimedOut) ([]) ∷ [])
 unfolding stream_table flush call_effect uni_verdict_of bi_verdict_of bi_decides control_walk_of control_decides session_walk_of session_decides response_walk_of response_decides response_of request_of datagram_of close_value_at frame_at varint_at varint_bytes string_at line_at field_lines_from continuation_at prefixed_at prefixed_bytes with_pair pair_at pairs_from is_text_from ipv4_bits ipv6_bits
 recorded-loss_with_streams_left = refl
 
 abbrev turns-stream_reset : List Turn
-turns-stream_reset = (turns.Connected 9 9 1000 (facts.Limit 1200) ∷ turns.PeerUni ∷ turns.Bytes 2 (0 ∷ 4 ∷ 0 ∷ []) ∷ turns.PeerBi ∷ turns.Bytes 0 (1 ∷ 64 ∷ 80 ∷ 0 ∷ 0 ∷ 39 ∷ 3 ∷ 58 ∷ 97 ∷ 117 ∷ 116 ∷ 104 ∷ 111 ∷ 114 ∷ 105 ∷ 116 ∷ 121 ∷ 1 ∷ 104 ∷ 39 ∷ 0 ∷ 58 ∷ 109 ∷ 101 ∷ 116 ∷ 104 ∷ 111 ∷ 100 ∷ 7 ∷ 67 ∷ 79 ∷ 78 ∷ 78 ∷ 69 ∷ 67 ∷ 84 ∷ 37 ∷ 58 ∷ 112 ∷ 97 ∷ 116 ∷ 104 ∷ 1 ∷ 47 ∷ 39 ∷ 2 ∷ 58 ∷ 112 ∷ 114 ∷ 111 ∷ 116 ∷ 111 ∷ 99 ∷ 111 ∷ 108 ∷ 12 ∷ 119 ∷ 101 ∷ 98 ∷ 116 ∷ 114 ∷ 97 ∷ 110 ∷ 115 ∷ 112 ∷ 111 ∷ 114 ∷ 116 ∷ 39 ∷ 0 ∷ 58 ∷ 115 ∷ 99 ∷ 104 ∷ 101 ∷ 109 ∷ 101 ∷ 5 ∷ 104 ∷ 116 ∷ 116 ∷ 112 ∷ 115 ∷ []) ∷ turns.Call calls.Incoming ∷ turns.Call (calls.Accept ([])) ∷ turns.PeerUni ∷ turns.Bytes 6 (64 ∷ 84 ∷ 0 ∷ 97 ∷ []) ∷ turns.Reset 6 9 ∷ turns.Call calls.AcceptUni ∷ turns.Call (calls.Read 6 9) ∷ turns.Call (calls.Read 6 9) ∷ [])
+turns-stream_reset = (turns.Connected 9 9 1000 (facts.Limit 1200) ∷ turns.PeerUni ∷ turns.Bytes 2 (0 ∷ 4 ∷ 0 ∷ []) ∷ turns.PeerBi ∷ turns.Bytes 0 (1 ∷ 64 ∷ 80 ∷ 0 ∷ 0 ∷ 39 ∷ 3 ∷ 58 ∷ 97 ∷ 117 ∷ 116 ∷ 104 ∷ 111 ∷ 114 ∷ 105 ∷ 116 ∷ 121 ∷ 1 ∷ 104 ∷ 39 ∷ 0 ∷ 58 ∷ 109 ∷ 101 ∷ 116 ∷ 104 ∷ 111 ∷ 100 ∷ 7 ∷ 67 ∷ 79 ∷ 78 ∷ 78 ∷ 69 ∷ 67 ∷ 84 ∷ 37 ∷ 58 ∷ 112 ∷ 97 ∷ 116 ∷ 104 ∷ 1 ∷ 47 ∷ 39 ∷ 2 ∷ 58 ∷ 112 ∷ 114 ∷ 111 ∷ 116 ∷ 111 ∷ 99 ∷ 111 ∷ 108 ∷ 12 ∷ 119 ∷ 101 ∷ 98 ∷ 116 ∷ 114 ∷ 97 ∷ 110 ∷ 115 ∷ 112 ∷ 111 ∷ 114 ∷ 116 ∷ 39 ∷ 0 ∷ 58 ∷ 115 ∷ 99 ∷ 104 ∷ 101 ∷ 109 ∷ 101 ∷ 5 ∷ 104 ∷ 116 ∷ 116 ∷ 112 ∷ 115 ∷ []) ∷ turns.Call calls.Incoming ∷ turns.Call (calls.Accept ([])) ∷ turns.PeerUni ∷ turns.Bytes 6 (64 ∷ 84 ∷ 0 ∷ 97 ∷ []) ∷ turns.Reset 6 9 ∷ turns.Call (calls.AcceptUni None) ∷ turns.Call (calls.Read 6 9) ∷ turns.Call (calls.Read 6 9) ∷ [])
 
 pub recorded-stream_reset : shown (11 ∷ 12 ∷ []) (run Server turns-stream_reset) ≡ ends Finished (answer (replies.Read (Some (97 ∷ []))) ([]) ∷ answer (replies.ReadFailed (reads.Reset 9)) ([]) ∷ [])
 unfolding stream_table flush call_effect uni_verdict_of bi_verdict_of bi_decides control_walk_of control_decides session_walk_of session_decides response_walk_of response_decides response_of request_of datagram_of close_value_at frame_at varint_at varint_bytes string_at line_at field_lines_from continuation_at prefixed_at prefixed_bytes with_pair pair_at pairs_from is_text_from ipv4_bits ipv6_bits
@@ -401,14 +401,14 @@ unfolding stream_table flush call_effect uni_verdict_of bi_verdict_of bi_decides
 recorded-connect_at_a_server = refl
 
 abbrev turns-closed_by_application : List Turn
-turns-closed_by_application = (turns.Connected 9 9 1000 (facts.Limit 1200) ∷ turns.PeerUni ∷ turns.Bytes 2 (0 ∷ 4 ∷ 0 ∷ []) ∷ turns.PeerBi ∷ turns.Bytes 0 (1 ∷ 64 ∷ 80 ∷ 0 ∷ 0 ∷ 39 ∷ 3 ∷ 58 ∷ 97 ∷ 117 ∷ 116 ∷ 104 ∷ 111 ∷ 114 ∷ 105 ∷ 116 ∷ 121 ∷ 1 ∷ 104 ∷ 39 ∷ 0 ∷ 58 ∷ 109 ∷ 101 ∷ 116 ∷ 104 ∷ 111 ∷ 100 ∷ 7 ∷ 67 ∷ 79 ∷ 78 ∷ 78 ∷ 69 ∷ 67 ∷ 84 ∷ 37 ∷ 58 ∷ 112 ∷ 97 ∷ 116 ∷ 104 ∷ 1 ∷ 47 ∷ 39 ∷ 2 ∷ 58 ∷ 112 ∷ 114 ∷ 111 ∷ 116 ∷ 111 ∷ 99 ∷ 111 ∷ 108 ∷ 12 ∷ 119 ∷ 101 ∷ 98 ∷ 116 ∷ 114 ∷ 97 ∷ 110 ∷ 115 ∷ 112 ∷ 111 ∷ 114 ∷ 116 ∷ 39 ∷ 0 ∷ 58 ∷ 115 ∷ 99 ∷ 104 ∷ 101 ∷ 109 ∷ 101 ∷ 5 ∷ 104 ∷ 116 ∷ 116 ∷ 112 ∷ 115 ∷ []) ∷ turns.Call calls.Incoming ∷ turns.Call (calls.Accept ([])) ∷ turns.Call (calls.Close 5 ([])) ∷ turns.PeerUni ∷ turns.Call calls.AcceptUni ∷ [])
+turns-closed_by_application = (turns.Connected 9 9 1000 (facts.Limit 1200) ∷ turns.PeerUni ∷ turns.Bytes 2 (0 ∷ 4 ∷ 0 ∷ []) ∷ turns.PeerBi ∷ turns.Bytes 0 (1 ∷ 64 ∷ 80 ∷ 0 ∷ 0 ∷ 39 ∷ 3 ∷ 58 ∷ 97 ∷ 117 ∷ 116 ∷ 104 ∷ 111 ∷ 114 ∷ 105 ∷ 116 ∷ 121 ∷ 1 ∷ 104 ∷ 39 ∷ 0 ∷ 58 ∷ 109 ∷ 101 ∷ 116 ∷ 104 ∷ 111 ∷ 100 ∷ 7 ∷ 67 ∷ 79 ∷ 78 ∷ 78 ∷ 69 ∷ 67 ∷ 84 ∷ 37 ∷ 58 ∷ 112 ∷ 97 ∷ 116 ∷ 104 ∷ 1 ∷ 47 ∷ 39 ∷ 2 ∷ 58 ∷ 112 ∷ 114 ∷ 111 ∷ 116 ∷ 111 ∷ 99 ∷ 111 ∷ 108 ∷ 12 ∷ 119 ∷ 101 ∷ 98 ∷ 116 ∷ 114 ∷ 97 ∷ 110 ∷ 115 ∷ 112 ∷ 111 ∷ 114 ∷ 116 ∷ 39 ∷ 0 ∷ 58 ∷ 115 ∷ 99 ∷ 104 ∷ 101 ∷ 109 ∷ 101 ∷ 5 ∷ 104 ∷ 116 ∷ 116 ∷ 112 ∷ 115 ∷ []) ∷ turns.Call calls.Incoming ∷ turns.Call (calls.Accept ([])) ∷ turns.Call (calls.Close 5 ([])) ∷ turns.PeerUni ∷ turns.Call (calls.AcceptUni None) ∷ [])
 
 pub recorded-closed_by_application : shown (7 ∷ 8 ∷ 9 ∷ []) (run Server turns-closed_by_application) ≡ ends Finished (answer replies.Done (actions.Close 5 ([]) ∷ []) ∷ answer replies.Done ([]) ∷ answer (replies.Failed errors.LocallyClosed) ([]) ∷ [])
 unfolding stream_table flush call_effect uni_verdict_of bi_verdict_of bi_decides control_walk_of control_decides session_walk_of session_decides response_walk_of response_decides response_of request_of datagram_of close_value_at frame_at varint_at varint_bytes string_at line_at field_lines_from continuation_at prefixed_at prefixed_bytes with_pair pair_at pairs_from is_text_from ipv4_bits ipv6_bits
 recorded-closed_by_application = refl
 
 abbrev turns-no_session : List Turn
-turns-no_session = (turns.Connected 9 9 1000 (facts.Limit 1200) ∷ turns.Call calls.AcceptUni ∷ [])
+turns-no_session = (turns.Connected 9 9 1000 (facts.Limit 1200) ∷ turns.Call (calls.AcceptUni None) ∷ [])
 
 pub recorded-no_session : shown (1 ∷ []) (run Server turns-no_session) ≡ ends Finished (answer replies.NoSession ([]) ∷ [])
 unfolding stream_table flush call_effect uni_verdict_of bi_verdict_of bi_decides control_walk_of control_decides session_walk_of session_decides response_walk_of response_decides response_of request_of datagram_of close_value_at frame_at varint_at varint_bytes string_at line_at field_lines_from continuation_at prefixed_at prefixed_bytes with_pair pair_at pairs_from is_text_from ipv4_bits ipv6_bits

@@ -37,7 +37,7 @@ use Rattle.wt_laws.specs.Left.{PendingExactly, is_pending}
 use Rattle.wt_laws.specs.Reachable.{AllLawful, IsReachable, exchanges}
 use Rattle.wt_turn.specs.Turns.{is_call}
 use Rattle.wt_laws.specs.Runs.{DoneLate, InOrderOfOpening, LateChangesNothing, RunsLawful, RunsLongest, StaysSo}
-use Rattle.wt_spec.specs.Answers.{answer_to, is_lawful, log_from}
+use Rattle.wt_spec.specs.Answers.{answer_to, is_lawful, log_from, names}
 use Rattle.wt_spec.specs.Driver.{established_session, stream_table}
 use Rattle.wt_spec.specs.Halves.{has_receiving_half, has_sending_half}
 use Rattle.wt_spec.specs.Handshake.{Connecting, handshake_state}
@@ -121,7 +121,7 @@ late_theorem = done-late
 pub asks_first_theorem : (side : Side) (log : Log) (call : Call) → AsksFirst side log call
 asks_first_theorem = asks-first
 
-pub session_calls_theorem : (side : Side) (log : Log) (s offset : ℕ) → established_session (calls_of log) ≡ Some (s, offset) → SessionCallsAnswer side log s
+pub session_calls_theorem : (side : Side) (log : Log) (s offset : ℕ) (name : Option ℕ) → established_session (calls_of log) ≡ Some (s, offset) → names name s ≡ true → SessionCallsAnswer side log s name
 session_calls_theorem = session-calls
 
 pub sending_calls_theorem : (side : Side) (log : Log) (k : ℕ) → has_sending_half side log k ≡ true → SendingCallsAnswer side log k

@@ -14,9 +14,10 @@ use Rattle.wt_turn.specs.declared.reply.Reply.{Reply}
 use Rattle.wt_turn.specs.declared.turn.Turn.{Turn}
 use Rattle.wt_wire.specs.declared.addr.Addr.{Addr}
 use Rattle.wt_wire.specs.declared.side.Side.{Side}
-use Rattle.wt_laws.specs.Causes.{DialCause, opened_kind}
+use Rattle.wt_laws.specs.Causes.{DialCause, name_in, opened_kind}
 use Rattle.wt_laws.specs.Laws.{GoesOut, WrittenGoesOut}
-use Rattle.wt_spec.specs.Answers.{answer_to, call_effect, in_session, log_after}
+use Rattle.wt_spec.proofs.Named.{by-name}
+use Rattle.wt_spec.specs.Answers.{answer_to, call_effect, in_session, log_after, names, on_session}
 use Rattle.wt_spec.specs.Connect.{address_of, authority_of, connect_to, dial, path_of, port_of, request_head, reserved_name, unless_stopped, with_address}
 use Rattle.wt_spec.specs.Connection.{close_connection, datagram_allowed, datagram_within, open_stream, send_datagram}
 use Rattle.wt_spec.specs.Driver.{established_session}
@@ -52,10 +53,13 @@ out-datagram : (side : Side) (log : Log) (payload : List ℕ) (s : ℕ) → Acts
 out-datagram side log payload s =
     by-test (ActsOnce side log replies.Done (actions.DatagramOut (datagram_bytes (s / 4) payload)) Polled) (is_open log) _ _ (λ o. out-allowed side log (datagram_bytes (s / 4) payload) (datagram_fact (events_of log))) (λ o e. absurd (cc))
 
-in-datagram : (side : Side) (log : Log) (payload : List ℕ) (o : Option (ℕ × ℕ)) → established_session (calls_of log) ≡ o → (in_session side log (send_datagram side log payload) o).reply ≡ replies.Done
-    → (s : ℕ) × (offset : ℕ) × (established_session (calls_of log) ≡ Some (s, offset)) × ((in_session side log (send_datagram side log payload) o).log ≡ log_call side log (actions.DatagramOut (datagram_bytes (s / 4) payload) ∷ []) Polled)
-in-datagram side log payload None d e = absurd (cc)
-in-datagram side log payload (Some s) d e = (s.0, s.1, d, out-datagram side log payload s.0 e)
+in-datagram : (side : Side) (log : Log) (payload : List ℕ) (name : Option ℕ) → (on_session side log name (send_datagram side log payload)).reply ≡ replies.Done
+    → (s : ℕ) × (offset : ℕ) × (names name s ≡ true) × (established_session (calls_of log) ≡ Some (s, offset))
+    × ((on_session side log name (send_datagram side log payload)).log ≡ log_call side log (actions.DatagramOut (datagram_bytes (s / 4) payload) ∷ []) Polled)
+in-datagram side log payload name = by-name (λ o. (in_session side log (send_datagram side log payload) o).reply ≡ replies.Done
+    → (s : ℕ) × (offset : ℕ) × (names name s ≡ true) × (established_session (calls_of log) ≡ Some (s, offset))
+    × ((in_session side log (send_datagram side log payload) o).log ≡ log_call side log (actions.DatagramOut (datagram_bytes (s / 4) payload) ∷ []) Polled)) name
+    (established_session (calls_of log)) (λ n e. absurd (cc)) (λ s d n e. (s.0, s.1, n, d, out-datagram side log payload s.0 e))
 
 -- an open connection's action goes out
 open-sends : (side : Side) (log : Log) (a : Action) (r : CallRecord) (b : Bool) → b ≡ true → log_call side log (if b then a ∷ [] else []) r ≡ log_call side log (a ∷ []) r
@@ -107,17 +111,17 @@ out-open side log kind k s =
     ∙ ap (λ j. log_call side log (actions.Opened j ∷ []) (OpeningStarted j s)) n)) (λ m e. absurd (cc)))
 
 -- an opening of this kind that a reply names
-abbrev Opens : Side → Log → ℕ → Log → Type 0
-Opens side log k later = (s : ℕ) × (offset : ℕ) × (established_session (calls_of log) ≡ Some (s, offset)) × (later ≡ log_call side log (actions.Opened k ∷ []) (OpeningStarted k s))
+abbrev Opens : Side → Log → Option ℕ → ℕ → Log → Type 0
+Opens side log name k later = (s : ℕ) × (offset : ℕ) × (names name s ≡ true) × (established_session (calls_of log) ≡ Some (s, offset)) × (later ≡ log_call side log (actions.Opened k ∷ []) (OpeningStarted k s))
 
-in-open : (side : Side) (log : Log) (kind k : ℕ) (o : Option (ℕ × ℕ)) → established_session (calls_of log) ≡ o → (in_session side log (open_stream side log kind) o).reply ≡ replies.Opening k → Opens side log k (in_session side log (open_stream side log kind) o).log
-in-open side log kind k None d e = absurd (cc)
-in-open side log kind k (Some s) d e = (s.0, s.1, d, out-open side log kind k s.0 e)
+in-open : (side : Side) (log : Log) (kind k : ℕ) (name : Option ℕ) → (on_session side log name (open_stream side log kind)).reply ≡ replies.Opening k → Opens side log name k (on_session side log name (open_stream side log kind)).log
+in-open side log kind k name = by-name (λ o. (in_session side log (open_stream side log kind) o).reply ≡ replies.Opening k → Opens side log name k (in_session side log (open_stream side log kind) o).log) name
+    (established_session (calls_of log)) (λ n e. absurd (cc)) (λ s d n e. (s.0, s.1, n, d, out-open side log kind k s.0 e))
 
-pub opening-out : (side : Side) (log : Log) (turn : Turn) (kind k : ℕ) → opened_kind side turn ≡ Some kind → (answer_to side log turn).reply ≡ replies.Opening k → Opens side log k (log_after side log turn)
+pub opening-out : (side : Side) (log : Log) (turn : Turn) (kind k : ℕ) → opened_kind side turn ≡ Some kind → (answer_to side log turn).reply ≡ replies.Opening k → Opens side log (name_in turn) k (log_after side log turn)
 unfolding call_effect
-opening-out side log (turns.Call calls.OpenUni) kind k t e = in-open side log (local_uni side) k (established_session (calls_of log)) refl e
-opening-out side log (turns.Call calls.OpenBi) kind k t e = in-open side log (local_bi side) k (established_session (calls_of log)) refl e
+opening-out side log (turns.Call (calls.OpenUni session)) kind k t e = in-open side log (local_uni side) k session e
+opening-out side log (turns.Call (calls.OpenBi session)) kind k t e = in-open side log (local_bi side) k session e
 opening-out side log _ kind k t e = absurd (cc)
 
 -- ---- dialling
@@ -136,7 +140,7 @@ dials-out side log turn address name d =
 pub written-goes-out : (side : Side) (log : Log) → WrittenGoesOut side log
 unfolding call_effect
 written-goes-out side log = record {
-  datagram = λ payload e. in-datagram side log payload (established_session (calls_of log)) refl e;
+  datagram = λ payload name e. in-datagram side log payload name e;
   close = λ code reason o e. in-close side log code reason (established_session (calls_of log)) o e;
   endpoint_close = λ code reason o. out-close side log code reason o;
   reset = λ k code o e. out-half side log (λ j. reset side log j code) k (actions.ResetOut k code) Polled (has_sending_half side log k) (out-reset side log k code o) e;

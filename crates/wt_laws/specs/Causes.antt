@@ -22,7 +22,7 @@ use Rattle.wt_wire.specs.declared.error.ErrorCode.{ErrorCode}
 use Rattle.wt_wire.specs.declared.lookup.ConnectOutcome.{ConnectOutcome}
 use Rattle.wt_wire.specs.declared.lookup.Lookup.{Lookup}
 use Rattle.wt_wire.specs.declared.side.Side.{Side}
-use Rattle.wt_spec.specs.Answers.{is_client}
+use Rattle.wt_spec.specs.Answers.{is_client, names}
 use Rattle.wt_spec.specs.Connect.{address_of, authority_of, outcome_error, path_of, port_of, request_head, server_name}
 use Rattle.wt_spec.specs.Connection.{is_for_session, is_opening, next_datagram, next_due, stream_header}
 use Rattle.wt_spec.specs.Driver.{established_session, settings_came, stream_table}
@@ -41,19 +41,31 @@ use Rattle.wt_turn.specs.declared.turn.Turn.TheVariants as turns
 
 -- the turn accepts a stream
 abbrev pub is_accept : Turn → Bool
-is_accept (turns.Call calls.AcceptUni) = true
-is_accept (turns.Call calls.AcceptBi) = true
+is_accept (turns.Call (calls.AcceptUni session)) = true
+is_accept (turns.Call (calls.AcceptBi session)) = true
 is_accept _ = false
 
 -- the kind of the streams that an accept gives
 abbrev pub accepted_kind : Side → Turn → ℕ
-accepted_kind side (turns.Call calls.AcceptUni) = peer_uni side
+accepted_kind side (turns.Call (calls.AcceptUni session)) = peer_uni side
 accepted_kind side _ = peer_bi side
 
 -- the turn receives a datagram
 abbrev pub is_receive : Turn → Bool
-is_receive (turns.Call calls.ReceiveDatagram) = true
+is_receive (turns.Call (calls.ReceiveDatagram session)) = true
 is_receive _ = false
+
+-- the session that the call names, where it names one
+abbrev pub name_in : Turn → Option ℕ
+name_in (turns.Call (calls.AcceptUni session)) = session
+name_in (turns.Call (calls.AcceptBi session)) = session
+name_in (turns.Call (calls.ReceiveDatagram session)) = session
+name_in (turns.Call (calls.OpenUni session)) = session
+name_in (turns.Call (calls.OpenBi session)) = session
+name_in (turns.Call (calls.SendDatagram payload session)) = session
+name_in (turns.Call (calls.MaxDatagramSize session)) = session
+name_in (turns.Call (calls.SessionId session)) = session
+name_in _ = None
 
 -- the turn reads from this stream
 abbrev pub reads_from : ℕ → Turn → Bool
@@ -105,6 +117,7 @@ pub record FoundStream (side : Side) (turn : Turn) (log : Log) (k : ℕ) (for_se
   pub accepts : is_accept turn ≡ true
   pub session : ℕ
   pub offset : ℕ
+  pub is_named : names (name_in turn) session ≡ true
   pub is_established : established_session (calls_of log) ≡ Some (session, offset)
   pub found : Classified
   pub is_next : next_due side log (accepted_kind side turn) session ≡ Some found
@@ -130,6 +143,7 @@ pub record FoundDatagram (side : Side) (turn : Turn) (log : Log) (for_session : 
   pub receives : is_receive turn ≡ true
   pub session : ℕ
   pub offset : ℕ
+  pub is_named : names (name_in turn) session ≡ true
   pub is_established : established_session (calls_of log) ≡ Some (session, offset)
   pub datagram : ℕ × List ℕ
   pub is_next : next_datagram side log ≡ Some datagram
@@ -169,15 +183,15 @@ pub record EstablishedBy (side : Side) (turn : Turn) (log : Log) (id offset : �
 
 -- the kind of the streams that a call opens
 abbrev pub opened_kind : Side → Turn → Option ℕ
-opened_kind side (turns.Call calls.OpenUni) = Some (local_uni side)
-opened_kind side (turns.Call calls.OpenBi) = Some (local_bi side)
+opened_kind side (turns.Call (calls.OpenUni session)) = Some (local_uni side)
+opened_kind side (turns.Call (calls.OpenBi session)) = Some (local_bi side)
 opened_kind side _ = None
 
--- why a stream of this kind is opened: the call opens one on the established session; or a connect under way, with no reserved name
+-- why a stream of this kind is opened: the call opens one on the established session, which it names; or a connect under way, with no reserved name
 -- among its headers, opens that of its request, which has none yet
 pub data OpenCause (side : Side) (turn : Turn) (log : Log) (kind : ℕ) : Type 0 where
-  OfCall : (session offset : ℕ) → opened_kind side turn ≡ Some kind → established_session (calls_of log) ≡ Some (session, offset)
-      → OpenCause side turn log kind
+  OfCall : (session offset : ℕ) → opened_kind side turn ≡ Some kind → names (name_in turn) session ≡ true
+      → established_session (calls_of log) ≡ Some (session, offset) → OpenCause side turn log kind
   OfRequest : (head : List ℕ) → turn ≡ turns.Call calls.Handshake → handshake_state (calls_of log) ≡ Connecting None head
       → settings_came side log ≡ true → kind ≡ local_bi side → local_count (actions_of log) (local_bi side) ≡ 0
       → OpenCause side turn log kind
@@ -255,12 +269,14 @@ pub data CloseCause (side : Side) (turn : Turn) (log : Log) (code : ℕ) (reason
   OfHandshake : is_under_way (handshake_state (calls_of log)) ≡ true → HandshakeCode side turn log code → reason ≡ []
       → CloseCause side turn log code reason
 
--- the call sends a datagram of the established session, which is these bytes
+-- the call sends a datagram of the established session, which it names; the datagram is these bytes
 pub record DatagramOf (turn : Turn) (log : Log) (bytes : List ℕ) : Type 0 where
   pub payload : List ℕ
+  pub name : Option ℕ
   pub session : ℕ
   pub offset : ℕ
-  pub sends : turn ≡ turns.Call (calls.SendDatagram payload)
+  pub sends : turn ≡ turns.Call (calls.SendDatagram payload name)
+  pub is_named : names name session ≡ true
   pub is_established : established_session (calls_of log) ≡ Some (session, offset)
   pub bytes_are : bytes ≡ datagram_bytes (session / 4) payload
 

@@ -22,7 +22,8 @@ use Rattle.wt_wire.specs.declared.error.ErrorCode.{ErrorCode}
 use Rattle.wt_wire.specs.declared.lookup.ConnectOutcome.{ConnectOutcome}
 use Rattle.wt_wire.specs.declared.lookup.Lookup.{Lookup}
 use Rattle.wt_wire.specs.declared.side.Side.{Side}
-use Rattle.wt_laws.specs.Left.{is_response_over}
+use Rattle.wt_laws.specs.Causes.{name_in}
+use Rattle.wt_laws.specs.Left.{asked_session, is_response_over}
 use Rattle.wt_laws.specs.ReplyCauses.{asks_for_session, half_of}
 use Rattle.wt_spec.specs.Answers.{answer_to, log_after}
 use Rattle.wt_spec.specs.Connect.{address_of, outcome_error, port_of}
@@ -54,20 +55,21 @@ reply_to side log call = (answer_to side log (turns.Call call)).reply
 
 -- without what it asks for, a session or a half of a stream, a call says so: the session first
 pub record AsksFirst (side : Side) (log : Log) (call : Call) : Type 0 where
-  pub no_session : asks_for_session (turns.Call call) ≡ true → established_session (calls_of log) ≡ None → reply_to side log call ≡ replies.NoSession
+  pub no_session : asks_for_session (turns.Call call) ≡ true → asked_session log (name_in (turns.Call call)) ≡ None
+      → reply_to side log call ≡ replies.NoSession
   pub no_half : asks_for_session (turns.Call call) ≡ false → half_of side log (turns.Call call) ≡ Some false
       → reply_to side log call ≡ replies.NoStream
 
 -- ---- the calls on session s
 
--- what opens, polls of openings, sends of datagrams and the questions about the session answer, and closes
-pub record SessionCallsAnswer (side : Side) (log : Log) (s : ℕ) : Type 0 where
-  pub uni_ended : is_open log ≡ false → reply_to side log calls.OpenUni ≡ replies.Failed (transport_error log)
+-- what opens, polls of openings, sends of datagrams and the questions about the session answer, and closes; by this name
+pub record SessionCallsAnswer (side : Side) (log : Log) (s : ℕ) (name : Option ℕ) : Type 0 where
+  pub uni_ended : is_open log ≡ false → reply_to side log (calls.OpenUni name) ≡ replies.Failed (transport_error log)
   pub uni_opens : is_open log ≡ true → may_open side log (local_uni side) ≡ true
-      → reply_to side log calls.OpenUni ≡ replies.Opening (next_id side log (local_uni side))
-  pub bi_ended : is_open log ≡ false → reply_to side log calls.OpenBi ≡ replies.Failed (transport_error log)
+      → reply_to side log (calls.OpenUni name) ≡ replies.Opening (next_id side log (local_uni side))
+  pub bi_ended : is_open log ≡ false → reply_to side log (calls.OpenBi name) ≡ replies.Failed (transport_error log)
   pub bi_opens : is_open log ≡ true → may_open side log (local_bi side) ≡ true
-      → reply_to side log calls.OpenBi ≡ replies.Opening (next_id side log (local_bi side))
+      → reply_to side log (calls.OpenBi name) ≡ replies.Opening (next_id side log (local_bi side))
   pub not_opening : (k : ℕ) → is_opening log k ≡ false → reply_to side log (calls.PollOpening k) ≡ replies.NoStream
   pub opening_ended : (k : ℕ) → is_opening log k ≡ true → is_open log ≡ false
       → reply_to side log (calls.PollOpening k) ≡ replies.OpeningFailed openings.NotConnected
@@ -78,20 +80,20 @@ pub record SessionCallsAnswer (side : Side) (log : Log) (s : ℕ) : Type 0 where
       → is_covered log k (head_left log k (stream_header k s)) ≡ true
       → reply_to side log (calls.PollOpening k) ≡ opened_reply k
   pub datagram_ended : (payload : List ℕ) → is_open log ≡ false
-      → reply_to side log (calls.SendDatagram payload) ≡ replies.DatagramFailed datagrams.NotConnected
+      → reply_to side log (calls.SendDatagram payload name) ≡ replies.DatagramFailed datagrams.NotConnected
   pub datagram_untold : (payload : List ℕ) → is_open log ≡ true → datagram_fact (events_of log) ≡ None
-      → reply_to side log (calls.SendDatagram payload) ≡ replies.DatagramFailed datagrams.NotConnected
+      → reply_to side log (calls.SendDatagram payload name) ≡ replies.DatagramFailed datagrams.NotConnected
   pub datagram_disabled : (payload : List ℕ) → is_open log ≡ true → datagram_fact (events_of log) ≡ Some facts.Disabled
-      → reply_to side log (calls.SendDatagram payload) ≡ replies.DatagramFailed datagrams.Disabled
+      → reply_to side log (calls.SendDatagram payload name) ≡ replies.DatagramFailed datagrams.Disabled
   pub datagram_unsupported : (payload : List ℕ) → is_open log ≡ true → datagram_fact (events_of log) ≡ Some facts.Unsupported
-      → reply_to side log (calls.SendDatagram payload) ≡ replies.DatagramFailed datagrams.UnsupportedByPeer
+      → reply_to side log (calls.SendDatagram payload name) ≡ replies.DatagramFailed datagrams.UnsupportedByPeer
   pub datagram_too_large : (payload : List ℕ) (limit : ℕ) → is_open log ≡ true → datagram_fact (events_of log) ≡ Some (facts.Limit limit)
       → nat_lt limit (length (datagram_bytes (s / 4) payload)) ≡ true
-      → reply_to side log (calls.SendDatagram payload) ≡ replies.DatagramFailed datagrams.TooLarge
+      → reply_to side log (calls.SendDatagram payload name) ≡ replies.DatagramFailed datagrams.TooLarge
   pub datagram_sent : (payload : List ℕ) (limit : ℕ) → is_open log ≡ true → datagram_fact (events_of log) ≡ Some (facts.Limit limit)
-      → nat_lt limit (length (datagram_bytes (s / 4) payload)) ≡ false → reply_to side log (calls.SendDatagram payload) ≡ replies.Done
-  pub size : reply_to side log calls.MaxDatagramSize ≡ replies.Size (payload_limit s (datagram_fact (events_of log)))
-  pub id : reply_to side log calls.SessionId ≡ replies.Id s
+      → nat_lt limit (length (datagram_bytes (s / 4) payload)) ≡ false → reply_to side log (calls.SendDatagram payload name) ≡ replies.Done
+  pub size : reply_to side log (calls.MaxDatagramSize name) ≡ replies.Size (payload_limit s (datagram_fact (events_of log)))
+  pub id : reply_to side log (calls.SessionId name) ≡ replies.Id s
   pub close : (code : ℕ) (reason : List ℕ) → reply_to side log (calls.Close code reason) ≡ replies.Done
   pub closed : is_open log ≡ false → reply_to side log calls.Closed ≡ replies.Closed (transport_error log)
 

@@ -20,11 +20,11 @@ use Rattle.wt_wire.specs.HeaderList.{Fields}
 use Rattle.wt_wire.specs.declared.addr.Addr.{Addr}
 use Rattle.wt_wire.specs.declared.error.ErrorCode.{ErrorCode}
 use Rattle.wt_wire.specs.declared.side.Side.{Side}
-use Rattle.wt_laws.specs.Causes.{CloseCause, DialCause, bytes_for, head_frame_of, opened_kind, reads_from}
+use Rattle.wt_laws.specs.Causes.{CloseCause, DialCause, bytes_for, head_frame_of, name_in, opened_kind, reads_from}
 use Rattle.wt_laws.specs.Reachable.{Exchange, IsReachable, is_among}
 use Rattle.wt_laws.specs.ReplyCauses.{ReplyCause}
 use Rattle.wt_laws.specs.ReplyTells.{datagram_reported, read_piece}
-use Rattle.wt_spec.specs.Answers.{answer_to, is_client, is_lawful, log_after, run_from}
+use Rattle.wt_spec.specs.Answers.{answer_to, is_client, is_lawful, log_after, names, run_from}
 use Rattle.wt_spec.specs.Connect.{authority_of, path_of, request_head, reserved_name}
 use Rattle.wt_spec.specs.Connection.{is_for_session, is_opening, starts_opening, stream_header, well_formed}
 use Rattle.wt_spec.specs.Driver.{call_view, delivers, established_session, pending_actions, releases, reset_if, session_id, settings_came, released_datagrams, stream_table}
@@ -403,9 +403,9 @@ GoesOut side log turn a r = log_after side log turn ≡ log_call side log (a ∷
 -- isn't finished, reset or stopped, and the opening that a reply names; and a connect to an address on which the endpoint lets it
 -- proceed dials it.
 pub record WrittenGoesOut (side : Side) (log : Log) : Type 0 where
-  pub datagram : (payload : List ℕ) → (answer_to side log (turns.Call (calls.SendDatagram payload))).reply ≡ replies.Done
-      → (s : ℕ) × (offset : ℕ) × (established_session (calls_of log) ≡ Some (s, offset))
-      × GoesOut side log (turns.Call (calls.SendDatagram payload)) (actions.DatagramOut (datagram_bytes (s / 4) payload)) Polled
+  pub datagram : (payload : List ℕ) (name : Option ℕ) → (answer_to side log (turns.Call (calls.SendDatagram payload name))).reply ≡ replies.Done
+      → (s : ℕ) × (offset : ℕ) × (names name s ≡ true) × (established_session (calls_of log) ≡ Some (s, offset))
+      × GoesOut side log (turns.Call (calls.SendDatagram payload name)) (actions.DatagramOut (datagram_bytes (s / 4) payload)) Polled
   pub close : (code : ℕ) (reason : List ℕ) → is_open log ≡ true
       → (answer_to side log (turns.Call (calls.Close code reason))).reply ≡ replies.Done
       → GoesOut side log (turns.Call (calls.Close code reason)) (actions.Close code reason) Polled
@@ -419,7 +419,8 @@ pub record WrittenGoesOut (side : Side) (log : Log) : Type 0 where
       → is_reset log k ≡ false → stop_of (events_of log) k ≡ None
       → GoesOut side log (turns.Call (calls.Finish k)) (actions.Finish k) Polled
   pub opening : (turn : Turn) (kind k : ℕ) → opened_kind side turn ≡ Some kind → (answer_to side log turn).reply ≡ replies.Opening k
-      → (s : ℕ) × (offset : ℕ) × (established_session (calls_of log) ≡ Some (s, offset)) × GoesOut side log turn (actions.Opened k) (OpeningStarted k s)
+      → (s : ℕ) × (offset : ℕ) × (names (name_in turn) s ≡ true) × (established_session (calls_of log) ≡ Some (s, offset))
+      × GoesOut side log turn (actions.Opened k) (OpeningStarted k s)
   pub dial : (turn : Turn) (address : Addr) (name : List ℕ) (dials : DialCause turn address name)
       → GoesOut side log turn (actions.Dial address name) (ConnectStarted (reserved_name dials.to.headers) (request_head (authority_of dials.to.url) (path_of dials.to.url) dials.to.headers))
 

@@ -17,10 +17,10 @@ use Rattle.wt_turn.specs.declared.turn.Turn.{Turn}
 use Rattle.wt_wire.specs.declared.lookup.ConnectOutcome.{ConnectOutcome}
 use Rattle.wt_wire.specs.declared.lookup.Lookup.{Lookup}
 use Rattle.wt_wire.specs.declared.side.Side.{Side}
-use Rattle.wt_laws.specs.Causes.{FoundDatagram, FoundStream, accepted_kind, is_accept}
+use Rattle.wt_laws.specs.Causes.{FoundDatagram, FoundStream, accepted_kind, is_accept, name_in}
 use Rattle.wt_laws.specs.Laws.{IsDuring, is_left_for}
 use Rattle.wt_laws.specs.ReplyTells.{given_stream}
-use Rattle.wt_spec.specs.Answers.{answer_to}
+use Rattle.wt_spec.specs.Answers.{answer_to, named_session}
 use Rattle.wt_spec.specs.Connect.{address_of, outcome_error, port_of}
 use Rattle.wt_spec.specs.Connection.{is_opening, next_datagram, next_due, pass_stream, stream_header}
 use Rattle.wt_spec.specs.Driver.{established_session, settings_came, stream_table}
@@ -101,13 +101,17 @@ abbrev pub of_session : (ℕ → Bool) → Option (ℕ × ℕ) → Bool
 of_session test None = false
 of_session test (Some s) = test s.0
 
+-- the session that a call asks for by this name
+abbrev pub asked_session : Log → Option ℕ → Option (ℕ × ℕ)
+asked_session log name = named_session name (established_session (calls_of log))
+
 -- no stream of this kind that was classified is left for an accept
-abbrev pub has_no_stream : Side → Log → ℕ → Bool
-has_no_stream side log kind = of_session (λ s. not (is_some (next_due side log kind s))) (established_session (calls_of log))
+abbrev pub has_no_stream : Side → Log → Option ℕ → ℕ → Bool
+has_no_stream side log name kind = of_session (λ s. not (is_some (next_due side log kind s))) (asked_session log name)
 
 -- a stream may not be opened
-abbrev pub has_no_credit : Side → Log → ℕ → Bool
-has_no_credit side log kind = of_session (λ s. not (may_open side log kind)) (established_session (calls_of log))
+abbrev pub has_no_credit : Side → Log → Option ℕ → ℕ → Bool
+has_no_credit side log name kind = of_session (λ s. not (may_open side log kind)) (asked_session log name)
 
 -- nothing hinders a write, which has bytes and no credit for any of them
 abbrev pub write_waits : Log → ℕ → List ℕ → Bool
@@ -126,11 +130,11 @@ has_nothing_left side (turns.Call calls.Forbidden) log = response_waits log fals
 has_nothing_left side (turns.Call calls.NotFound) log = response_waits log false (response_bytes (codes "404"))
 has_nothing_left side (turns.Call calls.TooManyRequests) log = response_waits log false (response_bytes (codes "429"))
 has_nothing_left side (turns.Call calls.Handshake) log = handshake_waits side log (handshake_state (calls_of log))
-has_nothing_left side (turns.Call calls.AcceptUni) log = has_no_stream side log (peer_uni side)
-has_nothing_left side (turns.Call calls.AcceptBi) log = has_no_stream side log (peer_bi side)
-has_nothing_left side (turns.Call calls.ReceiveDatagram) log = of_session (λ s. not (is_some (next_datagram side log))) (established_session (calls_of log))
-has_nothing_left side (turns.Call calls.OpenUni) log = has_no_credit side log (local_uni side)
-has_nothing_left side (turns.Call calls.OpenBi) log = has_no_credit side log (local_bi side)
+has_nothing_left side (turns.Call (calls.AcceptUni session)) log = has_no_stream side log session (peer_uni side)
+has_nothing_left side (turns.Call (calls.AcceptBi session)) log = has_no_stream side log session (peer_bi side)
+has_nothing_left side (turns.Call (calls.ReceiveDatagram session)) log = of_session (λ s. not (is_some (next_datagram side log))) (asked_session log session)
+has_nothing_left side (turns.Call (calls.OpenUni session)) log = has_no_credit side log session (local_uni side)
+has_nothing_left side (turns.Call (calls.OpenBi session)) log = has_no_credit side log session (local_bi side)
 has_nothing_left side (turns.Call (calls.PollOpening id)) log = of_session (λ s. is_opening log id
     && lacks_credit log id (head_left log id (stream_header id s))) (established_session (calls_of log))
 has_nothing_left side (turns.Call calls.Closed) log = of_session (λ s. true) (established_session (calls_of log))
@@ -168,16 +172,16 @@ abbrev pub datagram_reply : Side → Log → Option (ℕ × List ℕ) → Reply
 datagram_reply side log None = pending_or_failed side log
 datagram_reply side log (Some datagram) = replies.Datagram datagram.1
 
--- the reply for the session that is established
+-- the reply for the session that is asked for
 abbrev pub session_reply : (ℕ → Reply) → Option (ℕ × ℕ) → Reply
 session_reply reply None = replies.NoSession
 session_reply reply (Some s) = reply s.0
 
 -- the reply of an accept or a receive where it decides
 abbrev pub passing_reply : Side → Turn → Log → Option Reply
-passing_reply side (turns.Call calls.AcceptUni) log = Some (session_reply (λ s. stream_reply side log replies.Uni (next_due side log (peer_uni side) s)) (established_session (calls_of log)))
-passing_reply side (turns.Call calls.AcceptBi) log = Some (session_reply (λ s. stream_reply side log replies.Bi (next_due side log (peer_bi side) s)) (established_session (calls_of log)))
-passing_reply side (turns.Call calls.ReceiveDatagram) log = Some (session_reply (λ s. datagram_reply side log (next_datagram side log)) (established_session (calls_of log)))
+passing_reply side (turns.Call (calls.AcceptUni session)) log = Some (session_reply (λ s. stream_reply side log replies.Uni (next_due side log (peer_uni side) s)) (asked_session log session))
+passing_reply side (turns.Call (calls.AcceptBi session)) log = Some (session_reply (λ s. stream_reply side log replies.Bi (next_due side log (peer_bi side) s)) (asked_session log session))
+passing_reply side (turns.Call (calls.ReceiveDatagram session)) log = Some (session_reply (λ s. datagram_reply side log (next_datagram side log)) (asked_session log session))
 passing_reply side _ log = None
 
 -- After what it passes, at the log in the turn at which it decides, a call is answered Pending exactly where nothing is left for it
@@ -192,5 +196,5 @@ pub record PendingExactly (side : Side) (log : Log) (turn : Turn) : Type 0 where
   pub exactly : is_pending (answer_to side log turn).reply ≡ (is_open decided && has_nothing_left side turn decided)
   pub gives : (r : Reply) → passing_reply side turn decided ≡ Some r → (answer_to side log turn).reply ≡ r
   pub none_left : (session offset : ℕ) → is_accept turn ≡ true → given_stream (answer_to side log turn).reply ≡ None
-      → established_session (calls_of decided) ≡ Some (session, offset)
+      → asked_session decided (name_in turn) ≡ Some (session, offset)
       → list_any (is_left_for decided (accepted_kind side turn) session) (stream_table side decided).classified ≡ false

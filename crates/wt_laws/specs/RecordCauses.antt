@@ -7,10 +7,10 @@ use Rattle.wt_turn.specs.declared.connecting_error.ConnectingError.{ConnectingEr
 use Rattle.wt_turn.specs.declared.turn.Turn.{Turn}
 use Rattle.wt_wire.specs.declared.addr.Addr.{Addr}
 use Rattle.wt_wire.specs.declared.side.Side.{Side}
-use Rattle.wt_laws.specs.Causes.{AcceptCause, DialCause, EstablishedBy, FoundDatagram, FoundStream, ResponseFrom, asked_size, is_under_way, opened_kind, polls_opening, reads_from}
+use Rattle.wt_laws.specs.Causes.{AcceptCause, DialCause, EstablishedBy, FoundDatagram, FoundStream, ResponseFrom, asked_size, is_under_way, name_in, opened_kind, polls_opening, reads_from}
 use Rattle.wt_laws.specs.ReplyCauses.{ConnectFailedCause, RejectedCause}
 use Rattle.wt_turn.specs.Turns.{is_call}
-use Rattle.wt_spec.specs.Answers.{is_client}
+use Rattle.wt_spec.specs.Answers.{is_client, names}
 use Rattle.wt_spec.specs.Connect.{authority_of, path_of, request_head, reserved_name}
 use Rattle.wt_spec.specs.Connection.{is_opening, stream_header}
 use Rattle.wt_spec.specs.Driver.{established_session}
@@ -67,11 +67,12 @@ pub record OverBy (side : Side) (turn : Turn) (log : Log) : Type 0 where
 
 -- ---- streams
 
--- the call opens this stream on the established session: right before the record it went out as opened, as the next of its kind,
+-- the call opens this stream on the established session, which it names: right before the record it went out as opened, as the next of its kind,
 -- which was allowed
 pub record OpeningCause (side : Side) (turn : Turn) (log : Log) (k session : ℕ) : Type 0 where
   pub opens : opened_kind side turn ≡ Some (k % 4)
   pub offset : ℕ
+  pub is_named : names (name_in turn) session ≡ true
   pub is_established : established_session (calls_of log) ≡ Some (session, offset)
   pub earlier : Log
   pub sent : log ≡ Sent (actions.Opened k) ∷ earlier

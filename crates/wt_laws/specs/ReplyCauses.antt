@@ -26,7 +26,8 @@ use Rattle.wt_wire.specs.declared.error.ErrorCode.{ErrorCode}
 use Rattle.wt_wire.specs.declared.lookup.ConnectOutcome.{ConnectOutcome}
 use Rattle.wt_wire.specs.declared.lookup.Lookup.{Lookup}
 use Rattle.wt_wire.specs.declared.side.Side.{Side}
-use Rattle.wt_laws.specs.Causes.{ConnectTo, DatagramOf, EstablishedBy, FoundDatagram, FoundStream, ResponseFrom, ResponseIs, accepted_kind, bytes_for, is_accept, is_receive, opened_kind, polls_opening}
+use Rattle.wt_laws.specs.Causes.{ConnectTo, DatagramOf, EstablishedBy, FoundDatagram, FoundStream, ResponseFrom, ResponseIs, accepted_kind, bytes_for, is_accept, is_receive, name_in, opened_kind, polls_opening}
+use Rattle.wt_spec.specs.Answers.{named_session, names}
 use Rattle.wt_spec.specs.Connect.{address_of, outcome_error, port_of}
 use Rattle.wt_spec.specs.Connection.{is_opening, next_datagram, next_due, payload_limit, stream_header}
 use Rattle.wt_spec.specs.Driver.{established_session, settings_came}
@@ -50,17 +51,17 @@ use Rattle.wt_proto.specs.declared.response_walk.ResponseWalk.TheVariants as res
 use Rattle.wt_turn.specs.declared.turn.Turn.TheVariants as turns
 use Rattle.wt_turn.specs.declared.stream_error.StreamWriteError.TheVariants as writes
 
--- the call asks for an established session
+-- the call asks for an established session, by the name that it has (`name_in`)
 abbrev pub asks_for_session : Turn → Bool
-asks_for_session (turns.Call calls.AcceptUni) = true
-asks_for_session (turns.Call calls.AcceptBi) = true
-asks_for_session (turns.Call calls.ReceiveDatagram) = true
-asks_for_session (turns.Call calls.OpenUni) = true
-asks_for_session (turns.Call calls.OpenBi) = true
+asks_for_session (turns.Call (calls.AcceptUni session)) = true
+asks_for_session (turns.Call (calls.AcceptBi session)) = true
+asks_for_session (turns.Call (calls.ReceiveDatagram session)) = true
+asks_for_session (turns.Call (calls.OpenUni session)) = true
+asks_for_session (turns.Call (calls.OpenBi session)) = true
 asks_for_session (turns.Call (calls.PollOpening id)) = true
-asks_for_session (turns.Call (calls.SendDatagram payload)) = true
-asks_for_session (turns.Call calls.MaxDatagramSize) = true
-asks_for_session (turns.Call calls.SessionId) = true
+asks_for_session (turns.Call (calls.SendDatagram payload session)) = true
+asks_for_session (turns.Call (calls.MaxDatagramSize session)) = true
+asks_for_session (turns.Call (calls.SessionId session)) = true
 asks_for_session (turns.Call (calls.Close code reason)) = true
 asks_for_session (turns.Call calls.Closed) = true
 asks_for_session _ = false
@@ -122,8 +123,8 @@ pub data PendingCause (side : Side) (turn : Turn) (log : Log) : Type 0 where
       → is_finished (actions_of log) (requested_stream (calls_of log)) ≡ true
       → stop_of (events_of log) (requested_stream (calls_of log)) ≡ None
       → is_acknowledged (events_of log) (requested_stream (calls_of log)) ≡ false → PendingCause side turn log
-  NoStreamLeft : (session offset : ℕ) → is_accept turn ≡ true → established_session (calls_of log) ≡ Some (session, offset)
-      → next_due side log (accepted_kind side turn) session ≡ None → PendingCause side turn log
+  NoStreamLeft : (session offset : ℕ) → is_accept turn ≡ true → names (name_in turn) session ≡ true
+      → established_session (calls_of log) ≡ Some (session, offset) → next_due side log (accepted_kind side turn) session ≡ None → PendingCause side turn log
   NoDatagramLeft : is_receive turn ≡ true → next_datagram side log ≡ None → PendingCause side turn log
   NotEnded : (k : ℕ) → waits_for_end turn ≡ Some k → stop_of (events_of log) k ≡ None → is_done log k ≡ false → PendingCause side turn log
   NothingUnread : (k size : ℕ) → turn ≡ turns.Call (calls.Read k size) → (size == 0) ≡ false → unread_body side log k ≡ []
@@ -286,7 +287,8 @@ pub data DoneCause (side : Side) (turn : Turn) (log : Log) : Type 0 where
 abbrev pub ReplyCause : Side → Turn → Log → Reply → Type 0
 ReplyCause side turn log replies.Done = DoneCause side turn log
 ReplyCause side turn log replies.Pending = (is_open log ≡ true) × PendingCause side turn log
-ReplyCause side turn log replies.NoSession = (asks_for_session turn ≡ true) × (established_session (calls_of log) ≡ None)
+ReplyCause side turn log replies.NoSession = (asks_for_session turn ≡ true)
+    × (named_session (name_in turn) (established_session (calls_of log)) ≡ None)
 ReplyCause side turn log replies.NoStream = half_of side log turn ≡ Some false
 ReplyCause side turn log (replies.Request id headers) = (turn ≡ turns.Call calls.Incoming) × (queued : Classified)
     × (later : List Classified) × (queued_requests side log ≡ queued ∷ later) × (queued.id ≡ id)
@@ -299,10 +301,11 @@ ReplyCause side turn log (replies.Opening k) = (is_open log ≡ true) × (kind :
     × (may_open side log kind ≡ true) × (k ≡ next_id side log kind)
 ReplyCause side turn log (replies.SendReady k) = OpenedCause side turn log k × (is_bidirectional k ≡ false)
 ReplyCause side turn log (replies.BiReady k) = OpenedCause side turn log k × (is_bidirectional k ≡ true)
-ReplyCause side turn log (replies.Id s) = (turn ≡ turns.Call calls.SessionId) × (offset : ℕ) × (established_session (calls_of log) ≡ Some (s, offset))
+ReplyCause side turn log (replies.Id s) = (name : Option ℕ) × (turn ≡ turns.Call (calls.SessionId name)) × (names name s ≡ true)
+    × (offset : ℕ) × (established_session (calls_of log) ≡ Some (s, offset))
 ReplyCause side turn log (replies.Datagram piece) = (found : FoundDatagram side turn log true) × (piece ≡ found.datagram.1)
-ReplyCause side turn log (replies.Size size) = (turn ≡ turns.Call calls.MaxDatagramSize) × (s : ℕ) × (offset : ℕ)
-    × (established_session (calls_of log) ≡ Some (s, offset)) × (size ≡ payload_limit s (datagram_fact (events_of log)))
+ReplyCause side turn log (replies.Size size) = (name : Option ℕ) × (turn ≡ turns.Call (calls.MaxDatagramSize name)) × (s : ℕ) × (offset : ℕ)
+    × (names name s ≡ true) × (established_session (calls_of log) ≡ Some (s, offset)) × (size ≡ payload_limit s (datagram_fact (events_of log)))
 ReplyCause side turn log (replies.Written count) = (x : WrittenCause side turn log count)
     × (turn ≡ turns.Call (calls.Write x.stream x.bytes)) × (count ≡ 0
     → x.bytes ≡ [])

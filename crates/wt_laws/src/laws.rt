@@ -6,7 +6,7 @@ ghost use Rattle.wt_laws.specs.Left.{PendingExactly, is_pending};
 ghost use Rattle.wt_laws.specs.Reachable.{AllLawful, IsReachable, exchanges};
 ghost use Rattle.wt_turn.specs.Turns.{is_call};
 ghost use Rattle.wt_laws.specs.Runs.{DoneLate, InOrderOfOpening, LateChangesNothing, RunsLawful, RunsLongest, StaysSo};
-ghost use Rattle.wt_spec.specs.Answers.{answer_to, is_lawful, log_from};
+ghost use Rattle.wt_spec.specs.Answers.{answer_to, is_lawful, log_from, names};
 ghost use Rattle.wt_spec.specs.Driver.{established_session, stream_table};
 ghost use Rattle.wt_spec.specs.Halves.{has_receiving_half, has_sending_half};
 ghost use Rattle.wt_spec.specs.Handshake.{Connecting, handshake_state};
@@ -162,7 +162,8 @@ pub fn late_turns_do_nothing()
 #[tactic(auto, using(crate::proofs::Theorems::asks_first_theorem, crate::proofs::Theorems::session_calls_theorem, crate::proofs::Theorems::sending_calls_theorem, crate::proofs::Theorems::receiving_calls_theorem))]
 pub fn calls_answer_exactly()
     ensures first { (side : Side) (log : Log) (call : Call) → AsksFirst side log call }
-    ensures session { (side : Side) (log : Log) (s offset : ℕ) → established_session (calls_of log) ≡ Some (s, offset) → SessionCallsAnswer side log s }
+    ensures session { (side : Side) (log : Log) (s offset : ℕ) (name : Option ℕ) → established_session (calls_of log) ≡ Some (s, offset)
+        → names name s ≡ true → SessionCallsAnswer side log s name }
     ensures sending { (side : Side) (log : Log) (k : ℕ) → has_sending_half side log k ≡ true → SendingCallsAnswer side log k }
     ensures receiving { (side : Side) (log : Log) (k : ℕ) → has_receiving_half side log k ≡ true → ReceivingCallsAnswer side log k }
 {}

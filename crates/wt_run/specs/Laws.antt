@@ -28,7 +28,7 @@ use Rattle.wt_turn.specs.Turns.{is_call}
 use Rattle.wt_laws.specs.Runs.{DoneAtOnce, DoneLate, InOrderOfOpening, LateChangesNothing, StaysSo}
 use Rattle.wt_laws.specs.Telling.{TellingArrives}
 use Rattle.wt_laws.specs.TurnCauses.{ActionsWentOut, EntriesHaveCauses, ReplyIsRecorded}
-use Rattle.wt_spec.specs.Answers.{answer_to, run}
+use Rattle.wt_spec.specs.Answers.{answer_to, names, run}
 use Rattle.wt_spec.specs.Driver.{established_session, stream_table}
 use Rattle.wt_spec.specs.Halves.{has_receiving_half, has_sending_half}
 use Rattle.wt_spec.specs.Handshake.{Connecting, handshake_state}
@@ -104,7 +104,8 @@ pub record DriverIsRead (side : Side) (log : Log) : Type 0 where
 -- each call that asks for a session or a stream answers exactly as it stands with these
 pub record CallsAnswer (side : Side) (log : Log) : Type 0 where
   pub first : (call : Call) → AsksFirst side log call
-  pub session : (s index : ℕ) → established_session (calls_of log) ≡ Some (s, index) → SessionCallsAnswer side log s
+  pub session : (s index : ℕ) (name : Option ℕ) → established_session (calls_of log) ≡ Some (s, index) → names name s ≡ true
+      → SessionCallsAnswer side log s name
   pub sending : (k : ℕ) → has_sending_half side log k ≡ true → SendingCallsAnswer side log k
   pub receiving : (k : ℕ) → has_receiving_half side log k ≡ true → ReceivingCallsAnswer side log k
 

@@ -20,13 +20,13 @@ bare_handshake_of name =
 -- the connection's calls that have no fields
 abbrev pub bare_call_of : List ℕ → Option Call
 bare_call_of name =
-    if is_word name (codes "accept_uni") then Some calls.AcceptUni else
-    (if is_word name (codes "accept_bi") then Some calls.AcceptBi else
-    (if is_word name (codes "receive_datagram") then Some calls.ReceiveDatagram else
-    (if is_word name (codes "open_uni") then Some calls.OpenUni else
-    (if is_word name (codes "open_bi") then Some calls.OpenBi else
-    (if is_word name (codes "max_datagram_size") then Some calls.MaxDatagramSize else
-    (if is_word name (codes "session_id") then Some calls.SessionId else
+    if is_word name (codes "accept_uni") then Some (calls.AcceptUni None) else
+    (if is_word name (codes "accept_bi") then Some (calls.AcceptBi None) else
+    (if is_word name (codes "receive_datagram") then Some (calls.ReceiveDatagram None) else
+    (if is_word name (codes "open_uni") then Some (calls.OpenUni None) else
+    (if is_word name (codes "open_bi") then Some (calls.OpenBi None) else
+    (if is_word name (codes "max_datagram_size") then Some (calls.MaxDatagramSize None) else
+    (if is_word name (codes "session_id") then Some (calls.SessionId None) else
     (if is_word name (codes "closed") then Some calls.Closed else None)))))))
 
 -- the calls on a stream that carry no bytes
@@ -47,7 +47,7 @@ abbrev pub data_call_of : List ℕ → List (List ℕ) → Option Call
 data_call_of name fields =
     if is_word name (codes "write") then option_map (λ p. calls.Write p.0 p.1) (two id_of bytes_of fields) else
     (if is_word name (codes "write_all") then option_map (λ p. calls.WriteAll p.0 p.1) (two id_of bytes_of fields) else
-    (if is_word name (codes "send_datagram") then option_map calls.SendDatagram (one bytes_of fields) else
+    (if is_word name (codes "send_datagram") then option_map (λ payload. calls.SendDatagram payload None) (one bytes_of fields) else
     (if is_word name (codes "close") then option_map (λ p. calls.Close p.0 p.1) (two id_of bytes_of fields) else
     (if is_word name (codes "endpoint_close") then option_map (λ p. calls.EndpointClose p.0 p.1) (two id_of bytes_of fields) else None))))
 

@@ -13,7 +13,7 @@ use Rattle.wt_session_spec.specs.ConnectionPlans.{close_plan, header_left}
 use Rattle.wt_session_spec.specs.HalfPlans.{finish_plan, priority_plan, read_plan, set_priority_plan, stop_plan, stopped_plan, write_all_plan, write_plan}
 use Rattle.wt_session_spec.specs.Plan.{AcceptBi, AcceptUni, Receive}
 use Rattle.wt_session_spec.specs.Plans.{may_respond_now}
-use Rattle.wt_spec.specs.Answers.{is_client, is_first}
+use Rattle.wt_spec.specs.Answers.{is_client, is_first, named_session}
 use Rattle.wt_spec.specs.Connect.{address_of, outcome_error, port_of}
 use Rattle.wt_spec.specs.Connection.{stream_header}
 use Rattle.wt_spec.specs.StreamTable.{Classified}
@@ -353,13 +353,13 @@ module _ (side : Side) (log : Log) where
     plan_may calls.TooManyRequests m = start-may false (response_bytes (codes "429")) m (λ e. full (codes "429"))
     plan_may calls.Handshake m = handshake-may h
     plan_may (calls.EndpointClose code reason) m = closes-may code reason
-    plan_may calls.AcceptUni m = session-may (facts_of side log).session AcceptUni (λ k. tt)
-    plan_may calls.AcceptBi m = session-may (facts_of side log).session AcceptBi (λ k. tt)
-    plan_may calls.ReceiveDatagram m = session-may (facts_of side log).session Receive (λ k. tt)
-    plan_may calls.OpenUni m = session-may (facts_of side log).session (opening_plan (facts_of side log) (local_uni side)) (λ s. opening-may (local_uni side) s (uni-kind side (stream_count side log (local_uni side))))
-    plan_may calls.OpenBi m = session-may (facts_of side log).session (opening_plan (facts_of side log) (local_bi side)) (λ s. opening-may (local_bi side) s (bi-kind side (stream_count side log (local_bi side))))
+    plan_may (calls.AcceptUni session) m = session-may (named_session session (facts_of side log).session) AcceptUni (λ k. tt)
+    plan_may (calls.AcceptBi session) m = session-may (named_session session (facts_of side log).session) AcceptBi (λ k. tt)
+    plan_may (calls.ReceiveDatagram session) m = session-may (named_session session (facts_of side log).session) Receive (λ k. tt)
+    plan_may (calls.OpenUni session) m = session-may (named_session session (facts_of side log).session) (opening_plan (facts_of side log) (local_uni side)) (λ s. opening-may (local_uni side) s (uni-kind side (stream_count side log (local_uni side))))
+    plan_may (calls.OpenBi session) m = session-may (named_session session (facts_of side log).session) (opening_plan (facts_of side log) (local_bi side)) (λ s. opening-may (local_bi side) s (bi-kind side (stream_count side log (local_bi side))))
     plan_may (calls.PollOpening id) m = session-may (facts_of side log).session (poll_plan (facts_of side log) (session_state log) id) (λ s. poll-may h id s)
-    plan_may (calls.SendDatagram payload) m = session-may (facts_of side log).session (datagram_plan (facts_of side log) payload) (λ s. datagram-may payload s)
+    plan_may (calls.SendDatagram payload session) m = session-may (named_session session (facts_of side log).session) (datagram_plan (facts_of side log) payload) (λ s. datagram-may payload s)
     plan_may (calls.Close code reason) m = session-may (facts_of side log).session (λ s. close_plan (facts_of side log) code reason) (λ s. closes-may code reason)
     plan_may (calls.Write id bytes) m = half-plan-may (has_sending_now side (session_state log) id) (write_plan (facts_of side log) id bytes) (λ e. write-may side log id bytes (h.given_sends id e))
     plan_may (calls.WriteAll id bytes) m = half-plan-may (has_sending_now side (session_state log) id) (write_all_plan (facts_of side log) id bytes) (λ e. write-may side log id bytes (h.given_sends id e))
@@ -371,4 +371,7 @@ module _ (side : Side) (log : Log) where
     plan_may (calls.Read id size) m = half-plan-may (has_receiving_now side (session_state log) id) (read_plan (facts_of side log) id size) (λ e. tt)
     plan_may (calls.ReadExact id size) m = half-plan-may (has_receiving_now side (session_state log) id) (read_exact_plan (facts_of side log) id size) (λ e. exact-may id size ((facts_of side log).unread id) (read_exact_answer (is_open log) (receiving_facts (facts_of side log) id) size))
     plan_may (calls.StopRecv id code) m = half-plan-may (has_receiving_now side (session_state log) id) (stop_plan (facts_of side log) id code) (λ e. may-if side log (actions.StopOut id code) (is_open log) (λ o. (o, h.given_receives id e)))
-    plan_may _ m = session-may (facts_of side log).session _ (λ s. tt)
+    plan_may (calls.MaxDatagramSize session) m = session-may (named_session session (facts_of side log).session) _ (λ s. tt)
+    plan_may (calls.SessionId session) m = session-may (named_session session (facts_of side log).session) _ (λ s. tt)
+    plan_may (calls.EndSession session) m = tt
+    plan_may calls.Closed m = session-may (facts_of side log).session _ (λ s. tt)

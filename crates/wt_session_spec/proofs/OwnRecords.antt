@@ -32,7 +32,8 @@ use Rattle.wt_session_spec.specs.HandshakePlans.{AllOut, Ended, HeadProgress, Re
 use Rattle.wt_session_spec.specs.Plan.{AcceptBi, AcceptUni, Establish, Plan, Receive, Step, closing_with, fail_with, only_reply, send_and_reply, while_open}
 use Rattle.wt_session_spec.specs.Plans.{in_session_now, may_call_now, may_respond_now, plan_of, with_half}
 use Rattle.wt_session_spec.specs.SessionState.{has_receiving_now, has_sending_now, is_answering, is_opening_now, session_state}
-use Rattle.wt_spec.specs.Answers.{is_client, is_first}
+use Rattle.wt_spec.proofs.Named.{established-so}
+use Rattle.wt_spec.specs.Answers.{is_client, is_first, named_session}
 use Rattle.wt_spec.specs.Connect.{address_of, outcome_error, port_of}
 use Rattle.wt_spec.specs.Connection.{stream_header}
 use Rattle.wt_spec.specs.Driver.{call_view, settings_came, stream_table}
@@ -300,13 +301,13 @@ module _ (side : Side) (log : Log) where
     plan-made calls.TooManyRequests m = start-made r false (response_bytes (codes "429")) m
     plan-made calls.Handshake m = handshake-made r
     plan-made (calls.EndpointClose code reason) m = polls (while_open (facts_of side log) (actions.Close code reason))
-    plan-made calls.AcceptUni m = session-made (facts_of side log).session AcceptUni (λ s e. tt)
-    plan-made calls.AcceptBi m = session-made (facts_of side log).session AcceptBi (λ s e. tt)
-    plan-made calls.ReceiveDatagram m = session-made (facts_of side log).session Receive (λ s e. tt)
-    plan-made calls.OpenUni m = session-made (facts_of side log).session (opening_plan (facts_of side log) (local_uni side)) (λ s e. opens-made (local_uni side) s.0 (r.asked s e) (inl refl))
-    plan-made calls.OpenBi m = session-made (facts_of side log).session (opening_plan (facts_of side log) (local_bi side)) (λ s e. opens-made (local_bi side) s.0 (r.asked s e) (inr refl))
+    plan-made (calls.AcceptUni session) m = session-made (named_session session (facts_of side log).session) AcceptUni (λ s e. tt)
+    plan-made (calls.AcceptBi session) m = session-made (named_session session (facts_of side log).session) AcceptBi (λ s e. tt)
+    plan-made (calls.ReceiveDatagram session) m = session-made (named_session session (facts_of side log).session) Receive (λ s e. tt)
+    plan-made (calls.OpenUni session) m = session-made (named_session session (facts_of side log).session) (opening_plan (facts_of side log) (local_uni side)) (λ s e. opens-made (local_uni side) s.0 (r.asked s (established-so session _ s e)) (inl refl))
+    plan-made (calls.OpenBi session) m = session-made (named_session session (facts_of side log).session) (opening_plan (facts_of side log) (local_bi side)) (λ s e. opens-made (local_bi side) s.0 (r.asked s (established-so session _ s e)) (inr refl))
     plan-made (calls.PollOpening id) m = session-made (facts_of side log).session (poll_plan (facts_of side log) (session_state log) id) (λ s e. poll-made r id s.0)
-    plan-made (calls.SendDatagram payload) m = session-made (facts_of side log).session (datagram_plan (facts_of side log) payload) (λ s e. datagram-made payload s.0)
+    plan-made (calls.SendDatagram payload session) m = session-made (named_session session (facts_of side log).session) (datagram_plan (facts_of side log) payload) (λ s e. datagram-made payload s.0)
     plan-made (calls.Close code reason) m = session-made (facts_of side log).session (λ s. close_plan (facts_of side log) code reason) (λ s e. polls (while_open (facts_of side log) (actions.Close code reason)))
     plan-made (calls.Write id bytes) m = half-made (has_sending_now side (session_state log) id) (write_plan (facts_of side log) id bytes) (λ e. polls (write_actions (facts_of side log) id bytes))
     plan-made (calls.WriteAll id bytes) m = half-made (has_sending_now side (session_state log) id) (write_all_plan (facts_of side log) id bytes) (λ e. polls (write_actions (facts_of side log) id bytes))
@@ -318,4 +319,7 @@ module _ (side : Side) (log : Log) where
     plan-made (calls.Read id size) m = half-made (has_receiving_now side (session_state log) id) (read_plan (facts_of side log) id size) (λ e. read-plan-made r id e size)
     plan-made (calls.ReadExact id size) m = half-made (has_receiving_now side (session_state log) id) (read_exact_plan (facts_of side log) id size) (λ e. exact-plan-made r id e size)
     plan-made (calls.StopRecv id code) m = half-made (has_receiving_now side (session_state log) id) (stop_plan (facts_of side log) id code) (λ e. given-up-made side log (while_open (facts_of side log) (actions.StopOut id code)) id (r.receiving id e))
-    plan-made _ m = session-made (facts_of side log).session _ (λ s e. polls [])
+    plan-made (calls.MaxDatagramSize session) m = session-made (named_session session (facts_of side log).session) _ (λ s e. polls [])
+    plan-made (calls.SessionId session) m = session-made (named_session session (facts_of side log).session) _ (λ s e. polls [])
+    plan-made (calls.EndSession session) m = polls []
+    plan-made calls.Closed m = session-made (facts_of side log).session _ (λ s e. polls [])

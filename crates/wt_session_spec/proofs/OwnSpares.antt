@@ -28,7 +28,7 @@ use Rattle.wt_session_spec.specs.HandshakePlans.{AllOut, Ended, HeadProgress, Re
 use Rattle.wt_session_spec.specs.Plan.{AcceptBi, AcceptUni, Establish, Plan, Receive, Step, closing_with, fail_with, only_reply, send_and_reply}
 use Rattle.wt_session_spec.specs.Plans.{in_session_now, may_call_now, may_respond_now, plan_of, with_half}
 use Rattle.wt_session_spec.specs.SessionState.{has_receiving_now, has_sending_now, is_answering, is_opening_now, session_state}
-use Rattle.wt_spec.specs.Answers.{is_client}
+use Rattle.wt_spec.specs.Answers.{is_client, named_session}
 use Rattle.wt_spec.specs.Connect.{address_of, outcome_error, port_of}
 use Rattle.wt_spec.specs.Connection.{stream_header}
 use Rattle.wt_spec.specs.Effect.{is_empty}
@@ -337,13 +337,13 @@ module _ (side : Side) (log : Log) where
     plan-spares calls.TooManyRequests m = spares (start_plan (facts_of side log) (session_state log) false (response_bytes (codes "429"))) (start-apart r false (response_bytes (codes "429")) m)
     plan-spares calls.Handshake m = spares (handshake_plan (facts_of side log) (session_state log)) (handshake-apart r)
     plan-spares (calls.EndpointClose code reason) m = spares (close_plan (facts_of side log) code reason) (close-apart code reason)
-    plan-spares calls.AcceptUni m = session-spares (facts_of side log).session AcceptUni (λ s. tt)
-    plan-spares calls.AcceptBi m = session-spares (facts_of side log).session AcceptBi (λ s. tt)
-    plan-spares calls.ReceiveDatagram m = session-spares (facts_of side log).session Receive (λ s. tt)
-    plan-spares calls.OpenUni m = session-spares (facts_of side log).session (opening_plan (facts_of side log) (local_uni side)) (λ s. opens-uni-spares r s)
-    plan-spares calls.OpenBi m = session-spares (facts_of side log).session (opening_plan (facts_of side log) (local_bi side)) (λ s. spares (opening_plan (facts_of side log) (local_bi side) s) (opens-bi-apart s))
+    plan-spares (calls.AcceptUni session) m = session-spares (named_session session (facts_of side log).session) AcceptUni (λ s. tt)
+    plan-spares (calls.AcceptBi session) m = session-spares (named_session session (facts_of side log).session) AcceptBi (λ s. tt)
+    plan-spares (calls.ReceiveDatagram session) m = session-spares (named_session session (facts_of side log).session) Receive (λ s. tt)
+    plan-spares (calls.OpenUni session) m = session-spares (named_session session (facts_of side log).session) (opening_plan (facts_of side log) (local_uni side)) (λ s. opens-uni-spares r s)
+    plan-spares (calls.OpenBi session) m = session-spares (named_session session (facts_of side log).session) (opening_plan (facts_of side log) (local_bi side)) (λ s. spares (opening_plan (facts_of side log) (local_bi side) s) (opens-bi-apart s))
     plan-spares (calls.PollOpening id) m = session-spares (facts_of side log).session (poll_plan (facts_of side log) (session_state log) id) (λ s. spares (poll_plan (facts_of side log) (session_state log) id s) (poll-apart r id s))
-    plan-spares (calls.SendDatagram payload) m = session-spares (facts_of side log).session (datagram_plan (facts_of side log) payload) (λ s. spares (datagram_plan (facts_of side log) payload s) (datagram-apart payload s))
+    plan-spares (calls.SendDatagram payload session) m = session-spares (named_session session (facts_of side log).session) (datagram_plan (facts_of side log) payload) (λ s. spares (datagram_plan (facts_of side log) payload s) (datagram-apart payload s))
     plan-spares (calls.Close code reason) m = session-spares (facts_of side log).session (λ s. close_plan (facts_of side log) code reason) (λ s. spares (close_plan (facts_of side log) code reason) (close-apart code reason))
     plan-spares (calls.Write id bytes) m = half-spares (has_sending_now side (session_state log) id) (write_plan (facts_of side log) id bytes) (λ e. writes-apart id bytes (r.sending id e))
     plan-spares (calls.WriteAll id bytes) m = half-spares (has_sending_now side (session_state log) id) (write_all_plan (facts_of side log) id bytes) (λ e. writes-apart id bytes (r.sending id e))
@@ -357,4 +357,7 @@ module _ (side : Side) (log : Log) where
         half-spares (has_receiving_now side (session_state log) id) (read_exact_plan (facts_of side log) id size) (λ e. exact-apart id size ((facts_of side log).unread id) (read_exact_answer (is_open log) (receiving_facts (facts_of side log) id) size))
     plan-spares (calls.StopRecv id code) m =
         half-spares (has_receiving_now side (session_state log) id) (stop_plan (facts_of side log) id code) (λ e. apart-if (local_uni side) (actions.StopOut id code) (is_open log) (refl, refl, refl, refl))
-    plan-spares _ m = session-spares (facts_of side log).session _ (λ s. tt)
+    plan-spares (calls.MaxDatagramSize session) m = session-spares (named_session session (facts_of side log).session) _ (λ s. tt)
+    plan-spares (calls.SessionId session) m = session-spares (named_session session (facts_of side log).session) _ (λ s. tt)
+    plan-spares (calls.EndSession session) m = tt
+    plan-spares calls.Closed m = session-spares (facts_of side log).session _ (λ s. tt)

@@ -8,7 +8,7 @@ use Rattle.wt_turn.specs.Log.{CallRecord, Entry, Log, record_in, calls_of, event
 use Rattle.wt_turn.specs.declared.action.Action.{Action}
 use Rattle.wt_turn.specs.declared.call.Call.{Call}
 use Rattle.wt_wire.specs.declared.side.Side.{Side}
-use Rattle.wt_spec.specs.Answers.{call_effect, in_session, may_call}
+use Rattle.wt_spec.specs.Answers.{call_effect, in_session, may_call, named_session, on_session}
 use Rattle.wt_spec.specs.Connection.{accept_stream, close_connection, closed_reply, open_stream, payload_limit, poll_opening, receive_datagram, send_datagram}
 use Rattle.wt_spec.specs.Driver.{established_session, log_and_flush}
 use Rattle.wt_spec.specs.Effect.{Effect, log_call, poll_only}
@@ -29,8 +29,9 @@ use Rattle.wt_turn.specs.declared.reply.Reply.TheVariants as replies
 
 module _ (side : Side) (log : Log) where
   -- a call on the established session
-  session-planned : (call : ℕ → Effect) (plan : ℕ → Plan) → ((s : ℕ) → call s ≡ perform side log (plan s)) → in_session side log call (established_session (calls_of log)) ≡ perform side log (with_session (facts_of side log) plan)
-  session-planned call plan f = by (established_session (calls_of log))
+  session-planned : (name : Option ℕ) (call : ℕ → Effect) (plan : ℕ → Plan) → ((s : ℕ) → call s ≡ perform side log (plan s))
+      → on_session side log name call ≡ perform side log (with_session (facts_of side log) name plan)
+  session-planned name call plan f = by (named_session name (established_session (calls_of log)))
     where
       by : (o : Option (ℕ × ℕ)) → in_session side log call o ≡ perform side log (in_session_now plan o)
       by None = refl
@@ -58,17 +59,18 @@ module _ (side : Side) (log : Log) where
   planned calls.TooManyRequests = same-start side log false (response_bytes (codes "429"))
   planned calls.Handshake = same-handshake side log
   planned (calls.EndpointClose code reason) = same-close side log code reason
-  planned calls.AcceptUni = session-planned (accept_stream side replies.Uni (peer_uni side) log) AcceptUni (λ s. refl)
-  planned calls.AcceptBi = session-planned (accept_stream side replies.Bi (peer_bi side) log) AcceptBi (λ s. refl)
-  planned calls.ReceiveDatagram = session-planned (receive_datagram side log) Receive (λ s. refl)
-  planned calls.OpenUni = session-planned (open_stream side log (local_uni side)) (opening_plan (facts_of side log) (local_uni side)) (same-open side log (local_uni side))
-  planned calls.OpenBi = session-planned (open_stream side log (local_bi side)) (opening_plan (facts_of side log) (local_bi side)) (same-open side log (local_bi side))
-  planned (calls.PollOpening id) = session-planned (poll_opening side log id) (poll_plan (facts_of side log) (session_state log) id) (same-poll side log id)
-  planned (calls.SendDatagram payload) = session-planned (send_datagram side log payload) (datagram_plan (facts_of side log) payload) (same-datagram side log payload)
-  planned calls.MaxDatagramSize = session-planned (λ s. poll_only side log (replies.Size (payload_limit s (datagram_fact (events_of log))))) (λ s. only_reply (replies.Size (payload_limit s (datagram_fact (events_of log))))) (λ s. refl)
-  planned calls.SessionId = session-planned (λ s. poll_only side log (replies.Id s)) (λ s. only_reply (replies.Id s)) (λ s. refl)
-  planned (calls.Close code reason) = session-planned (λ s. close_connection side log code reason) (λ s. close_plan (facts_of side log) code reason) (λ s. same-close side log code reason)
-  planned calls.Closed = session-planned (λ s. poll_only side log (closed_reply log)) (λ s. closed_plan (facts_of side log)) (λ s. same-closed side log)
+  planned (calls.AcceptUni session) = session-planned session (accept_stream side replies.Uni (peer_uni side) log) AcceptUni (λ s. refl)
+  planned (calls.AcceptBi session) = session-planned session (accept_stream side replies.Bi (peer_bi side) log) AcceptBi (λ s. refl)
+  planned (calls.ReceiveDatagram session) = session-planned session (receive_datagram side log) Receive (λ s. refl)
+  planned (calls.OpenUni session) = session-planned session (open_stream side log (local_uni side)) (opening_plan (facts_of side log) (local_uni side)) (same-open side log (local_uni side))
+  planned (calls.OpenBi session) = session-planned session (open_stream side log (local_bi side)) (opening_plan (facts_of side log) (local_bi side)) (same-open side log (local_bi side))
+  planned (calls.PollOpening id) = session-planned None (poll_opening side log id) (poll_plan (facts_of side log) (session_state log) id) (same-poll side log id)
+  planned (calls.SendDatagram payload session) = session-planned session (send_datagram side log payload) (datagram_plan (facts_of side log) payload) (same-datagram side log payload)
+  planned (calls.MaxDatagramSize session) = session-planned session (λ s. poll_only side log (replies.Size (payload_limit s (datagram_fact (events_of log))))) (λ s. only_reply (replies.Size (payload_limit s (datagram_fact (events_of log))))) (λ s. refl)
+  planned (calls.SessionId session) = session-planned session (λ s. poll_only side log (replies.Id s)) (λ s. only_reply (replies.Id s)) (λ s. refl)
+  planned (calls.EndSession session) = refl
+  planned (calls.Close code reason) = session-planned None (λ s. close_connection side log code reason) (λ s. close_plan (facts_of side log) code reason) (λ s. same-close side log code reason)
+  planned calls.Closed = session-planned None (λ s. poll_only side log (closed_reply log)) (λ s. closed_plan (facts_of side log)) (λ s. same-closed side log)
   planned (calls.Write id bytes) = sending-planned id (λ k. write side log k bytes) (write_plan (facts_of side log) id bytes) (same-write side log id bytes)
   planned (calls.WriteAll id bytes) = sending-planned id (λ k. write_all side log k bytes) (write_all_plan (facts_of side log) id bytes) (same-write-all side log id bytes)
   planned (calls.Finish id) = sending-planned id (λ k. finish side log k) (finish_plan (facts_of side log) id) (same-finish side log id)

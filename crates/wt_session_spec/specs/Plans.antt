@@ -3,7 +3,7 @@ use Rattle.std.specs.Prelude.{◌&&◌, Bool, None, Option, Some, codes, false, 
 use Rattle.wt_message.specs.FixedBytes.{response_bytes}
 use Rattle.wt_seam_spec.specs.Streams.{local_bi, local_uni}
 use Rattle.wt_turn.specs.declared.call.Call.{Call}
-use Rattle.wt_spec.specs.Answers.{is_client}
+use Rattle.wt_spec.specs.Answers.{is_client, named_session}
 use Rattle.wt_spec.specs.Connection.{payload_limit}
 use Rattle.wt_spec.specs.Handshake.{awaits_answer, awaits_request, is_continuable, response_head}
 use Rattle.wt_session_spec.specs.CallFacts.{CallFacts}
@@ -21,9 +21,9 @@ abbrev pub in_session_now : (ℕ → Plan) → Option (ℕ × ℕ) → Plan
 in_session_now call None = only_reply replies.NoSession
 in_session_now call (Some session) = call session.0
 
--- a call that asks for an established session
-abbrev pub with_session : CallFacts → (ℕ → Plan) → Plan
-with_session f call = in_session_now call f.session
+-- a call that asks for an established session, by this name
+abbrev pub with_session : CallFacts → Option ℕ → (ℕ → Plan) → Plan
+with_session f name call = in_session_now call (named_session name f.session)
 
 -- a call on a half that the application has; without it the answer is NoStream
 abbrev pub with_half : Bool → Plan → Plan
@@ -48,17 +48,18 @@ plan_of f s calls.NotFound = start_plan f s false (response_bytes (codes "404"))
 plan_of f s calls.TooManyRequests = start_plan f s false (response_bytes (codes "429"))
 plan_of f s calls.Handshake = handshake_plan f s
 plan_of f s (calls.EndpointClose code reason) = close_plan f code reason
-plan_of f s calls.AcceptUni = with_session f AcceptUni
-plan_of f s calls.AcceptBi = with_session f AcceptBi
-plan_of f s calls.ReceiveDatagram = with_session f Receive
-plan_of f s calls.OpenUni = with_session f (opening_plan f (local_uni f.side))
-plan_of f s calls.OpenBi = with_session f (opening_plan f (local_bi f.side))
-plan_of f s (calls.PollOpening id) = with_session f (poll_plan f s id)
-plan_of f s (calls.SendDatagram payload) = with_session f (datagram_plan f payload)
-plan_of f s calls.MaxDatagramSize = with_session f (λ session. only_reply (replies.Size (payload_limit session f.datagram_fact)))
-plan_of f s calls.SessionId = with_session f (λ session. only_reply (replies.Id session))
-plan_of f s (calls.Close code reason) = with_session f (λ session. close_plan f code reason)
-plan_of f s calls.Closed = with_session f (λ session. closed_plan f)
+plan_of f s (calls.AcceptUni session) = with_session f session AcceptUni
+plan_of f s (calls.AcceptBi session) = with_session f session AcceptBi
+plan_of f s (calls.ReceiveDatagram session) = with_session f session Receive
+plan_of f s (calls.OpenUni session) = with_session f session (opening_plan f (local_uni f.side))
+plan_of f s (calls.OpenBi session) = with_session f session (opening_plan f (local_bi f.side))
+plan_of f s (calls.PollOpening id) = with_session f None (poll_plan f s id)
+plan_of f s (calls.SendDatagram payload session) = with_session f session (datagram_plan f payload)
+plan_of f s (calls.MaxDatagramSize session) = with_session f session (λ id. only_reply (replies.Size (payload_limit id f.datagram_fact)))
+plan_of f s (calls.SessionId session) = with_session f session (λ id. only_reply (replies.Id id))
+plan_of f s (calls.EndSession session) = only_reply replies.NoSession
+plan_of f s (calls.Close code reason) = with_session f None (λ session. close_plan f code reason)
+plan_of f s calls.Closed = with_session f None (λ session. closed_plan f)
 plan_of f s (calls.Write id bytes) = with_sending f s id (write_plan f id bytes)
 plan_of f s (calls.WriteAll id bytes) = with_sending f s id (write_all_plan f id bytes)
 plan_of f s (calls.Finish id) = with_sending f s id (finish_plan f id)
@@ -83,4 +84,5 @@ may_call_now f s calls.Forbidden = may_respond_now f s
 may_call_now f s calls.NotFound = may_respond_now f s
 may_call_now f s calls.TooManyRequests = may_respond_now f s
 may_call_now f s calls.Handshake = is_continuable s.handshake
+may_call_now f s (calls.EndSession session) = false
 may_call_now f s _ = not f.is_first

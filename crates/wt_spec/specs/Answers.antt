@@ -1,6 +1,6 @@
 -- The one answer to each turn, which turn may come next, and the answers to a list of turns (a turn is one event of the
 -- transport or one call; this repository's own).
-use Rattle.std.specs.Prelude.{[], ◌&&◌, ◌-◌, ◌∷◌, Bool, List, None, Option, Some, codes, false, if◌then◌else◌, length, not, take, true, ℕ}
+use Rattle.std.specs.Prelude.{[], ◌&&◌, ◌-◌, ◌==◌, ◌∷◌, Bool, List, None, Option, Some, codes, false, if◌then◌else◌, length, not, take, true, ℕ}
 use Rattle.wt_message.specs.FixedBytes.{response_bytes}
 use Rattle.wt_seam_spec.specs.Arrivals.{fits, log_turn}
 use Rattle.wt_seam_spec.specs.Joined.{joined_actions}
@@ -30,9 +30,24 @@ abbrev pub in_session : Side → Log → (ℕ → Effect) → Option (ℕ × ℕ
 in_session side log call None = poll_only side log replies.NoSession
 in_session side log call (Some s) = call s.0
 
--- a call that asks for an established session
-abbrev pub on_session : Side → Log → (ℕ → Effect) → Effect
-on_session side log call = in_session side log call (established_session (calls_of log))
+-- a call names the established session by its id, or by no id at all
+abbrev pub names : Option ℕ → ℕ → Bool
+names None s = true
+names (Some id) s = id == s
+
+-- the session where it has this id
+abbrev pub of_id : ℕ → Option (ℕ × ℕ) → Option (ℕ × ℕ)
+of_id id None = None
+of_id id (Some s) = if id == s.0 then Some s else None
+
+-- the session that a call names: the established one, or none
+abbrev pub named_session : Option ℕ → Option (ℕ × ℕ) → Option (ℕ × ℕ)
+named_session None session = session
+named_session (Some id) session = of_id id session
+
+-- a call that asks for an established session, by this name
+abbrev pub on_session : Side → Log → Option ℕ → (ℕ → Effect) → Effect
+on_session side log name call = in_session side log call (named_session name (established_session (calls_of log)))
 
 -- a call on the sending half of a stream
 abbrev pub on_sending : Side → Log → ℕ → (ℕ → Effect) → Effect
@@ -42,7 +57,7 @@ on_sending side log k call = on_half (has_sending_half side log k) side log call
 abbrev pub on_receiving : Side → Log → ℕ → (ℕ → Effect) → Effect
 on_receiving side log k call = on_half (has_receiving_half side log k) side log call k
 
--- what a call leads to
+-- what a call leads to (no list of turns has an EndSession yet: it may never come)
 unfoldable pub call_effect : Side → Log → Call → Effect
 call_effect side log (calls.Connect options lookup outcome) = connect side log options.0 options.1 lookup outcome
 call_effect side log calls.Incoming = incoming side log
@@ -52,17 +67,18 @@ call_effect side log calls.NotFound = start_response side log false (response_by
 call_effect side log calls.TooManyRequests = start_response side log false (response_bytes (codes "429"))
 call_effect side log calls.Handshake = continue_handshake side log
 call_effect side log (calls.EndpointClose code reason) = close_connection side log code reason
-call_effect side log calls.AcceptUni = on_session side log (accept_stream side replies.Uni (peer_uni side) log)
-call_effect side log calls.AcceptBi = on_session side log (accept_stream side replies.Bi (peer_bi side) log)
-call_effect side log calls.ReceiveDatagram = on_session side log (receive_datagram side log)
-call_effect side log calls.OpenUni = on_session side log (open_stream side log (local_uni side))
-call_effect side log calls.OpenBi = on_session side log (open_stream side log (local_bi side))
-call_effect side log (calls.PollOpening id) = on_session side log (poll_opening side log id)
-call_effect side log (calls.SendDatagram payload) = on_session side log (send_datagram side log payload)
-call_effect side log calls.MaxDatagramSize = on_session side log (λ s. poll_only side log (replies.Size (payload_limit s (datagram_fact (events_of log)))))
-call_effect side log calls.SessionId = on_session side log (λ s. poll_only side log (replies.Id s))
-call_effect side log (calls.Close code reason) = on_session side log (λ s. close_connection side log code reason)
-call_effect side log calls.Closed = on_session side log (λ s. poll_only side log (closed_reply log))
+call_effect side log (calls.AcceptUni session) = on_session side log session (accept_stream side replies.Uni (peer_uni side) log)
+call_effect side log (calls.AcceptBi session) = on_session side log session (accept_stream side replies.Bi (peer_bi side) log)
+call_effect side log (calls.ReceiveDatagram session) = on_session side log session (receive_datagram side log)
+call_effect side log (calls.OpenUni session) = on_session side log session (open_stream side log (local_uni side))
+call_effect side log (calls.OpenBi session) = on_session side log session (open_stream side log (local_bi side))
+call_effect side log (calls.PollOpening id) = on_session side log None (poll_opening side log id)
+call_effect side log (calls.SendDatagram payload session) = on_session side log session (send_datagram side log payload)
+call_effect side log (calls.MaxDatagramSize session) = on_session side log session (λ s. poll_only side log (replies.Size (payload_limit s (datagram_fact (events_of log)))))
+call_effect side log (calls.SessionId session) = on_session side log session (λ s. poll_only side log (replies.Id s))
+call_effect side log (calls.EndSession session) = poll_only side log replies.NoSession
+call_effect side log (calls.Close code reason) = on_session side log None (λ s. close_connection side log code reason)
+call_effect side log calls.Closed = on_session side log None (λ s. poll_only side log (closed_reply log))
 call_effect side log (calls.Write id bytes) = on_sending side log id (λ k. write side log k bytes)
 call_effect side log (calls.WriteAll id bytes) = on_sending side log id (λ k. write_all side log k bytes)
 call_effect side log (calls.Finish id) = on_sending side log id (λ k. finish side log k)
@@ -124,6 +140,7 @@ may_call side log calls.Forbidden = may_respond side log
 may_call side log calls.NotFound = may_respond side log
 may_call side log calls.TooManyRequests = may_respond side log
 may_call side log calls.Handshake = is_continuable (handshake_state (calls_of log))
+may_call side log (calls.EndSession session) = false
 may_call side log _ = not (is_first log)
 
 -- the turn may come after this log

@@ -1,6 +1,6 @@
 -- A run that is made by rule: a session, and then streams of the peer, each accepted and read to its end (this
 -- repository's own).
-use Rattle.std.specs.Prelude.{ℕ, zero, suc, ◌+◌, ◌*◌, ◌%◌, List, [], ◌∷◌, ◌++◌, map, codes}
+use Rattle.std.specs.Prelude.{List, None, [], codes, map, suc, zero, ℕ, ◌%◌, ◌*◌, ◌++◌, ◌+◌, ◌∷◌}
 use Rattle.std.specs.List.{range_with_len}
 use Rattle.wt_message.specs.FixedBytes.{headers_frame_bytes}
 use Rattle.wt_message.specs.Requests.{request_fields}
@@ -49,7 +49,7 @@ stream_turns number =
     turns.PeerUni
     ∷ turns.Bytes (client_stream_id number) (stream_bytes number)
     ∷ turns.End (client_stream_id number)
-    ∷ turns.Call calls.AcceptUni
+    ∷ turns.Call (calls.AcceptUni None)
     ∷ turns.Call (calls.Read (client_stream_id number) 200)
     ∷ turns.Call (calls.Read (client_stream_id number) 200)
     ∷ []

@@ -102,7 +102,7 @@ fn push_stream(alloc: Global, turns: &mut Turns, number: u32) -> Result<(), OutO
     turns.push(Turn::PeerUni)?;
     turns.push(bytes(id, piece))?;
     turns.push(Turn::End { id })?;
-    turns.push(Turn::Call(Call::AcceptUni))?;
+    turns.push(Turn::Call(Call::AcceptUni { session: None }))?;
     turns.push(read(id))?;
     turns.push(read(id))?;
     Ok(())

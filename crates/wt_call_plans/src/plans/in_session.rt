@@ -7,6 +7,7 @@ ghost use Rattle.wt_seam.specs.State.{TransportState};
 ghost use Rattle.wt_session_spec.specs.ConnectionPlans.{poll_plan};
 ghost use Rattle.wt_session_spec.specs.Plans.{plan_of};
 ghost use Rattle.wt_session_spec.specs.SessionState.{SessionState};
+ghost use Rattle.wt_spec.specs.Answers.{named_session};
 ghost use Rattle.wt_turn.specs.declared.call.Call.TheVariants as calls;
 
 use std::alloc::Global;
@@ -24,13 +25,29 @@ use wt_wire::varint::VarInt;
 /// The session that is established, and where its part of the stream begins.
 pub type Established = Option<(SessionId, usize)>;
 
+/// The session that a call asks for by this name: the established one where it has that id, or where the
+/// call names none.
+fn named(name: Option<SessionId>, session: Established) -> Established
+    ensures { result ≡ named_session name session }
+{
+    let (established, offset) = session?;
+    let is_another = match name {
+        Some(id) => id != established,
+        None => false,
+    };
+    if is_another {
+        return None;
+    }
+    Some((established, offset))
+}
+
 /// The session's next unidirectional stream of the peer is given.
 #[tactic(auto, unfolding(wt_session_spec::specs::Plans::plan_of))]
-pub fn accept_uni(alloc: Global, session: Established) -> Plan
+pub fn accept_uni(alloc: Global, name: Option<SessionId>, session: Established) -> Plan
     ensures { (t : TransportState) (d : DriverAnswers) (s : SessionState) → d.session ≡ session
-        → defined_plan result ≡ plan_of (facts_now t d) s calls.AcceptUni }
+        → defined_plan result ≡ plan_of (facts_now t d) s (calls.AcceptUni name) }
 {
-    match session {
+    match named(name, session) {
         Some((session, _)) => Plan::AcceptUni(session),
         None => Plan::only_reply(alloc, Reply::NoSession),
     }
@@ -38,11 +55,11 @@ pub fn accept_uni(alloc: Global, session: Established) -> Plan
 
 /// The session's next bidirectional stream of the peer is given.
 #[tactic(auto, unfolding(wt_session_spec::specs::Plans::plan_of))]
-pub fn accept_bi(alloc: Global, session: Established) -> Plan
+pub fn accept_bi(alloc: Global, name: Option<SessionId>, session: Established) -> Plan
     ensures { (t : TransportState) (d : DriverAnswers) (s : SessionState) → d.session ≡ session
-        → defined_plan result ≡ plan_of (facts_now t d) s calls.AcceptBi }
+        → defined_plan result ≡ plan_of (facts_now t d) s (calls.AcceptBi name) }
 {
-    match session {
+    match named(name, session) {
         Some((session, _)) => Plan::AcceptBi(session),
         None => Plan::only_reply(alloc, Reply::NoSession),
     }
@@ -50,11 +67,11 @@ pub fn accept_bi(alloc: Global, session: Established) -> Plan
 
 /// The session's next datagram is given.
 #[tactic(auto, unfolding(wt_session_spec::specs::Plans::plan_of))]
-pub fn receive_datagram(alloc: Global, session: Established) -> Plan
+pub fn receive_datagram(alloc: Global, name: Option<SessionId>, session: Established) -> Plan
     ensures { (t : TransportState) (d : DriverAnswers) (s : SessionState) → d.session ≡ session
-        → defined_plan result ≡ plan_of (facts_now t d) s calls.ReceiveDatagram }
+        → defined_plan result ≡ plan_of (facts_now t d) s (calls.ReceiveDatagram name) }
 {
-    match session {
+    match named(name, session) {
         Some((session, _)) => Plan::Receive(session),
         None => Plan::only_reply(alloc, Reply::NoSession),
     }
@@ -62,11 +79,11 @@ pub fn receive_datagram(alloc: Global, session: Established) -> Plan
 
 /// The session's id is reported.
 #[tactic(auto, unfolding(wt_session_spec::specs::Plans::plan_of))]
-pub fn session_id(alloc: Global, session: Established) -> Plan
+pub fn session_id(alloc: Global, name: Option<SessionId>, session: Established) -> Plan
     ensures { (t : TransportState) (d : DriverAnswers) (s : SessionState) → d.session ≡ session
-        → defined_plan result ≡ plan_of (facts_now t d) s calls.SessionId }
+        → defined_plan result ≡ plan_of (facts_now t d) s (calls.SessionId name) }
 {
-    match session {
+    match named(name, session) {
         Some((session, _)) => Plan::only_reply(alloc, Reply::Id(session)),
         None => Plan::only_reply(alloc, Reply::NoSession),
     }
@@ -74,11 +91,16 @@ pub fn session_id(alloc: Global, session: Established) -> Plan
 
 /// The greatest payload of a datagram is reported.
 #[tactic(auto, unfolding(wt_session_spec::specs::Plans::plan_of))]
-pub fn max_datagram_size(alloc: Global, t: &Transport, session: Established) -> Plan
+pub fn max_datagram_size(
+    alloc: Global,
+    t: &Transport,
+    name: Option<SessionId>,
+    session: Established,
+) -> Plan
     ensures { (d : DriverAnswers) (s : SessionState) → d.session ≡ session
-        → defined_plan result ≡ plan_of (facts_now t.now d) s calls.MaxDatagramSize }
+        → defined_plan result ≡ plan_of (facts_now t.now d) s (calls.MaxDatagramSize name) }
 {
-    match session {
+    match named(name, session) {
         Some((session, _)) => {
             let limit = connection_plans::payload_limit(t, session);
             Plan::only_reply(alloc, Reply::Size(limit))
@@ -89,11 +111,16 @@ pub fn max_datagram_size(alloc: Global, t: &Transport, session: Established) -> 
 
 /// The next unidirectional stream of the session begins.
 #[tactic(auto, unfolding(wt_session_spec::specs::Plans::plan_of))]
-pub fn open_uni(alloc: Global, t: &Transport, session: Established) -> Result<Plan, OutOfMemory>
+pub fn open_uni(
+    alloc: Global,
+    t: &Transport,
+    name: Option<SessionId>,
+    session: Established,
+) -> Result<Plan, OutOfMemory>
     ensures { (d : DriverAnswers) (s : SessionState) → d.session ≡ session
-        → IfOk result (λ p. defined_plan p ≡ plan_of (facts_now t.now d) s calls.OpenUni) }
+        → IfOk result (λ p. defined_plan p ≡ plan_of (facts_now t.now d) s (calls.OpenUni name)) }
 {
-    match session {
+    match named(name, session) {
         Some((session, _)) => connection_plans::open_uni(alloc, t, session),
         None => Ok(Plan::only_reply(alloc, Reply::NoSession)),
     }
@@ -101,11 +128,16 @@ pub fn open_uni(alloc: Global, t: &Transport, session: Established) -> Result<Pl
 
 /// The next bidirectional stream of the session begins.
 #[tactic(auto, unfolding(wt_session_spec::specs::Plans::plan_of))]
-pub fn open_bi(alloc: Global, t: &Transport, session: Established) -> Result<Plan, OutOfMemory>
+pub fn open_bi(
+    alloc: Global,
+    t: &Transport,
+    name: Option<SessionId>,
+    session: Established,
+) -> Result<Plan, OutOfMemory>
     ensures { (d : DriverAnswers) (s : SessionState) → d.session ≡ session
-        → IfOk result (λ p. defined_plan p ≡ plan_of (facts_now t.now d) s calls.OpenBi) }
+        → IfOk result (λ p. defined_plan p ≡ plan_of (facts_now t.now d) s (calls.OpenBi name)) }
 {
-    match session {
+    match named(name, session) {
         Some((session, _)) => connection_plans::open_bi(alloc, t, session),
         None => Ok(Plan::only_reply(alloc, Reply::NoSession)),
     }
@@ -116,13 +148,14 @@ pub fn open_bi(alloc: Global, t: &Transport, session: Established) -> Result<Pla
 pub fn send_datagram(
     alloc: Global,
     t: &Transport,
+    name: Option<SessionId>,
     session: Established,
     payload: &Piece,
 ) -> Result<Plan, OutOfMemory>
     ensures { (d : DriverAnswers) (s : SessionState) → d.session ≡ session
-        → IfOk result (λ p. defined_plan p ≡ plan_of (facts_now t.now d) s (calls.SendDatagram payload.now)) }
+        → IfOk result (λ p. defined_plan p ≡ plan_of (facts_now t.now d) s (calls.SendDatagram payload.now name)) }
 {
-    match session {
+    match named(name, session) {
         Some((session, _)) => connection_plans::datagram(alloc, t, payload.as_slice(), session),
         None => Ok(Plan::only_reply(alloc, Reply::NoSession)),
     }

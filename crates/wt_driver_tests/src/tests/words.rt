@@ -76,11 +76,11 @@ fn event_reply(
 
 fn call_reply(rt: &impl Abort, driver: &mut Driver, call: Call) -> Reply {
     match call {
-        Call::AcceptUni => accept_uni(rt, driver),
-        Call::AcceptBi => accept_bi(rt, driver),
-        Call::ReceiveDatagram => receive_datagram(rt, driver),
+        Call::AcceptUni { .. } => accept_uni(rt, driver),
+        Call::AcceptBi { .. } => accept_bi(rt, driver),
+        Call::ReceiveDatagram { .. } => receive_datagram(rt, driver),
         Call::Incoming => accept_session(rt, driver),
-        Call::OpenBi => open_session(rt, driver),
+        Call::OpenBi { .. } => open_session(rt, driver),
         Call::Handshake => response(rt, driver),
         Call::Close { code, reason } => close(rt, driver, code, reason),
         Call::Closed => result(rt, driver),

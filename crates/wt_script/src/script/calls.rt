@@ -39,25 +39,25 @@ fn read_bare_call(name: &[u8]) -> Option<Call>
     ensures { result ≡ bare_call_of name.now }
 {
     if is_name(name, b"accept_uni") {
-        return Some(Call::AcceptUni);
+        return Some(Call::AcceptUni { session: None });
     }
     if is_name(name, b"accept_bi") {
-        return Some(Call::AcceptBi);
+        return Some(Call::AcceptBi { session: None });
     }
     if is_name(name, b"receive_datagram") {
-        return Some(Call::ReceiveDatagram);
+        return Some(Call::ReceiveDatagram { session: None });
     }
     if is_name(name, b"open_uni") {
-        return Some(Call::OpenUni);
+        return Some(Call::OpenUni { session: None });
     }
     if is_name(name, b"open_bi") {
-        return Some(Call::OpenBi);
+        return Some(Call::OpenBi { session: None });
     }
     if is_name(name, b"max_datagram_size") {
-        return Some(Call::MaxDatagramSize);
+        return Some(Call::MaxDatagramSize { session: None });
     }
     if is_name(name, b"session_id") {
-        return Some(Call::SessionId);
+        return Some(Call::SessionId { session: None });
     }
     if is_name(name, b"closed") {
         return Some(Call::Closed);
@@ -126,7 +126,10 @@ fn read_data_call(alloc: Global, name: &[u8], fields: &Parts) -> Result<Option<C
     }
     if is_name(name, b"send_datagram") {
         let payload = bytes_alone(alloc, fields)?;
-        return Ok(payload.map(|payload| Call::SendDatagram { payload }));
+        return Ok(payload.map(|payload| Call::SendDatagram {
+            payload,
+            session: None,
+        }));
     }
     if is_name(name, b"close") {
         let fields = code_and_bytes(alloc, fields)?;

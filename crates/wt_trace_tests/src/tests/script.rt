@@ -54,7 +54,12 @@ fn events_are_read(rt: HostRuntime) {
 fn calls_are_read(rt: HostRuntime) {
     let alloc = rt.alloc();
     spells(&rt, alloc, "incoming", Turn::Call(Call::Incoming));
-    spells(&rt, alloc, "accept_uni", Turn::Call(Call::AcceptUni));
+    spells(
+        &rt,
+        alloc,
+        "accept_uni",
+        Turn::Call(Call::AcceptUni { session: None }),
+    );
     let headers = HeaderList::new(alloc);
     spells(&rt, alloc, "accept", Turn::Call(Call::Accept { headers }));
     let id = stream(6);

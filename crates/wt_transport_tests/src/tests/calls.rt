@@ -14,8 +14,8 @@ use wt_wire::varint::VarInt;
 /// Makes a call of the transport, or of a half of one of its streams.
 pub fn make_call(rt: &impl Abort, alloc: Global, transport: &mut Transport, call: &Call) -> Reply {
     match call {
-        Call::OpenUni => open_uni(rt, transport),
-        Call::OpenBi => open_bi(rt, transport),
+        Call::OpenUni { .. } => open_uni(rt, transport),
+        Call::OpenBi { .. } => open_bi(rt, transport),
         Call::Close { code, reason } => close(rt, transport, *code, reason),
         Call::Read { id, size } => read(rt, alloc, transport, *id, *size as usize),
         Call::ReadExact { id, size } => read_exact(rt, alloc, transport, *id, *size as usize),

@@ -12,4 +12,4 @@ returns-clause-reply c = rw (← c.self.view_is) (λ side log collected f r s.
 
 pub returns-clause-log : goal.returns-clause-log
 returns-clause-log c = rw (← c.self.view_is) (λ side log collected f r s.
-    c.record.ensures.log side log collected calls.MaxDatagramSize _ f r (may_use side log c.self.inside.session s) (size_by_log side log c.self.inside.session s c.args.d.now collected f r))
+    c.record.ensures.log side log collected (calls.MaxDatagramSize None) _ f r (may_use side log c.self.inside.session s) (size_by_log side log c.self.inside.session s c.args.d.now collected f r))

@@ -11,12 +11,12 @@ use Rattle.wt_connection.proofs.connection.Connection.open_bi.Goals as goal
 
 pub returns-clause-reply : goal.returns-clause-reply
 returns-clause-reply c = rw (← c.self.view_is) (λ side log collected f r s.
-    let reported = c.in_ok-perform.ensures.reply side log collected calls.OpenBi f (open_bi_planned side log c.self.inside.session s c.args.d.now collected f r c.transport.result.now c.transport.ensures c.in_ok-plan.plan c.in_ok-plan.ensures) in
+    let reported = c.in_ok-perform.ensures.reply side log collected (calls.OpenBi None) f (open_bi_planned side log c.self.inside.session s c.args.d.now collected f r c.transport.result.now c.transport.ensures c.in_ok-plan.plan c.in_ok-plan.ensures) in
     c.opening_bi.ensures.reply ∙ ap (poll_reply replies.Opening) (c.opening_in-answer.ensures ∙ ap (λ (x : Reply). opening_in x) reported) ∙ open_bi_comes side log c.self.inside.session s c.args.d.now collected f r)
 
 pub returns-clause-log : goal.returns-clause-log
 returns-clause-log c = rw (← c.self.view_is) (λ side log collected f r s.
-    c.in_ok-perform.ensures.log side log collected calls.OpenBi f r (may_use side log c.self.inside.session s)
+    c.in_ok-perform.ensures.log side log collected (calls.OpenBi None) f r (may_use side log c.self.inside.session s)
     (open_bi_planned side log c.self.inside.session s c.args.d.now collected f r c.transport.result.now c.transport.ensures c.in_ok-plan.plan c.in_ok-plan.ensures))
 
 pub returns-clause-in_log : goal.returns-clause-in_log
