@@ -1,13 +1,14 @@
 //! The program over standard input and output.
 //!
 //! `wt_cli trace` reads a script, and writes a line for each answer to its turns. `wt_cli large <n>` runs a
-//! generated run with so many streams and then the turns that it reads, and writes a line that sums up the
-//! answers. The exit status tells how that went: see [`run_program`](wt_trace::run_program).
+//! generated run with n streams and then the turns that it reads, and writes a line that sums up the
+//! answers. `wt_cli shared <n>` makes a generated run with n streams in two threads. The exit status says how
+//! that went: see [`run_program`](wt_trace::run_program) and [`run_shared`](wt_shared::run_shared).
 #![tactic(auto)]
 
 use std::env;
 use std::io::Error;
-use wt_trace::ended::{Ended, run};
+use wt_shared::ended::{Ended, run};
 use wt_trace::outside::standard::{StdSink, StdSource};
 
 /// The words after the program's name. The error is a word that isn't UTF-8, or out of memory.
@@ -22,5 +23,5 @@ fn words(rt: &HostRuntime) -> Result<Vec<String>, Error> {
 fn main(rt: HostRuntime) -> Ended {
     let mut source = StdSource::new(rt.stdin());
     let mut sink = StdSink::new(rt.stdout());
-    run(rt.alloc(), words(&rt), &mut source, &mut sink)
+    run(&rt, rt.alloc(), words(&rt), &mut source, &mut sink)
 }

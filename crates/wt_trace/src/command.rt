@@ -71,8 +71,8 @@ pub fn read_command(words: &[String]) -> Option<Command>
     }
 }
 
-/// The number of streams that a word spells.
-fn read_streams(word: &[u8]) -> Option<StreamCount>
+/// The number of streams that a word spells; None exactly where it spells none from 1 to 10,000.
+pub fn read_streams(word: &[u8]) -> Option<StreamCount>
     ensures { result ≡ streams_of word.now }
 {
     let number = read_count(word)?;

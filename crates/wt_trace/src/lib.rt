@@ -10,7 +10,6 @@ pub mod answer;
 pub mod command;
 pub mod command_script;
 pub mod cut_short;
-pub mod ended;
 pub mod generate;
 pub mod input;
 pub mod output;
