@@ -1,17 +1,18 @@
 -- What the public clauses of a core rest on.
 use Rattle.std.proofs.Common.{List, ap, length, ◌≡◌, false, refl, sym, subst, true, ◌∙◌}
 use Rattle.std.specs.Prelude.{IsTrue}
-use Rattle.wt_core.proofs.Below.{driver_fits, session_calls}
-use Rattle.wt_core.specs.CoreState.{CoreState, Refines, may_come_next, may_turn}
+use Rattle.wt_core.proofs.Below.{driver_connected, driver_fits, driver_open, session_calls}
+use Rattle.wt_core.specs.CoreState.{CoreState, Refines, connected_now, may_come_next, may_turn, open_now}
 use Rattle.wt_laws.specs.Reachable.{AfterTurn, IsReachable}
 use Rattle.wt_seam.specs.Step.{fits_now}
 use Rattle.wt_seam_spec.specs.Arrivals.{fits}
+use Rattle.wt_seam_spec.specs.Reports.{is_connected}
 use Rattle.wt_spec.specs.Answers.{actions_since, answer_to, is_lawful, log_after, turn_effect}
 use Rattle.wt_turn.specs.Turns.{is_call}
 use Rattle.wt_driver_state.specs.DriverValue.{DriverValue}
 use Rattle.wt_driver_state.specs.Tie.{Follows}
 use Rattle.wt_call_answers.specs.Keeping.{Keeps}
-use Rattle.wt_turn.specs.Log.{Log, actions_of}
+use Rattle.wt_turn.specs.Log.{Log, actions_of, all_events_of, is_open}
 use Rattle.wt_turn.specs.declared.action.Action.{Action}
 use Rattle.wt_turn.specs.declared.call.Call.{Call}
 use Rattle.wt_turn.specs.declared.reply.Reply.{Reply}
@@ -27,6 +28,16 @@ working_may k log turn r = rw (r.works) refl
 may_lawful : (k : CoreState) (log : Log) (turn : Turn) → Refines k log → may_come_next k turn ≡ is_lawful k.side log turn
 may_lawful k log (turns.Call call) r = session_calls k.side k.session log call r.session
 may_lawful k log turn r = driver_fits k.side k.driver log _ turn r.driver
+
+-- a turn may be asked for where it is lawful
+pub may_turn_is : (k : CoreState) (log : Log) (turn : Turn) → Refines k log → may_turn k turn ≡ is_lawful k.side log turn
+may_turn_is k log turn r = working_may k log turn r ∙ may_lawful k log turn r
+
+pub kept_open : (k : CoreState) (log : Log) → Refines k log → open_now k ≡ is_open log
+kept_open k log r = driver_open k.side k.driver log _ r.driver
+
+pub kept_connected : (k : CoreState) (log : Log) → Refines k log → connected_now k ≡ is_connected (all_events_of log)
+kept_connected k log r = driver_connected k.side k.driver log _ r.driver
 
 -- a turn that may be asked for is lawful
 pub asked_lawful : (k : CoreState) (log : Log) (turn : Turn) → Refines k log → IsTrue (may_turn k turn) → is_lawful k.side log turn ≡ true

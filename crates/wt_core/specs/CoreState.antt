@@ -26,6 +26,14 @@ may_come_next k turn = fits_now k.driver.inbox.transport turn
 abbrev pub may_turn : CoreState → Turn → Bool
 may_turn k turn = k.failed || may_come_next k turn
 
+-- the connection is open, by what is kept
+abbrev pub open_now : CoreState → Bool
+open_now k = k.driver.inbox.transport.is_open
+
+-- the connection was established, by what is kept
+abbrev pub connected_now : CoreState → Bool
+connected_now k = k.driver.inbox.transport.is_connected
+
 -- what is kept is that of this log, to which lawful turns lead and all of whose actions were collected
 pub record Refines (k : CoreState) (log : Log) : Type 0 where
   pub works : k.failed ≡ false

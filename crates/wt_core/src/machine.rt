@@ -1,12 +1,13 @@
 //! One connection, driven turn by turn.
 ghost use Rattle.std.specs.Prelude.{◌≡◌, [], IfOk, OnOk, OnErr, IsErr, IsTrue, length, true};
-ghost use Rattle.wt_core.specs.CoreState.{Refines, may_come_next, may_turn};
+ghost use Rattle.wt_core.specs.CoreState.{Refines, connected_now, may_come_next, may_turn, open_now};
 ghost use Rattle.wt_seam.specs.Step.{fits_now};
 ghost use Rattle.wt_seam_spec.specs.Arrivals.{fits};
+ghost use Rattle.wt_seam_spec.specs.Reports.{is_connected};
 ghost use Rattle.wt_spec.specs.Answers.{answer_to, call_effect, is_lawful, log_after, may_call, turn_effect};
 ghost use Rattle.wt_call_answers.specs.Keeping.{Keeps};
 ghost use Rattle.wt_driver_state.specs.Tie.{Follows};
-ghost use Rattle.wt_turn.specs.Log.{Log, actions_of};
+ghost use Rattle.wt_turn.specs.Log.{Log, actions_of, all_events_of, is_open};
 
 use std::alloc::Global;
 use std::marker::Model;
@@ -80,6 +81,22 @@ impl Core {
         ensures log { (log : Log) → Refines self.now log → result ≡ is_lawful self.now.side log turn.now }
     {
         self.failed || self.may_come(turn)
+    }
+
+    /// Whether the connection is open: it wasn't lost, and neither end's close went out.
+    pub fn is_open(&self) -> bool
+        ensures state { result ≡ open_now self.now }
+        ensures log { (log : Log) → Refines self.now log → result ≡ is_open log }
+    {
+        self.driver.inbox().is_open()
+    }
+
+    /// Whether the connection was established, also where it ended since.
+    pub fn is_connected(&self) -> bool
+        ensures state { result ≡ connected_now self.now }
+        ensures log { (log : Log) → Refines self.now log → result ≡ is_connected (all_events_of log) }
+    {
+        self.driver.inbox().is_connected()
     }
 
     /// The reply to a call, whose actions stay with the driver.
