@@ -5,7 +5,7 @@ use crate::piece::Piece;
 use std::alloc::Global;
 use wt_wire::error::OutOfMemory;
 use wt_wire::header_list::HeaderList;
-use wt_wire::ids::StreamId;
+use wt_wire::ids::{SessionId, StreamId};
 use wt_wire::lookup::{ConnectOutcome, Lookup};
 use wt_wire::text::Text;
 use wt_wire::varint::VarInt;
@@ -40,15 +40,25 @@ pub enum Call {
         reason: Piece,
     },
     /// Accepts the next unidirectional stream of the session.
-    AcceptUni,
+    AcceptUni {
+        session: Option<SessionId>,
+    },
     /// Accepts the next bidirectional stream of the session.
-    AcceptBi,
+    AcceptBi {
+        session: Option<SessionId>,
+    },
     /// Takes the next datagram of the session.
-    ReceiveDatagram,
+    ReceiveDatagram {
+        session: Option<SessionId>,
+    },
     /// Begins a unidirectional stream of the session.
-    OpenUni,
+    OpenUni {
+        session: Option<SessionId>,
+    },
     /// Begins a bidirectional stream of the session.
-    OpenBi,
+    OpenBi {
+        session: Option<SessionId>,
+    },
     /// Goes on with a stream that is being opened.
     PollOpening {
         id: StreamId,
@@ -56,11 +66,20 @@ pub enum Call {
     /// Sends a datagram of the session.
     SendDatagram {
         payload: Piece,
+        session: Option<SessionId>,
+    },
+    /// Ends the session.
+    EndSession {
+        session: Option<SessionId>,
     },
     /// Asks for the greatest payload of a datagram.
-    MaxDatagramSize,
+    MaxDatagramSize {
+        session: Option<SessionId>,
+    },
     /// Asks for the session's id.
-    SessionId,
+    SessionId {
+        session: Option<SessionId>,
+    },
     /// Closes the connection.
     Close {
         code: VarInt,
@@ -154,17 +173,19 @@ impl Call {
                 code: *code,
                 reason: reason.copy()?,
             },
-            Call::AcceptUni => Call::AcceptUni,
-            Call::AcceptBi => Call::AcceptBi,
-            Call::ReceiveDatagram => Call::ReceiveDatagram,
-            Call::OpenUni => Call::OpenUni,
-            Call::OpenBi => Call::OpenBi,
+            Call::AcceptUni { session } => Call::AcceptUni { session: *session },
+            Call::AcceptBi { session } => Call::AcceptBi { session: *session },
+            Call::ReceiveDatagram { session } => Call::ReceiveDatagram { session: *session },
+            Call::OpenUni { session } => Call::OpenUni { session: *session },
+            Call::OpenBi { session } => Call::OpenBi { session: *session },
             Call::PollOpening { id } => Call::PollOpening { id: *id },
-            Call::SendDatagram { payload } => Call::SendDatagram {
+            Call::SendDatagram { payload, session } => Call::SendDatagram {
                 payload: payload.copy()?,
+                session: *session,
             },
-            Call::MaxDatagramSize => Call::MaxDatagramSize,
-            Call::SessionId => Call::SessionId,
+            Call::EndSession { session } => Call::EndSession { session: *session },
+            Call::MaxDatagramSize { session } => Call::MaxDatagramSize { session: *session },
+            Call::SessionId { session } => Call::SessionId { session: *session },
             Call::Close { code, reason } => Call::Close {
                 code: *code,
                 reason: reason.copy()?,
@@ -224,17 +245,19 @@ impl Call {
             Call::Handshake => matches!(other, Call::Handshake),
             Call::EndpointClose { code, reason } =>
                 matches!(other, Call::EndpointClose { code: other_code, reason: other_reason } if code == other_code && reason.is_equal(other_reason)),
-            Call::AcceptUni => matches!(other, Call::AcceptUni),
-            Call::AcceptBi => matches!(other, Call::AcceptBi),
-            Call::ReceiveDatagram => matches!(other, Call::ReceiveDatagram),
-            Call::OpenUni => matches!(other, Call::OpenUni),
-            Call::OpenBi => matches!(other, Call::OpenBi),
+            Call::AcceptUni { session } => matches!(other, Call::AcceptUni { session: other_session } if session == other_session),
+            Call::AcceptBi { session } => matches!(other, Call::AcceptBi { session: other_session } if session == other_session),
+            Call::ReceiveDatagram { session } => matches!(other, Call::ReceiveDatagram { session: other_session } if session == other_session),
+            Call::OpenUni { session } => matches!(other, Call::OpenUni { session: other_session } if session == other_session),
+            Call::OpenBi { session } => matches!(other, Call::OpenBi { session: other_session } if session == other_session),
             Call::PollOpening { id } =>
                 matches!(other, Call::PollOpening { id: other_id } if id == other_id),
-            Call::SendDatagram { payload } =>
-                matches!(other, Call::SendDatagram { payload: other_payload } if payload.is_equal(other_payload)),
-            Call::MaxDatagramSize => matches!(other, Call::MaxDatagramSize),
-            Call::SessionId => matches!(other, Call::SessionId),
+            Call::SendDatagram { payload, session } =>
+                matches!(other, Call::SendDatagram { payload: other_payload, session: other_session } if payload.is_equal(other_payload) && session == other_session),
+            Call::EndSession { session } =>
+                matches!(other, Call::EndSession { session: other_session } if session == other_session),
+            Call::MaxDatagramSize { session } => matches!(other, Call::MaxDatagramSize { session: other_session } if session == other_session),
+            Call::SessionId { session } => matches!(other, Call::SessionId { session: other_session } if session == other_session),
             Call::Close { code, reason } =>
                 matches!(other, Call::Close { code: other_code, reason: other_reason } if code == other_code && reason.is_equal(other_reason)),
             Call::Closed => matches!(other, Call::Closed),
