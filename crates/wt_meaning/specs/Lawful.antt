@@ -1,6 +1,6 @@
 -- Which turn may follow a history (this repository's rule: what a QUIC transport may report, and in which order an
 -- application may call). Turns after the end are judged as if they counted.
-use Rattle.std.specs.Prelude.{[], ◌&&◌, ◌==◌, ◌^◌, ◌∷◌, ◌||◌, Bool, List, filter, if◌then◌else◌, is_some, length, nat_le, nat_lt, not, true, false, ℕ}
+use Rattle.std.specs.Prelude.{[], ◌&&◌, ◌==◌, ◌^◌, ◌∷◌, ◌||◌, Bool, filter, if◌then◌else◌, is_some, length, nat_le, nat_lt, not, true, false, ℕ}
 use Rattle.std.specs.List.{list_any}
 use Rattle.wt_seam_spec.specs.Reports.{bis_allowed, credit, end_of, is_acknowledged, is_connected, is_running, loss_of, stop_of, unis_allowed}
 use Rattle.wt_seam_spec.specs.Sent.{has_dialled}

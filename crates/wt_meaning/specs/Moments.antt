@@ -1,7 +1,7 @@
 -- What each moment finds, by one recursion over the moments of a history. Every pair is a moment, and the reply that
 -- establishes a session is one more. A check asks about the history's turns and replies, about earlier moments, and
 -- about what was found before it at the same moment; after a fault nothing is found any more.
-use Rattle.std.specs.Prelude.{[], ◌%◌, ◌&&◌, ◌*◌, ◌++◌, ◌+◌, ◌/◌, ◌==◌, ◌∷◌, Bool, Err, List, None, Ok, Option, Result, Some, drop, false, filter, flat_map, if◌then◌else◌, is_some, length, map, nat_le, nat_lt, not, suc, true, zero, ℕ}
+use Rattle.std.specs.Prelude.{[], ◌%◌, ◌&&◌, ◌*◌, ◌++◌, ◌+◌, ◌/◌, ◌==◌, ◌∷◌, Bool, Err, List, None, Ok, Option, Result, Some, drop, false, filter, flat_map, if◌then◌else◌, is_some, length, map, nat_le, nat_lt, not, suc, zero, ℕ}
 use Rattle.wt_message.specs.Datagram.{datagram_of}
 use Rattle.wt_proto.specs.Bi.{bi_verdict_of}
 use Rattle.wt_proto.specs.ControlWalk.{control_walk_of}

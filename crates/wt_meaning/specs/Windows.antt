@@ -1,5 +1,5 @@
 -- Sessions: which are established, gone or living; what waits for each in its window; which requests are held.
-use Rattle.std.specs.Prelude.{[], ◌&&◌, ◌==◌, ◌∷◌, ◌||◌, Bool, List, None, Option, Some, drop, false, filter, filter_map, if◌then◌else◌, length, nat_lt, not, true, unwrap_or, ℕ}
+use Rattle.std.specs.Prelude.{[], ◌&&◌, ◌==◌, ◌∷◌, ◌||◌, Bool, List, None, Option, Some, drop, false, filter, filter_map, if◌then◌else◌, length, not, true, unwrap_or, ℕ}
 use Rattle.std.specs.List.{list_any}
 use Rattle.std.specs.Option.{option_or}
 use Rattle.wt_proto.specs.ResponseWalk.{response_walk_of}
