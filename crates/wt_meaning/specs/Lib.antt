@@ -1,0 +1,12 @@
+pub mod History
+pub mod Lawful
+pub mod Findings
+pub mod Windows
+pub mod Moments
+pub mod Sends
+pub mod Rows
+pub mod Targets
+pub mod Handshakes
+pub mod Halves
+pub mod Calls
+pub mod Meaning

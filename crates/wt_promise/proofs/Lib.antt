@@ -1,0 +1,9 @@
+pub mod Joins
+pub mod Lists
+pub mod Waiting
+pub mod Pending
+pub mod Polls
+pub mod Ended
+pub mod Accepted
+pub mod Reads
+pub mod Theorems

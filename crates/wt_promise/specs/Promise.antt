@@ -1,0 +1,257 @@
+-- What is promised of every history of lawful turns and their answers, as sentences over its pairs.
+use Rattle.std.specs.Prelude.{[], ◌%◌, ◌&&◌, ◌++◌, ◌==◌, ◌∷◌, ◌||◌, ◌≡◌, ◌≤◌, Bool, Err, List, None, Ok, Option, Result, Some, codes, drop, false, filter, filter_map, if◌then◌else◌, is_none, length, map, nat_le, not, take, true, ℕ}
+use Rattle.std.specs.List.{list_any}
+use Rattle.url.specs.Parser.{parse_url}
+use Rattle.wt_message.specs.FixedBytes.{response_bytes}
+use Rattle.wt_proto.specs.ResponseWalk.{response_walk_of}
+use Rattle.wt_seam_spec.specs.Joined.{join_all}
+use Rattle.wt_seam_spec.specs.Reports.{credit, end_of, is_running, unis_allowed}
+use Rattle.wt_seam_spec.specs.Streams.{local_count, local_uni, peer_bi, peer_uni}
+use Rattle.wt_session_bytes.specs.ControlBytes.{local_control_bytes}
+use Rattle.wt_turn.specs.Log.{closes}
+use Rattle.wt_turn.specs.declared.action.Action.{Action}
+use Rattle.wt_turn.specs.declared.answer.Answer.{Answer}
+use Rattle.wt_turn.specs.declared.call.Call.{Call}
+use Rattle.wt_turn.specs.declared.connecting_error.ConnectingError.{ConnectingError}
+use Rattle.wt_turn.specs.declared.reply.Reply.{Reply}
+use Rattle.wt_turn.specs.declared.turn.Turn.{Turn}
+use Rattle.wt_wire.specs.declared.side.Side.{Side}
+use Rattle.wt_wire.specs.declared.side.Side.TheVariants.{Client, Server}
+use Rattle.wt_meaning.specs.Calls.{first_datagram, first_waiting, is_living, session_error}
+use Rattle.wt_meaning.specs.Findings.{Classified, Finding, fault_of, settings_came, verdict_of}
+use Rattle.wt_meaning.specs.Halves.{body_start, unread, was_read}
+use Rattle.wt_meaning.specs.Handshakes.{acceptance_frame, is_opened, is_success, last_begun}
+use Rattle.wt_meaning.specs.History.{History, actions_out, can_receive, can_send, contents, events, is_given_up, is_handed_out, is_open, is_reset, is_reset_of, loses, out, was_finished}
+use Rattle.wt_meaning.specs.Lawful.{is_lawful, is_pending}
+use Rattle.wt_meaning.specs.Meaning.{answer_to, history_after, next, own_answer, with_pair}
+use Rattle.wt_meaning.specs.Moments.{findings}
+use Rattle.wt_meaning.specs.Sends.{admits, is_of_session}
+use Rattle.wt_meaning.specs.Targets.{Target, target_of}
+use Rattle.wt_meaning.specs.Windows.{admitted_datagram, establishes, is_established, is_gone, is_number, last_request, lives, named, received_count, receives, session_in}
+use Rattle.wt_promise.specs.Waits.{datagram_waits, nothing_left, on_named, stream_waits}
+use Rattle.wt_proto.specs.declared.verdict.Verdict.TheVariants as verdicts
+use Rattle.wt_turn.specs.declared.action.Action.TheVariants as actions
+use Rattle.wt_turn.specs.declared.call.Call.TheVariants as calls
+use Rattle.wt_turn.specs.declared.reply.Reply.TheVariants as replies
+use Rattle.wt_turn.specs.declared.turn.Turn.TheVariants as turns
+use Rattle.wt_wire.specs.declared.side.StreamEnd.TheVariants as ends
+
+-- ---- lists of turns
+
+-- each turn of the list is lawful after those before it
+abbrev pub AllLawful : Side → History → List Turn → Type 0
+AllLawful side h [] = Unit {0}
+AllLawful side h (turn ∷ later) = (is_lawful side h turn ≡ true) × AllLawful side (history_after side h turn) later
+
+-- each turn of the history was lawful after those before it, and was answered by `next`; bytes came one by one
+abbrev pub IsHistory : Side → History → Type 0
+IsHistory side [] = Unit {0}
+IsHistory side (p ∷ h) = (is_lawful side h p.turn ≡ true) × (p.answer ≡ next side h p.turn) × IsHistory side h
+
+-- ---- a session is established only after the peer's SETTINGS and a CONNECT or a 2xx
+
+-- the request's frame
+abbrev pub frame_of : Result Target ConnectingError → List ℕ
+frame_of (Err e) = []
+frame_of (Ok t) = t.frame
+
+-- the frame that the connect or response writes
+abbrev pub head_of : Option Call → List ℕ
+head_of (Some (calls.Connect options lookup outcome)) = frame_of (target_of (parse_url None options.0) options.1 lookup outcome)
+head_of (Some (calls.Accept headers)) = acceptance_frame headers
+head_of (Some calls.Forbidden) = response_bytes (codes "403")
+head_of (Some calls.NotFound) = response_bytes (codes "404")
+head_of (Some calls.TooManyRequests) = response_bytes (codes "429")
+head_of _ = []
+
+-- a server's session is that of the request that was given last; a client's is on the stream that its connect opened, and a 2xx came
+abbrev pub is_asked_for : Side → History → ℕ → Bool
+is_asked_for Server h s = is_number s (last_request h)
+is_asked_for Client h s = s == 0 && is_opened h && is_success (response_walk_of (contents h 0) (end_of (events h) 0))
+
+-- what a session rests on: SETTINGS came, it was asked for, the whole frame went out, the connection is open, and it is new
+pub record EstablishedFor (side : Side) (h later : History) (s : ℕ) : Type 0 where
+  pub settings : settings_came (findings side h) ≡ true
+  pub asked : is_asked_for side later s ≡ true
+  pub frame : out later s ≡ head_of (last_begun later)
+  pub open_before : is_open h ≡ true
+  pub new : is_established h s ≡ false
+
+-- so does each session that a reply gives
+abbrev pub EstablishedRightly : Side → History → Turn → Answer → Type 0
+EstablishedRightly side h turn a = (s : ℕ) → session_in a.reply ≡ Some s → EstablishedFor side h (with_pair h turn a) s
+
+-- at most 4 sessions live
+abbrev pub FewLive : Side → History → Type 0
+FewLive side h = length (filter (lives h (findings side h)) (filter_map establishes h)) ≤ 4
+
+-- ---- accepted streams
+
+-- the stream is the peer's, is given once, was admitted with that session's header at its front, and is the first that waits for it
+pub record AcceptedFor (side : Side) (h : History) (id kind s : ℕ) : Type 0 where
+  pub peers : (id % 4 == kind) ≡ true
+  pub once : is_handed_out h id ≡ false
+  pub header : list_any (admits s id) (findings side h) ≡ true
+  pub first : first_waiting side h kind s ≡ Some id
+
+-- a unidirectional stream that an accept gives is one of the session that the call names
+abbrev pub UniAccepted : Side → History → Option ℕ → ℕ → Type 0
+UniAccepted side h name id = (s : ℕ) × (named h name ≡ Some s) × AcceptedFor side h id (peer_uni side) s
+
+-- so is a bidirectional one
+abbrev pub BiAccepted : Side → History → Option ℕ → ℕ → Type 0
+BiAccepted side h name id = (s : ℕ) × (named h name ≡ Some s) × AcceptedFor side h id (peer_bi side) s
+
+-- ---- reads
+
+-- what was read of a stream is a prefix of what follows its header
+abbrev pub ReadsInOrder : Side → History → Type 0
+ReadsInOrder side h = (k : ℕ) → take (length (was_read h k)) (drop (body_start (verdict_of (findings side h) k)) (contents h k)) ≡ was_read h k
+
+-- a read says that the stream has ended only once its clean end came and all of it was read
+abbrev pub EndsRightly : Side → History → ℕ → ℕ → Type 0
+EndsRightly side h id size = (next side h (turns.Call (calls.Read id size))).reply ≡ replies.Read None → (end_of (events h) id ≡ ends.Fin) × (unread side h id ≡ [])
+
+-- ---- datagrams
+
+-- the payload that the reply gives
+abbrev pub payload_in : Reply → List (List ℕ)
+payload_in (replies.Datagram payload) = payload ∷ []
+payload_in _ = []
+
+-- the payloads that the session received, in order
+abbrev pub payloads : History → ℕ → List (List ℕ)
+payloads [] s = []
+payloads (p ∷ h) s = payloads h s ++ (if receives h s p.turn p.answer.reply then payload_in p.answer.reply else [])
+
+-- the payload that a receive gives is that of the first datagram that waits for the session that the call names
+abbrev pub DatagramReceived : Side → History → Option ℕ → List ℕ → Type 0
+DatagramReceived side h name payload = (s : ℕ) × (named h name ≡ Some s) × (first_datagram side h s ≡ Some payload)
+
+-- they are the first of those that were admitted for it
+abbrev pub DatagramsInOrder : Side → History → Type 0
+DatagramsInOrder side h =
+    (s : ℕ) → payloads h s
+    ≡ take (received_count h s) (map (λ (d : ℕ × List ℕ). d.1) (filter (λ (d : ℕ × List ℕ). d.0 == s) (filter_map admitted_datagram (findings side h))))
+
+-- ---- Pending, and what waits
+
+-- a call is answered Pending exactly where the connection is open and nothing is left that the call could give
+abbrev pub PendingExactly : Side → History → Call → Type 0
+PendingExactly side h call = is_pending (next side h (turns.Call call)).reply ≡ (is_open h && nothing_left side h call)
+
+-- the reply gives a stream or a datagram
+abbrev pub gives : Reply → Bool
+gives (replies.Uni id) = true
+gives (replies.Bi id) = true
+gives (replies.Datagram payload) = true
+gives _ = false
+
+-- something waits for the session that the call names
+abbrev pub something_waits : Side → History → Turn → Bool
+something_waits side h (turns.Call (calls.AcceptUni name)) = on_named (named h name) (stream_waits side h (peer_uni side))
+something_waits side h (turns.Call (calls.AcceptBi name)) = on_named (named h name) (stream_waits side h (peer_bi side))
+something_waits side h (turns.Call (calls.ReceiveDatagram name)) = on_named (named h name) (datagram_waits side h)
+something_waits side h _ = false
+
+-- what waits is given, also after the end, and nothing else is
+abbrev pub GivesWhatWaits : Side → History → Turn → Answer → Type 0
+GivesWhatWaits side h turn a = gives a.reply ≡ something_waits side h turn
+
+-- ---- the end of the connection
+
+-- the connection stays open exactly where no loss came, no own action of the call closes it, and there is no fault
+abbrev pub OpenExactly : Side → History → Turn → Answer → Type 0
+OpenExactly side h turn a =
+    is_open (with_pair h turn a)
+    ≡ (is_open h && not (loses turn) && not (list_any closes (own_answer side h turn).actions) && is_none (fault_of (findings side (with_pair h turn a))))
+
+-- nothing goes out once the connection has ended
+abbrev pub NothingAfterEnd : History → Answer → Type 0
+NothingAfterEnd h a = is_open h ≡ false → a.actions ≡ []
+
+-- how a session ended stays so, from its own end or the connection's on
+abbrev pub ResultStays : Side → History → Turn → Answer → Type 0
+ResultStays side h turn a =
+    (s : ℕ) → is_established h s ≡ true → (is_open h && is_living side h s) ≡ false
+    → session_error side (with_pair h turn a) s ≡ session_error side h s
+
+-- ---- what is owed
+
+-- the action stops the stream with this code
+abbrev pub stops_with : ℕ → ℕ → Action → Bool
+stops_with k code (actions.StopOut id c) = id == k && c == code
+stops_with k code _ = false
+
+-- the action resets the stream with this code
+abbrev pub resets_with : ℕ → ℕ → Action → Bool
+resets_with k code (actions.ResetOut id c) = id == k && c == code
+resets_with k code _ = false
+
+-- both halves of a stream that still run are told that the session is gone
+pub record StreamTold (side : Side) (h : History) (a : Answer) (k : ℕ) : Type 0 where
+  pub receiving : (can_receive side h k && is_running (end_of (events h) k) && not (is_given_up h k)) ≡ true → list_any (stops_with k 0x170d7b68) a.actions ≡ true
+  pub sending : (can_send side h k && not (was_finished h k) && not (is_reset h k)) ≡ true → list_any (resets_with k 0x170d7b68) a.actions ≡ true
+
+-- where a session becomes gone on an open connection, each of its streams is told in the same answer
+abbrev pub GoneIsTold : Side → History → Turn → Answer → Type 0
+GoneIsTold side h turn a =
+    (s k : ℕ) → is_open h ≡ true → is_gone h (findings side h) s ≡ false → is_gone (with_pair h turn a) (findings side (with_pair h turn a)) s ≡ true
+    → is_of_session h (findings side h) s k ≡ true → StreamTold side h a k
+
+-- the finding classifies the stream as one that no window takes
+abbrev pub is_left_out : ℕ → Finding → Bool
+is_left_out k (Classified id (verdicts.WebTransport session offset) false) = id == k
+is_left_out k _ = false
+
+-- a stream that no window takes is stopped in the answer in which it is classified
+abbrev pub LeftOutIsStopped : Side → History → Turn → Answer → Type 0
+LeftOutIsStopped side h turn a =
+    (k : ℕ) → list_any (is_left_out k) (findings side h) ≡ false → list_any (is_left_out k) (findings side (with_pair h turn a)) ≡ true
+    → (list_any (stops_with k 0x3994bd84) a.actions || list_any (stops_with k 0x170d7b68) a.actions) ≡ true
+
+-- ---- what this end sends
+
+-- this end's control stream is open, and has as much of its 25 bytes as credit allows
+pub record SettingsOut (side : Side) (h : History) : Type 0 where
+  pub stream : (local_count (actions_out h) (local_uni side) == 0) ≡ false
+  pub sent : out h (local_uni side) ≡ take (credit (events h) (local_uni side)) local_control_bytes
+
+-- while the connection is open and the peer allows a unidirectional stream
+abbrev pub SettingsGoOut : Side → History → Type 0
+SettingsGoOut side h = is_open h ≡ true → nat_le 1 (unis_allowed (events h)) ≡ true → SettingsOut side h
+
+-- the bytes that a reply to a write of the stream accepts
+abbrev pub accepted_by : ℕ → Turn → Reply → List ℕ
+accepted_by k (turns.Call (calls.Write id bytes)) (replies.Written n) = if id == k then take n bytes else []
+accepted_by k (turns.Call (calls.WriteAll id bytes)) (replies.Count n) = if id == k then take n bytes else []
+accepted_by k (turns.Call (calls.WriteAll id bytes)) replies.AllWritten = if id == k then bytes else []
+accepted_by k _ _ = []
+
+-- all that writes of the stream accepted, joined
+abbrev pub accepted : History → ℕ → List ℕ
+accepted [] k = []
+accepted (p ∷ h) k = accepted h k ++ accepted_by k p.turn p.answer.reply
+
+-- what went out on a stream is a prefix of its head and what was accepted, and all of it once the head is out
+pub record SendsInOrder (h : History) (k : ℕ) (head : List ℕ) : Type 0 where
+  pub front : take (length (out h k)) (head ++ accepted h k) ≡ out h k
+  pub all : length head ≤ length (out h k) → out h k ≡ head ++ accepted h k
+
+-- the action sends on the stream, or finishes it
+abbrev pub sends_on : ℕ → Action → Bool
+sends_on k (actions.Send id piece) = id == k
+sends_on k (actions.Finish id) = id == k
+sends_on k _ = false
+
+-- nothing goes out on a stream after its reset
+abbrev pub SilentAfterReset : History → Answer → Type 0
+SilentAfterReset h a = (k : ℕ) → list_any (is_reset_of k) (actions_out h) ≡ true → list_any (sends_on k) a.actions ≡ false
+
+-- ---- cutting
+
+-- a piece that is cut in two leads to the same history, and both answers together have the actions of the one
+pub record CutsFreely (side : Side) (h : History) (k : ℕ) (first second : List ℕ) : Type 0 where
+  pub history : history_after side h (turns.Bytes k (first ++ second)) ≡ history_after side (history_after side h (turns.Bytes k first)) (turns.Bytes k second)
+  pub actions : (answer_to side h (turns.Bytes k (first ++ second))).actions
+      ≡ join_all (answer_to side h (turns.Bytes k first)).actions (answer_to side (history_after side h (turns.Bytes k first)) (turns.Bytes k second)).actions
