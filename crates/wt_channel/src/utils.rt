@@ -1,4 +1,5 @@
-//! What makes shared results and channels.
+//! What makes shared results and channels, and the conversions between QUIC's numbers and the protocol's, which are one type
+//! here (RFC 9000, sections 2.1 and 16).
 ghost use Rattle.std.specs.Prelude.{◌≡◌, ◌≤◌, IfOk, None};
 ghost use Rattle.wt_channel.specs.BiChannel.{empty_channel};
 
@@ -6,6 +7,8 @@ use crate::bichannel::BiChannel;
 use crate::shared_result::SharedResult;
 use std::alloc::Global;
 use wt_wire::error::OutOfMemory;
+use wt_wire::ids::StreamId;
+use wt_wire::varint::VarInt;
 
 /// A result with one setter and one getter, which isn't set.
 pub fn shared_result<T: Drop>() -> SharedResult<T>
@@ -29,4 +32,25 @@ pub fn bichannel<T: Drop>(alloc: Global, capacity: usize) -> Result<BiChannel<T>
     ensures { IfOk result (λ channel. channel ≡ empty_channel capacity) }
 {
     BiChannel::new(alloc, capacity)
+}
+
+/// QUIC's integer as the protocol's: the same.
+pub fn varint_q2w(varint: VarInt) -> VarInt
+    ensures { result ≡ varint }
+{
+    varint
+}
+
+/// The protocol's integer as QUIC's: the same.
+pub fn varint_w2q(varint: VarInt) -> VarInt
+    ensures { result ≡ varint }
+{
+    varint
+}
+
+/// QUIC's stream id as the protocol's: the same.
+pub fn streamid_q2w(stream_id: StreamId) -> StreamId
+    ensures { result ≡ stream_id }
+{
+    stream_id
 }

@@ -10,6 +10,7 @@ ghost use Rattle.wt_driver_state.specs.Tie.{Follows};
 ghost use Rattle.wt_turn.specs.Log.{Log, actions_of, all_events_of, is_open};
 
 use std::alloc::Global;
+use std::fmt;
 use std::marker::Model;
 use wt_call_answers::session::Session;
 use wt_driver::driver::Driver;
@@ -27,7 +28,14 @@ pub struct Core {
     session: Session,
 }
 
-/// Written out, so that a crate that lets one go need not prove the drop of each of its parts.
+/// The name alone: what it keeps is large, and no text of it is promised.
+impl fmt::Debug for Core {
+    fn fmt<W: fmt::Write>(&self, f: &mut fmt::Formatter<W>) -> fmt::Result {
+        write!(f, "Core {{ .. }}")
+    }
+}
+
+/// Written out, so that a crate that drops one need not prove the drop of each of its parts.
 impl Drop for Core {
     fn drop(self) {
         let Core {

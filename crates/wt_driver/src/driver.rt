@@ -13,6 +13,7 @@ mod sessions;
 
 use std::alloc::Global;
 use std::collections::VecDeque;
+use std::fmt;
 use std::marker::Model;
 use wt_dispatch::dispatched::DispatchedStreams;
 use wt_dispatch::progress::ConnectionProgress;
@@ -46,7 +47,14 @@ pub struct Driver {
     has_given_settings: bool,
 }
 
-/// Written out, so that a crate that lets one go need not prove the drop of each of its parts.
+/// The name alone: what it keeps is large, and no text of it is promised.
+impl fmt::Debug for Driver {
+    fn fmt<W: fmt::Write>(&self, f: &mut fmt::Formatter<W>) -> fmt::Result {
+        write!(f, "Driver {{ .. }}")
+    }
+}
+
+/// Written out, so that a crate that drops one need not prove the drop of each of its parts.
 impl Drop for Driver {
     fn drop(self) {
         let Driver {

@@ -14,7 +14,7 @@ use Rattle.wt_plan.specs.FactsNow.{DriverAnswers, facts_now}
 use Rattle.wt_plan.specs.Planned.{defined_plan}
 use Rattle.wt_plan.specs.declared.plan.Plan as planning
 use Rattle.wt_seam.specs.State.{TransportState}
-use Rattle.wt_halves.specs.Replies.{exact_reply, exactly_read, records_exact}
+use Rattle.wt_halves.specs.Replies.{exact_reply, exactly_read, read_into, records_exact}
 use Rattle.wt_seam.specs.Rules.{receiving_half_now}
 use Rattle.wt_seam.specs.Step.{end_now, unread_now}
 use Rattle.wt_session_spec.proofs.Uses.{same-receiving}
@@ -81,6 +81,21 @@ exact-step k size us (Ready (Ok u)) = refl
 exact-step k size us (Ready (Err (exacts.FinishedEarly count))) = refl
 exact-step k size us (Ready (Err (exacts.Read e))) = refl
 exact-step k size us Pending = refl
+
+none-within : (open_ : Bool) (e : StreamEnd) (size : ℕ) → read_into (nothing_unread open_ e) ≤ size
+none-within open_ ends.Fin size = omega arith
+none-within open_ (ends.Reset code) size = omega arith
+none-within true ends.Running size = omega arith
+none-within false ends.Running size = omega arith
+
+-- no more is read than there is room for
+pub read_within : (open_ : Bool) (half : ReceivingHalf) (size : ℕ) → read_into (read_answer open_ half size) ≤ size
+read_within open_ half size = by (size == 0) (half.unread == 0)
+  where
+    by : (none nothing : Bool) → read_into (if none then Ready (Ok (Some 0)) else (if nothing then nothing_unread open_ half.end else Ready (Ok (Some (read_count half size))))) ≤ size
+    by true nothing = omega arith
+    by false true = none-within open_ half.end size
+    by false false = omega arith
 
 few-within : (open_ : Bool) (e : StreamEnd) (size n : ℕ) → n ≤ size → exactly_read size (too_few open_ e n) ≤ size
 few-within open_ ends.Fin size n h = h

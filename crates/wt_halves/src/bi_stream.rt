@@ -25,10 +25,11 @@ impl Model for BiStream {
 
 impl BiStream {
     /// Both halves as one.
-    pub fn join(send: SendStream, recv: RecvStream) -> BiStream
-        ensures send { result.send ≡ send }
-        ensures recv { result.recv ≡ recv }
+    pub fn join(halves: (SendStream, RecvStream)) -> BiStream
+        ensures send { result.send ≡ halves.0 }
+        ensures recv { result.recv ≡ halves.1 }
     {
+        let (send, recv) = halves;
         BiStream { send, recv }
     }
 
@@ -79,7 +80,7 @@ impl From<(SendStream, RecvStream)> for BiStream {
     ghost from_gives = { λ halves both. both ≡ record { send = halves.0; recv = halves.1 } };
 
     fn from(halves: (SendStream, RecvStream)) -> BiStream {
-        BiStream::join(halves.0, halves.1)
+        BiStream::join(halves)
     }
 }
 

@@ -1,5 +1,5 @@
 //! The receiving half of a stream (RFC 9000, sections 2.4 and 3.2).
-ghost use Rattle.std.specs.Prelude.{◌≡◌, IfOk, Ok, OnOk, Some, drop, length, true, ℕ};
+ghost use Rattle.std.specs.Prelude.{◌≡◌, ◌≤◌, IfOk, Ok, OnOk, Some, drop, length, true, ℕ};
 ghost use Rattle.wt_driver_state.specs.Calling.{leaves_at_rest};
 ghost use Rattle.wt_halves.specs.Answering.{HasReceiving, LeadsOn, RepliesTo};
 ghost use Rattle.wt_halves.specs.Replies.{done_reply, exact_reply, exactly_read, read_into, records_exact};
@@ -107,6 +107,7 @@ impl RecvStream {
         ensures reply { RepliesTo d.old (HasReceiving self.old) (calls.Read self.old (length buf.old)) (reply_of_read buf.new) result }
         ensures log { LeadsOn d.old (HasReceiving self.old) (calls.Read self.old (length buf.old)) d.new }
         ensures rest { drop (read_into result) buf.new ≡ drop (read_into result) buf.old }
+        ensures within { read_into result ≤ length buf.old }
         ensures empty { length buf.old ≡ 0 → result ≡ Ready (Ok (Some 0)) }
         ensures same { self.new ≡ self.old }
     {
@@ -134,6 +135,7 @@ impl RecvStream {
     ) -> Poll<Result<(), StreamReadExactError>>
         ensures reply { RepliesTo d.old (HasReceiving self.old) (calls.ReadExact self.old (length buf.old)) (exact_reply buf.new) result }
         ensures log { LeadsOn d.old (HasReceiving self.old) (calls.ReadExact self.old (length buf.old)) d.new }
+        ensures within { exactly_read (length buf.old) result ≤ length buf.old }
         ensures rest { drop (exactly_read (length buf.old) result) buf.new ≡ drop (exactly_read (length buf.old) result) buf.old }
         ensures same { self.new ≡ self.old }
     {

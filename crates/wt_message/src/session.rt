@@ -193,6 +193,19 @@ impl SessionRequest {
         self.headers.get("user-agent")
     }
 
+    /// A request with the same fields.
+    ///
+    /// # Errors
+    ///
+    /// `OutOfMemory` where they found no memory.
+    pub fn copy(&self) -> Result<SessionRequest, OutOfMemory>
+        ensures { IfOk result (λ r. r ≡ self.now) }
+    {
+        Ok(SessionRequest {
+            headers: self.headers.copy()?,
+        })
+    }
+
     /// The fields in their order.
     pub fn headers(&self) -> &HeaderList
         ensures fields { result.now ≡ self.now }
@@ -313,6 +326,19 @@ impl SessionResponse {
         ensures { status_of self.now ≡ Some result }
     {
         status_in(&self.headers).unwrap()
+    }
+
+    /// A response with the same fields.
+    ///
+    /// # Errors
+    ///
+    /// `OutOfMemory` where they found no memory.
+    pub fn copy(&self) -> Result<SessionResponse, OutOfMemory>
+        ensures { IfOk result (λ r. r ≡ self.now) }
+    {
+        Ok(SessionResponse {
+            headers: self.headers.copy()?,
+        })
     }
 
     /// The fields in their order.

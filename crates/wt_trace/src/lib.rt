@@ -17,5 +17,15 @@ pub mod outside;
 pub mod program;
 pub mod summary;
 
+pub use outside::mem::{MemSink, MemSource};
+pub use outside::standard::{StdSink, StdSource};
+pub use outside::sure::{SureSink, SureSource};
+pub use outside::{Failed, Sink, Source};
 pub use program::run_program;
+pub use summary::Summary;
+pub use wt_core::Core;
 pub use wt_run::{TraceError, run_trace, trace};
+pub use wt_script::print::print_answer;
+pub use wt_script::script::lines::read_turn;
+pub use wt_script::script::{Script, ScriptRefused, read_script};
+pub use wt_turn::{Answer, Answers, Reply, Turn, Turns};

@@ -126,6 +126,21 @@ impl Frame {
         Ok(Frame::with_payload(FrameKind::Exercise(number), payload.to_vec(alloc)?))
     }
 
+    /// A frame with the same kind, payload and session.
+    ///
+    /// # Errors
+    ///
+    /// `OutOfMemory` where its payload found no memory.
+    pub fn copy(&self) -> Result<Frame, OutOfMemory>
+        ensures { IfOk result (λ f. f ≡ self.now) }
+    {
+        Ok(Frame {
+            kind: self.kind,
+            payload: self.payload.to_vec(*self.payload.allocator())?,
+            session: self.session,
+        })
+    }
+
     /// A HEADERS frame of this payload, with no memory taken.
     pub(crate) fn of_headers(payload: Vec<u8>) -> Frame
         ensures { result ≡ record { kind = kinds.Headers; payload = payload.items; session = None } }

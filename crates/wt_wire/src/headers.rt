@@ -37,6 +37,19 @@ impl Headers {
         }
     }
 
+    /// Headers with the same fields.
+    ///
+    /// # Errors
+    ///
+    /// `OutOfMemory` where they found no memory.
+    pub fn copy(&self) -> Result<Headers, OutOfMemory>
+        ensures { IfOk result (λ h. h ≡ self.now) }
+    {
+        Ok(Headers {
+            list: self.list.copy()?,
+        })
+    }
+
     /// Reads the frame's payload as a field section. The error is `Decompression`, where it isn't
     /// one of literal field lines with literal names (RFC 9204, section 4.5).
     pub fn with_frame(

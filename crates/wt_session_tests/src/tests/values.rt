@@ -20,7 +20,7 @@ fn are(rt: &impl Abort, send: &SendStream, recv: &RecvStream) {
 
 #[test]
 fn halves_are_joined_and_split(rt: HostRuntime) {
-    let mut both = BiStream::join(SendStream::new(stream(4)), RecvStream::new(stream(8)));
+    let mut both = BiStream::join((SendStream::new(stream(4)), RecvStream::new(stream(8))));
     *both.send_mut() = SendStream::new(stream(12));
     *both.recv_mut() = RecvStream::new(stream(16));
     are(&rt, both.send(), both.recv());

@@ -1,6 +1,7 @@
-use Rattle.std.proofs.Common.{◌∙◌, ◌≡◌, ◌≤◌, ap, arith, drop, length, min, take, ℕ}
+use Rattle.std.proofs.Common.{◌∙◌, ◌≡◌, ◌≤◌, ap, arith, drop, length, min, subst, sym, take, ℕ}
 use Rattle.std.proofs.lemmas.List.{length-take-le}
-use Rattle.wt_halves.proofs.Receiving.{may_use, read_planned, read_reported}
+use Rattle.wt_halves.proofs.Receiving.{may_use, read_planned, read_reported, read_within}
+use Rattle.wt_halves.specs.Replies.{read_into}
 use Rattle.wt_seam.specs.Rules.{receiving_half_now}
 use Rattle.wt_seam.specs.Step.{unread_now}
 use Rattle.wt_streams.specs.HalfRules.{read_answer}
@@ -30,3 +31,8 @@ pub returns-clause-empty : goal.returns-clause-empty
 returns-clause-empty c = λ z.
     c.read_answer-answer.ensures
     ∙ ap (λ (size : ℕ). read_answer c.transport-t.result.now.is_open (receiving_half_now c.transport-t.result.now c.self.inside.id) size) z
+
+pub returns-clause-within : goal.returns-clause-within
+returns-clause-within c =
+    let size = length c.args.buf.now in
+    subst (λ a. read_into a ≤ size) (sym c.read_answer-answer.ensures) (read_within c.transport-t.result.now.is_open (receiving_half_now c.transport-t.result.now c.self.inside.id) size)

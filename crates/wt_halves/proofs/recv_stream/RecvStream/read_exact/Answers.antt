@@ -25,3 +25,9 @@ returns-clause-log c = rw (← c.self.view_is) (λ side log collected f r h.
     let size = length c.args.buf.now in
     c.record.ensures.log side log collected (calls.ReadExact c.self.inside.id size) _ f r (may_use side log c.self.inside.id h)
     (exact_planned side c.args.d.now log collected f r c.self.inside.id h size c.transport-t.result.now c.transport-t.ensures c.read_exact_answer-answer.result c.read_exact_answer-answer.ensures (record_of c.exact_record-made.result) c.exact_record-made.ensures.now))
+
+pub returns-clause-within : goal.returns-clause-within
+returns-clause-within c =
+    let size = length c.args.buf.now in
+    let t = c.transport-t.result.now in
+    subst (λ a. exactly_read size a ≤ size) (sym c.read_exact_answer-answer.ensures) (exact_within t.is_open (receiving_half_now t c.self.inside.id) size)
