@@ -18,9 +18,9 @@ use Rattle.wt_plan.specs.PlansAgree.{AnswersLog, KeepsRequestEnd, TellsFacts, dr
 use Rattle.wt_proto.specs.declared.response_walk.ResponseWalk.{ResponseWalk}
 use Rattle.wt_proto.specs.declared.verdict.Verdict.{Verdict}
 use Rattle.wt_proto.specs.declared.verdict.Verdict.TheVariants as verdicts
-use Rattle.wt_seam.proofs.Refining.{refined_unread}
-use Rattle.wt_seam.specs.State.{TransportState}
-use Rattle.wt_seam.specs.Step.{unread_now}
+use Rattle.wt_transport.proofs.Refining.{refined_unread}
+use Rattle.wt_transport.specs.State.{TransportState}
+use Rattle.wt_transport.specs.Step.{unread_now}
 use Rattle.wt_seam_spec.specs.Streams.{contents}
 use Rattle.wt_seam_spec.specs.Unread.{ReadPosition, from_position}
 use Rattle.wt_seam_spec.specs.Unread as positions

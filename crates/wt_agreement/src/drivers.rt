@@ -12,7 +12,7 @@ ghost use Rattle.wt_laws.specs.Reachable.{IsReachable};
 ghost use Rattle.wt_plan.specs.DriverAnswers.{answers_now, error_now};
 ghost use Rattle.wt_plan.specs.PlansAgree.{KeepsRequestEnd, TellsFacts, driver_facts};
 ghost use Rattle.wt_proto.specs.declared.response_walk.ResponseWalk.{ResponseWalk};
-ghost use Rattle.wt_seam.specs.Step.{unread_now};
+ghost use Rattle.wt_transport.specs.Step.{unread_now};
 ghost use Rattle.wt_session_spec.specs.CallFacts.{facts_of};
 ghost use Rattle.wt_session_spec.specs.Plan.{Step};
 ghost use Rattle.wt_session_spec.specs.Plans.{plan_of};

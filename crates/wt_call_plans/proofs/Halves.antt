@@ -5,7 +5,7 @@ use Rattle.wt_plan.specs.Planned.{defined_plan}
 use Rattle.wt_plan.specs.Table.{TableValue}
 use Rattle.wt_plan.specs.PlansAgree.{session_of_table}
 use Rattle.wt_plan.specs.declared.plan.Plan as code
-use Rattle.wt_seam.specs.State.{TransportState}
+use Rattle.wt_transport.specs.State.{TransportState}
 use Rattle.wt_session_spec.specs.Plan.{Plan}
 use Rattle.wt_session_spec.specs.Plans.{with_receiving, with_sending}
 use Rattle.wt_session_spec.specs.SessionState.{has_receiving_now, has_sending_now}

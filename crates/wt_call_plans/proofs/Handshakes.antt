@@ -5,7 +5,7 @@ use Rattle.wt_dispatch.specs.Requests.{first_request, request_in}
 use Rattle.wt_plan.specs.FactsNow.{DriverAnswers, facts_now}
 use Rattle.wt_plan.specs.Planned.{defined_plan}
 use Rattle.wt_plan.specs.declared.plan.Plan as code
-use Rattle.wt_seam.specs.State.{TransportState}
+use Rattle.wt_transport.specs.State.{TransportState}
 use Rattle.wt_call_plans.specs.MayPlan.{FirstIsRequest}
 use Rattle.wt_session_spec.specs.CallFacts.{CallFacts}
 use Rattle.wt_session_spec.specs.HandshakePlans.{wait_plan, continued_by, continued_connect, delivery, request_unless, response_plan, start_plan}

@@ -3,7 +3,7 @@ use Rattle.std.proofs.Common.{◌≡◌, IfOk, Option, Result, Some, subst, true
 use Rattle.wt_plan.specs.FactsNow.{DriverAnswers, facts_now}
 use Rattle.wt_plan.specs.Planned.{defined_plan}
 use Rattle.wt_plan.specs.declared.plan.Plan as code
-use Rattle.wt_seam.specs.State.{TransportState}
+use Rattle.wt_transport.specs.State.{TransportState}
 use Rattle.wt_session_spec.specs.CallFacts.{CallFacts}
 use Rattle.wt_session_spec.specs.ConnectionPlans.{header_left, poll_plan}
 use Rattle.wt_session_spec.specs.HandshakePlans.{left_of}

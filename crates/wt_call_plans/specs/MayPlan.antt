@@ -3,7 +3,7 @@ use Rattle.std.specs.Prelude.{[], ◌∷◌, ◌≡◌, List, true, ℕ}
 use Rattle.wt_driver_spec.specs.DriverState.{DriverState, requests_now}
 use Rattle.wt_plan.specs.Table.{TableValue}
 use Rattle.wt_proto.specs.declared.verdict.Verdict.TheVariants as verdicts
-use Rattle.wt_seam.specs.State.{TransportState}
+use Rattle.wt_transport.specs.State.{TransportState}
 use Rattle.wt_call_plans.specs.StreamsThere.{IsSessionStream, OnSessionStream, SendingThere}
 use Rattle.wt_session_spec.specs.SessionState.{is_answering}
 use Rattle.wt_spec.specs.Handshake.{Connecting, HandshakeState, awaits_answer}

@@ -2,8 +2,8 @@
 use Rattle.std.specs.Prelude.{◌%◌, ◌≡◌, None, Option, Some, true, ℕ}
 use Rattle.wt_plan.specs.Table.{TableValue}
 use Rattle.wt_plan.specs.PlansAgree.{session_of_table}
-use Rattle.wt_seam.specs.State.{TransportState}
-use Rattle.wt_seam.specs.Step.{can_send_now}
+use Rattle.wt_transport.specs.State.{TransportState}
+use Rattle.wt_transport.specs.Step.{can_send_now}
 use Rattle.wt_session_spec.specs.SessionState.{has_sending_now}
 
 -- a stream whose sending half the application has is there

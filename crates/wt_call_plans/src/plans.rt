@@ -20,7 +20,7 @@ use wt_plan::plan::Plan;
 use wt_plan::session_table::SessionTable;
 use wt_plan::{connect_plan, connection_plans};
 use wt_proto::response_walk::ResponseWalk;
-use wt_seam::Transport;
+use wt_transport::Transport;
 use wt_turn::call::Call;
 use wt_turn::reply::Reply;
 use wt_wire::error::OutOfMemory;

@@ -8,7 +8,7 @@ use Rattle.wt_driver_spec.specs.Asking.{MayBeCalled, SparesControl, SparesContro
 use Rattle.wt_driver_spec.specs.Due.{accept_outcome, receive_outcome, reply_or}
 use Rattle.wt_plan.specs.DriverAnswers.{error_now}
 use Rattle.wt_plan.specs.Table.{KeepsCalls, TableValue}
-use Rattle.wt_seam.specs.State.{TransportState}
+use Rattle.wt_transport.specs.State.{TransportState}
 use Rattle.wt_seam_spec.specs.Acting.{MayAct, MayActAll}
 use Rattle.wt_seam_spec.specs.Reports.{datagrams_of}
 use Rattle.wt_seam_spec.specs.Streams.{peer_count}

@@ -106,7 +106,7 @@ module _ (call : Call) where
   read-left : (f : CallFacts) (id : ℕ) (own : List Action) (w : ResponseWalk) → Left (response_read f id own w)
   read-left f id own (responses.Fault code) = refl
   read-left f id own responses.Ended = refl
-  read-left f id own responses.Incomplete = either f.is_open (send_and_reply own replies.Pending) (failed_connect own (lost_connect f)) refl refl
+  read-left f id own responses.Waiting = either f.is_open (send_and_reply own replies.Pending) (failed_connect own (lost_connect f)) refl refl
   read-left f id own (responses.Response fields by_case) =
       either (not (has_success fields)) (abandon_plan f own connects.SessionRejected) (if f.is_open then Establish own id by_case else failed_connect own (connects.ConnectionError f.driver_error)) refl
       (either f.is_open (Establish own id by_case) (failed_connect own (connects.ConnectionError f.driver_error)) tt refl)

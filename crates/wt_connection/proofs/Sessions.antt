@@ -12,7 +12,7 @@ use Rattle.wt_message.specs.Datagram.{datagram_bytes}
 use Rattle.wt_plan.specs.FactsNow.{DriverAnswers, facts_now}
 use Rattle.wt_plan.specs.Planned.{defined_plan}
 use Rattle.wt_plan.specs.declared.plan.Plan as planning
-use Rattle.wt_seam.specs.State.{TransportState}
+use Rattle.wt_transport.specs.State.{TransportState}
 use Rattle.wt_seam_spec.specs.Streams.{local_bi, local_uni, peer_bi, peer_uni}
 use Rattle.wt_calls.specs.GivingCalls.{poll_reply}
 use Rattle.wt_session_spec.proofs.Uses.{same-opening}

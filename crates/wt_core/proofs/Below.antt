@@ -1,14 +1,14 @@
 -- What the driver and the session keep tells which turn may come.
 use Rattle.std.proofs.Common.{◌≡◌, ℕ}
-use Rattle.wt_seam.proofs.Asking.{refined_connected}
-use Rattle.wt_seam.proofs.Refining.{refined_fits, refined_open}
-use Rattle.wt_seam.specs.Step.{fits_now}
+use Rattle.wt_transport.proofs.Asking.{refined_connected}
+use Rattle.wt_transport.proofs.Refining.{refined_fits, refined_open}
+use Rattle.wt_transport.specs.Step.{fits_now}
 use Rattle.wt_seam_spec.specs.Arrivals.{fits}
 use Rattle.wt_seam_spec.specs.Reports.{is_connected}
 use Rattle.wt_spec.specs.Answers.{may_call}
 use Rattle.wt_driver_state.specs.DriverValue.{DriverValue}
-use Rattle.wt_call_answers.proofs.Admitted.{may_call_kept}
-use Rattle.wt_call_answers.specs.Keeping.{Keeps, SessionValue, may_call_of}
+use Rattle.wt_core.proofs.Admitted.{may_call_kept}
+use Rattle.wt_core.specs.Keeping.{Keeps, SessionValue, may_call_of}
 use Rattle.wt_driver_state.specs.Tie.{Follows, uncollected_since}
 use Rattle.wt_turn.specs.Log.{Log, all_events_of, is_open}
 use Rattle.wt_turn.specs.declared.call.Call.{Call}

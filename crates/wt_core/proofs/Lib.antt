@@ -1,2 +1,9 @@
+pub mod Admitted
+pub mod Answered
+pub mod Planning
 pub mod Below
 pub mod Refining
+pub mod RunLaws
+pub mod PrefixLaws
+pub mod CutLaws
+pub mod LawsHold

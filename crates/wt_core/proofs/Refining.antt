@@ -4,14 +4,14 @@ use Rattle.std.specs.Prelude.{IsTrue}
 use Rattle.wt_core.proofs.Below.{driver_connected, driver_fits, driver_open, session_calls}
 use Rattle.wt_core.specs.CoreState.{CoreState, Refines, connected_now, may_come_next, may_turn, open_now}
 use Rattle.wt_laws.specs.Reachable.{AfterTurn, IsReachable}
-use Rattle.wt_seam.specs.Step.{fits_now}
+use Rattle.wt_transport.specs.Step.{fits_now}
 use Rattle.wt_seam_spec.specs.Arrivals.{fits}
 use Rattle.wt_seam_spec.specs.Reports.{is_connected}
 use Rattle.wt_spec.specs.Answers.{actions_since, answer_to, is_lawful, log_after, turn_effect}
 use Rattle.wt_turn.specs.Turns.{is_call}
 use Rattle.wt_driver_state.specs.DriverValue.{DriverValue}
 use Rattle.wt_driver_state.specs.Tie.{Follows}
-use Rattle.wt_call_answers.specs.Keeping.{Keeps}
+use Rattle.wt_core.specs.Keeping.{Keeps}
 use Rattle.wt_turn.specs.Log.{Log, actions_of, all_events_of, is_open}
 use Rattle.wt_turn.specs.declared.action.Action.{Action}
 use Rattle.wt_turn.specs.declared.call.Call.{Call}

@@ -1,9 +1,9 @@
 -- What a core keeps of a log, as data: what the driver and the session keep of it.
 use Rattle.std.specs.Prelude.{◌||◌, ◌≡◌, Bool, false, length}
 use Rattle.wt_laws.specs.Reachable.{IsReachable}
-use Rattle.wt_seam.specs.Step.{fits_now}
+use Rattle.wt_transport.specs.Step.{fits_now}
 use Rattle.wt_driver_state.specs.DriverValue.{DriverValue}
-use Rattle.wt_call_answers.specs.Keeping.{Keeps, SessionValue, may_call_of}
+use Rattle.wt_core.specs.Keeping.{Keeps, SessionValue, may_call_of}
 use Rattle.wt_driver_state.specs.Tie.{Follows}
 use Rattle.wt_turn.specs.Log.{Log, actions_of}
 use Rattle.wt_turn.specs.declared.turn.Turn.{Turn}

@@ -1,18 +1,18 @@
 //! One connection, driven turn by turn.
 ghost use Rattle.std.specs.Prelude.{◌≡◌, [], IfOk, OnOk, OnErr, IsErr, IsTrue, length, true};
 ghost use Rattle.wt_core.specs.CoreState.{Refines, connected_now, may_come_next, may_turn, open_now};
-ghost use Rattle.wt_seam.specs.Step.{fits_now};
+ghost use Rattle.wt_transport.specs.Step.{fits_now};
 ghost use Rattle.wt_seam_spec.specs.Arrivals.{fits};
 ghost use Rattle.wt_seam_spec.specs.Reports.{is_connected};
 ghost use Rattle.wt_spec.specs.Answers.{answer_to, call_effect, is_lawful, log_after, may_call, turn_effect};
-ghost use Rattle.wt_call_answers.specs.Keeping.{Keeps};
+ghost use Rattle.wt_core.specs.Keeping.{Keeps};
 ghost use Rattle.wt_driver_state.specs.Tie.{Follows};
 ghost use Rattle.wt_turn.specs.Log.{Log, actions_of, all_events_of, is_open};
 
+use crate::session::Session;
 use std::alloc::Global;
 use std::fmt;
 use std::marker::Model;
-use wt_call_answers::session::Session;
 use wt_driver::driver::Driver;
 use wt_turn::{Answer, Call, Reply, Turn};
 use wt_wire::error::OutOfMemory;

@@ -7,8 +7,8 @@ use Rattle.wt_wire.specs.declared.side.Side.TheVariants.{Client, Server}
 use Rattle.wt_seam_spec.specs.Streams.{local_uni}
 use Rattle.wt_streams.specs.StreamState.{has_stream, consume}
 use Rattle.wt_streams.proofs.PieceLaws.{drop_none}
-use Rattle.wt_seam.specs.State.{TransportState}
-use Rattle.wt_seam.specs.Step.{can_receive_now, after_consume, unread_now, with_change}
+use Rattle.wt_transport.specs.State.{TransportState}
+use Rattle.wt_transport.specs.Step.{can_receive_now, after_consume, unread_now, with_change}
 use Rattle.wt_typed.proofs.Consuming.{consumed-again, consumed-unread, still-there}
 
 -- a side that doesn't send alone on such a stream

@@ -14,8 +14,8 @@ use Rattle.wt_proto.proofs.ProgressLaws.{fed-append, fed-fed, walk-progress}
 use Rattle.wt_proto.proofs.ReadingLaws.{stays}
 use Rattle.wt_streams.specs.Pieces.{first_piece}
 use Rattle.wt_streams.proofs.PieceLaws.{first_within, take_first}
-use Rattle.wt_seam.specs.State.{TransportState}
-use Rattle.wt_seam.specs.Step.{after_consume, pieces_now, unread_now}
+use Rattle.wt_transport.specs.State.{TransportState}
+use Rattle.wt_transport.specs.Step.{after_consume, pieces_now, unread_now}
 use Rattle.wt_critical.specs.Reading.{ReadsSome, WasRead, after_reading_all}
 use Rattle.wt_critical.proofs.Consuming.{consume-again, consume-unread}
 

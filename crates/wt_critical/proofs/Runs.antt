@@ -16,8 +16,8 @@ use Rattle.wt_proto.proofs.SessionReading.{session_lawful}
 use Rattle.wt_proto.proofs.ProgressLaws.{walk-progress}
 use Rattle.wt_turn.specs.declared.driver_error.DriverError.{DriverError}
 use Rattle.wt_turn.specs.declared.poll.Poll.{Poll}
-use Rattle.wt_seam.specs.State.{TransportState}
-use Rattle.wt_seam.specs.Step.{end_now, unread_now}
+use Rattle.wt_transport.specs.State.{TransportState}
+use Rattle.wt_transport.specs.Step.{end_now, unread_now}
 use Rattle.wt_critical.specs.Critical.{RemoteUni, SessionStream, Watched, control_answer, control_after_run, control_shows, session_answer, session_bytes, session_after_run, session_shows, shown_by_fault, shown_by_walk, shown_or_ended, uni_bytes}
 use Rattle.wt_critical.specs.Reading.{WasRead}
 use Rattle.wt_critical.proofs.ReadOn.{was-read-more, was-read-outcome}

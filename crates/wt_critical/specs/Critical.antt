@@ -22,11 +22,11 @@ use Rattle.wt_turn.specs.declared.poll.Poll.{Poll}
 use Rattle.wt_turn.specs.declared.poll.Poll.TheVariants as polls
 use Rattle.wt_turn.specs.declared.proto_error.ProtoWriteError.{ProtoWriteError}
 use Rattle.wt_turn.specs.declared.proto_error.ProtoWriteError.TheVariants as write_errors
-use Rattle.wt_seam.specs.declared.halves.QuicSendStream.{QuicSendStream}
-use Rattle.wt_seam.specs.declared.halves.QuicRecvStream.{QuicRecvStream}
-use Rattle.wt_seam.specs.State.{TransportState}
-use Rattle.wt_seam.specs.Rules.{after_write, sending_half_now}
-use Rattle.wt_seam.specs.Step.{end_now, stop_now, unread_now}
+use Rattle.wt_transport.specs.declared.halves.QuicSendStream.{QuicSendStream}
+use Rattle.wt_transport.specs.declared.halves.QuicRecvStream.{QuicRecvStream}
+use Rattle.wt_transport.specs.State.{TransportState}
+use Rattle.wt_transport.specs.Rules.{after_write, sending_half_now}
+use Rattle.wt_transport.specs.Step.{end_now, stop_now, unread_now}
 use Rattle.wt_typed.specs.declared.stream.UniLocalH3.{UniLocalH3}
 use Rattle.wt_typed.specs.declared.stream.UniRemoteH3.{UniRemoteH3}
 use Rattle.wt_typed.specs.declared.stream.Session.{Session}

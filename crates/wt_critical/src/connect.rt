@@ -3,7 +3,7 @@ ghost use Rattle.std.specs.Prelude.{◌≡◌, ℕ, List, [], IfOk, None, Ok, On
 ghost use Rattle.wt_proto.specs.WalkProgress.{read_on};
 ghost use Rattle.wt_proto.specs.Reading.{outcome_in};
 ghost use Rattle.wt_proto.specs.SessionWalk.{session_decides, session_unfinished};
-ghost use Rattle.wt_seam.specs.Step.{end_now, unread_now};
+ghost use Rattle.wt_transport.specs.Step.{end_now, unread_now};
 ghost use Rattle.wt_critical.specs.Critical.{after_session_run, session_answer, session_bytes, session_after_run, session_shows, shown_by_walk};
 ghost use Rattle.wt_critical.specs.Reading.{WasRead, after_reading_all};
 
@@ -13,7 +13,7 @@ use std::alloc::Global;
 use std::marker::Model;
 use wt_proto::reader::FrameReader;
 use wt_proto::session_walk::SessionWalk;
-use wt_seam::Transport;
+use wt_transport::Transport;
 use wt_turn::close::ApplicationClose;
 use wt_turn::driver_error::DriverError;
 use wt_turn::piece::Piece;

@@ -8,7 +8,7 @@ ghost use Rattle.wt_critical.specs.Critical.{after_uni_run, qpack_answer};
 use crate::shown::{id_of, shown_by_end, shown_or_ended};
 use std::alloc::Global;
 use std::marker::{Model, PhantomData};
-use wt_seam::Transport;
+use wt_transport::Transport;
 use wt_turn::driver_error::DriverError;
 use wt_turn::poll::Poll;
 use wt_typed::StreamUniRemoteH3;

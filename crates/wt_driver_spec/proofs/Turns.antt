@@ -246,7 +246,7 @@ module _ (side : Side) (log : Log) (held : FitsAndRests side log) where
   response-leads : (id : ℕ) (own : List Action) (w : ResponseWalk) → Leads side (read_response side log id own w)
   response-leads id own (responses.Fault code) = failed-leads (own ++ close_when_open log (code_of code)) _
   response-leads id own responses.Ended = failed-leads (own ++ close_when_open log 0) _
-  response-leads id own responses.Incomplete = either side (is_open log) _ _ (polls own _) (failed-leads own _)
+  response-leads id own responses.Waiting = either side (is_open log) _ _ (polls own _) (failed-leads own _)
   response-leads id own (responses.Response fields offset) =
       either side (not (has_success fields)) _ _ (failed-leads (own ++ close_when_open log 0) _) (either side (is_open log) _ _ (establish-leads own id offset) (failed-leads own _))
 

@@ -27,7 +27,7 @@ use Rattle.wt_inbox.specs.Stage as inboxes
 use Rattle.wt_inbox.specs.Stage.{Body, GivenUp, Stage, awaits_response, body_offset, with_stage}
 use Rattle.wt_proto.specs.ResponseWalk.{response_offset, response_walk_of}
 use Rattle.wt_inbox.specs.State.{InboxState}
-use Rattle.wt_seam.specs.State as seam
+use Rattle.wt_transport.specs.State as seam
 use Rattle.wt_streams.specs.StreamState.{rows}
 use Rattle.wt_seam_spec.specs.Sent.{is_reset, priority_of}
 use Rattle.wt_seam_spec.specs.Reports.{end_of, initial_credit}

@@ -16,7 +16,7 @@ use Rattle.wt_proto.specs.declared.session_walk.SessionWalk.{SessionWalk}
 use Rattle.wt_proto.specs.declared.session_walk.SessionWalk.TheVariants as walks
 use Rattle.wt_spec.specs.Scan.{check_datagram, dequeued_datagram, session_ends, unless_ended}
 use Rattle.wt_inbox.specs.State.{InboxState}
-use Rattle.wt_seam.specs.State.{TransportState}
+use Rattle.wt_transport.specs.State.{TransportState}
 use Rattle.wt_spec.specs.Driver.{settings_ready, transport_view}
 use Rattle.wt_spec.specs.StreamTable.{Dispatched, Ending, DriverProgress, TransportView}
 use Rattle.wt_turn.specs.Log.{Log, is_open}

@@ -317,7 +317,7 @@ module _ (log : Log) (fits : Fits Client log) (uses : Uses Client log) where
   response-uses : (own : List Action) (w : ResponseWalk) → RequestOpened Client (with_actions own log) → LeadsUses Client (read_response Client log 0 own w)
   response-uses own (responses.Fault code) o = failed-uses Client log fits uses (own ++ close_when_open log (code_of code)) _
   response-uses own responses.Ended o = failed-uses Client log fits uses (own ++ close_when_open log 0) _
-  response-uses own responses.Incomplete o = either Client (is_open log) _ _ (polls Client log fits uses own _) (failed-uses Client log fits uses own _)
+  response-uses own responses.Waiting o = either Client (is_open log) _ _ (polls Client log fits uses own _) (failed-uses Client log fits uses own _)
   response-uses own (responses.Response fields offset) o =
       either Client (not (has_success fields)) _ _ (failed-uses Client log fits uses (own ++ close_when_open log 0) _)
       (either Client (is_open log) _ _ (establish-uses Client log fits uses own 0 offset (refl, o)) (failed-uses Client log fits uses own _))

@@ -23,10 +23,10 @@ use Rattle.wt_inbox.specs.Stage as inboxes
 use Rattle.wt_inbox.specs.Stage.{Stage}
 use Rattle.wt_inbox.proofs.Passing.{peer-bis-are, peer-unis-are}
 use Rattle.wt_inbox.specs.State.{InboxState, peer_bis_now, peer_unis_now}
-use Rattle.wt_seam.proofs.Asking.{refined_peer_bis, refined_peer_unis}
-use Rattle.wt_seam.proofs.Refining.{refined_fits}
-use Rattle.wt_seam.specs.State.{TransportState}
-use Rattle.wt_seam.specs.Step.{fits_now}
+use Rattle.wt_transport.proofs.Asking.{refined_peer_bis, refined_peer_unis}
+use Rattle.wt_transport.proofs.Refining.{refined_fits}
+use Rattle.wt_transport.specs.State.{TransportState}
+use Rattle.wt_transport.specs.Step.{fits_now}
 use Rattle.wt_seam_spec.specs.Arrivals.{event_entry, fits, log_turn, may_receive}
 use Rattle.wt_seam_spec.specs.Reports.{end_of, is_connected, is_running, loss_of, with_datagram}
 use Rattle.wt_seam_spec.specs.Streams.{can_receive, can_send, exists, local_count, peer_bi, peer_count, peer_opens, peer_uni}

@@ -22,7 +22,7 @@ use Rattle.wt_driver_spec.specs.DriverState.{DriverState, state_of}
 use Rattle.wt_driver_spec.specs.Step.{scan_state, step_actions}
 use Rattle.wt_inbox.specs.Stage as inboxes
 use Rattle.wt_message.specs.FixedBytes.{local_control_bytes}
-use Rattle.wt_seam.specs.State.{TransportState}
+use Rattle.wt_transport.specs.State.{TransportState}
 use Rattle.wt_seam_spec.specs.Joined.{newest_first, send_of}
 use Rattle.wt_seam_spec.specs.Sent.{finishes, resets}
 use Rattle.wt_seam_spec.specs.Streams.{local_uni}

@@ -1,4 +1,5 @@
-//! The README's example: a server's connection takes its first turn.
+//! The library as a user has it, by the names of the public crates alone: the README's example, a server's connection that
+//! takes its first turn; a server that reads a stream ([`server`]); and every public name from where it is found ([`names`]).
 //!
 //! [`Core::turn`] requires that the turn is lawful, so the prover refuses a call of it where
 //! that isn't known.
@@ -6,10 +7,14 @@
 
 use anyhow::Result;
 use std::alloc::Global;
-use wt_core::Core;
-use wt_turn::{Answer, DatagramFact, Turn};
-use wt_wire::error::OutOfMemory;
-use wt_wire::side::Side;
+use wt_proto::{OutOfMemory, Side};
+use wt_seam::{DatagramFact, Turn};
+use wt_trace::{Answer, Core};
+
+pub mod names;
+pub mod server;
+#[cfg(test)]
+mod tests;
 
 /// The answer to a turn, where it may come.
 fn answer(core: &mut Core, turn: &Turn) -> Result<Option<Answer>, OutOfMemory> {

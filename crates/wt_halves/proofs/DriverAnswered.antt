@@ -9,7 +9,7 @@ use Rattle.wt_plan.specs.DriverAnswers.{answers_now}
 use Rattle.wt_plan.specs.FactsNow.{DriverAnswers, facts_now}
 use Rattle.wt_plan.specs.PlansAgree.{TellsFacts, driver_facts}
 use Rattle.wt_laws.proofs.ReachTheorems.{performs_theorem}
-use Rattle.wt_seam.specs.Step.{unread_now}
+use Rattle.wt_transport.specs.Step.{unread_now}
 use Rattle.wt_session_spec.specs.Performing.{MayPerform}
 use Rattle.wt_session_spec.proofs.Theorems.{planned_theorem}
 use Rattle.wt_session_spec.specs.CallFacts.{facts_of}

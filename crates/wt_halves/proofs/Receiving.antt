@@ -13,10 +13,10 @@ use Rattle.wt_plan.proofs.PlansSame as plans
 use Rattle.wt_plan.specs.FactsNow.{DriverAnswers, facts_now}
 use Rattle.wt_plan.specs.Planned.{defined_plan}
 use Rattle.wt_plan.specs.declared.plan.Plan as planning
-use Rattle.wt_seam.specs.State.{TransportState}
+use Rattle.wt_transport.specs.State.{TransportState}
 use Rattle.wt_halves.specs.Replies.{exact_reply, exactly_read, read_into, records_exact}
-use Rattle.wt_seam.specs.Rules.{receiving_half_now}
-use Rattle.wt_seam.specs.Step.{end_now, unread_now}
+use Rattle.wt_transport.specs.Rules.{receiving_half_now}
+use Rattle.wt_transport.specs.Step.{end_now, unread_now}
 use Rattle.wt_session_spec.proofs.Uses.{same-receiving}
 use Rattle.wt_session_spec.specs.CallFacts.{CallFacts, facts_of, receiving_facts}
 use Rattle.wt_session_spec.specs.HalfPlans.{exact_plan, read_exact_plan, read_plan, read_record, reply_of_read, stop_plan}

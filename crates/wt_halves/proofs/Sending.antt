@@ -11,9 +11,9 @@ use Rattle.wt_plan.proofs.PlansSame as plans
 use Rattle.wt_plan.specs.FactsNow.{DriverAnswers, facts_now, sending_now}
 use Rattle.wt_plan.specs.Planned.{defined_plan}
 use Rattle.wt_plan.specs.declared.plan.Plan as planning
-use Rattle.wt_seam.specs.Rules.{sending_half_now}
-use Rattle.wt_seam.specs.State.{TransportState}
-use Rattle.wt_seam.specs.Step.{can_send_now}
+use Rattle.wt_transport.specs.Rules.{sending_half_now}
+use Rattle.wt_transport.specs.State.{TransportState}
+use Rattle.wt_transport.specs.Step.{can_send_now}
 use Rattle.wt_session_spec.proofs.Uses.{same-sending}
 use Rattle.wt_session_spec.specs.CallFacts.{CallFacts, facts_of}
 use Rattle.wt_session_spec.specs.HalfPlans.{finish_plan, finish_reply, priority_plan, priority_reply, reset_plan, set_priority_plan, stopped_by, stopped_plan, write_all_plan, write_all_reply, write_plan, write_reply}

@@ -19,7 +19,7 @@ use std::alloc::Global;
 use wt_calls::acting;
 use wt_driver::driver::Driver;
 use wt_plan::plan::Plan;
-use wt_seam::Transport;
+use wt_transport::Transport;
 use wt_turn::record::Record;
 use wt_turn::reply::Reply;
 use wt_wire::error::OutOfMemory;

@@ -5,7 +5,7 @@ use Rattle.wt_wire.specs.declared.side.StreamEnd.{StreamEnd}
 use Rattle.wt_wire.specs.declared.side.StreamEnd.TheVariants.{Running}
 use Rattle.wt_proto.specs.declared.walk.Step.{Step}
 use Rattle.wt_proto.specs.declared.response_walk.ResponseWalk.{ResponseWalk}
-use Rattle.wt_proto.specs.declared.response_walk.ResponseWalk.TheVariants.{Incomplete, Ended}
+use Rattle.wt_proto.specs.declared.response_walk.ResponseWalk.TheVariants.{Waiting, Ended}
 use Rattle.wt_proto.specs.Reading.{outcome_in}
 use Rattle.wt_proto.specs.Steady.{IsLawful}
 use Rattle.wt_proto.specs.Uni.{is_final, uni_decides, uni_unfinished}
@@ -18,8 +18,8 @@ use Rattle.wt_proto.proofs.BiReading.{bi_lawful}
 use Rattle.wt_proto.proofs.ControlReading.{control_lawful}
 use Rattle.wt_proto.proofs.SessionReading.{session_lawful}
 use Rattle.wt_proto.proofs.ResponseReading.{response_lawful}
-use Rattle.wt_seam.specs.State.{TransportState}
-use Rattle.wt_seam.specs.Step.{end_now, unread_now}
+use Rattle.wt_transport.specs.State.{TransportState}
+use Rattle.wt_transport.specs.Step.{end_now, unread_now}
 use Rattle.wt_inbox.specs.Quiet.{quiet}
 use Rattle.wt_inbox.specs.KeptReaders.{KeptReader, outcome_after, outcome_now, reading_of}
 use Rattle.wt_inbox.specs.State.{InboxState, SameAt, bi_verdict_now, control_now, is_over_by_bytes, response_now, session_now, uni_verdict_now, with_transport}
@@ -121,7 +121,7 @@ module _ {S O : Type 0} {start : S} {decide : S → List ℕ → Step S O} {want
 
 -- a response that isn't answered isn't final
 waits : (walk : ResponseWalk) → is_answered walk ≡ false → is_response_final walk ≡ false
-waits Incomplete e = refl
+waits Waiting e = refl
 waits Ended e = refl
 waits _ e = absurd cc
 

@@ -5,9 +5,9 @@ use Rattle.std.proofs.lemmas.List.{drop-drop, length-drop}
 use Rattle.wt_streams.specs.StreamState.{consume, has_stream, stream_at}
 use Rattle.wt_streams.proofs.PieceLaws.{concat_skip, drop_none}
 use Rattle.wt_seam_spec.specs.Unread.{ReadPosition, AtOffset, GivenUp, advance, position_after}
-use Rattle.wt_seam.specs.State.{TransportState, Refines}
-use Rattle.wt_seam.specs.Step.{after_consume, unread_now, with_change}
-use Rattle.wt_seam.proofs.Refining.{consume_refines}
+use Rattle.wt_transport.specs.State.{TransportState, Refines}
+use Rattle.wt_transport.specs.Step.{after_consume, unread_now, with_change}
+use Rattle.wt_transport.proofs.Refining.{consume_refines}
 use Rattle.wt_inbox.specs.Quiet.{quiet}
 use Rattle.wt_inbox.specs.KeptReaders.{Consumes}
 use Rattle.wt_inbox.proofs.Streams.{here-changed, here-has, other-unread, quiet-changed}

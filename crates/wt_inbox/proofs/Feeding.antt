@@ -28,9 +28,9 @@ use Rattle.wt_seam_spec.specs.Arrivals.{log_bytes}
 use Rattle.wt_seam_spec.specs.Streams.{contents, local_count, peer_bi, peer_uni}
 use Rattle.wt_seam_spec.specs.Reports.{end_of}
 use Rattle.wt_seam_spec.specs.Unread.{ReadPosition, AtOffset, advance, from_position, position_after}
-use Rattle.wt_seam.specs.State as seam
-use Rattle.wt_seam.specs.Step.{unread_now}
-use Rattle.wt_seam.proofs.Refining.{refined_end, refined_unread}
+use Rattle.wt_transport.specs.State as seam
+use Rattle.wt_transport.specs.Step.{unread_now}
+use Rattle.wt_transport.proofs.Refining.{refined_end, refined_unread}
 use Rattle.wt_inbox.specs.KeptReaders.{Fed, KeptReader, StandsAt, no_kept, outcome_now, reading_of}
 use Rattle.wt_inbox.specs.State.{InboxState, with_transport}
 use Rattle.wt_inbox.specs.Moves.{BiFed, BiPulled, ControlFed, ControlPulled, FedIn, PulledIn, SameReaders, SessionFed, SessionPulled, UniFed, UniPulled}

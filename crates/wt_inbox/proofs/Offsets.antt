@@ -278,7 +278,7 @@ response-none Fin s b = refl
 response-none (Reset code) s b = refl
 
 response-final : (o : ResponseWalk) (g : ℕ) → response_offset o ≡ Some g → is_response_final o ≡ true
-response-final responses.Incomplete g e = absurd cc
+response-final responses.Waiting g e = absurd cc
 response-final (responses.Response response offset) g e = refl
 response-final responses.Ended g e = absurd cc
 response-final (responses.Fault code) g e = refl

@@ -30,12 +30,12 @@ use Rattle.wt_message.specs.FixedBytes.{local_control_bytes}
 use Rattle.wt_wire.specs.PrefixedInteger.{prefixed_bytes}
 use Rattle.wt_wire.specs.Varint.{varint_bytes}
 use Rattle.wt_streams.specs.StreamState.{give_up, has_stream}
-use Rattle.wt_seam.specs.Step.{after_consume, after_give_up, can_receive_now, unread_now}
-use Rattle.wt_seam.proofs.Bools.{first}
-use Rattle.wt_seam.specs.State.{TransportState}
-use Rattle.wt_seam.specs.State as seam
-use Rattle.wt_seam.proofs.Refining.{new_refines}
-use Rattle.wt_seam.proofs.Asking.{open_events}
+use Rattle.wt_transport.specs.Step.{after_consume, after_give_up, can_receive_now, unread_now}
+use Rattle.wt_transport.proofs.Bools.{first}
+use Rattle.wt_transport.specs.State.{TransportState}
+use Rattle.wt_transport.specs.State as seam
+use Rattle.wt_transport.proofs.Refining.{new_refines}
+use Rattle.wt_transport.proofs.Asking.{open_events}
 use Rattle.wt_inbox.specs.KeptReaders.{reading_of}
 use Rattle.wt_inbox.specs.Quiet.{quiet}
 use Rattle.wt_inbox.specs.State.{InboxState, SameAt, nothing_read, with_transport}

@@ -9,8 +9,8 @@ use Rattle.wt_streams.specs.StreamState.{fresh, has_stream, row_at, stream_at, s
 use Rattle.wt_seam_spec.specs.Streams.{local_uni, peer_bi, peer_uni}
 use Rattle.wt_seam_spec.specs.Reports.{is_running}
 use Rattle.wt_message.specs.FixedBytes.{local_control_bytes}
-use Rattle.wt_seam.specs.State.{TransportState}
-use Rattle.wt_seam.specs.Step.{can_receive_now, can_send_now, count_now, credit_now, end_now, may_receive_now, may_send_now, sent_now, stop_now, is_finished_now, is_reset_now, is_acknowledged_now}
+use Rattle.wt_transport.specs.State.{TransportState}
+use Rattle.wt_transport.specs.Step.{can_receive_now, can_send_now, count_now, credit_now, end_now, may_receive_now, may_send_now, sent_now, stop_now, is_finished_now, is_reset_now, is_acknowledged_now}
 use Rattle.wt_inbox.specs.Quiet.{quiet, quiet_stream}
 use Rattle.wt_inbox.specs.State.{ready_now, control_credit_now, control_stopped_now, may_open_uni_now, peer_bis_now, peer_unis_now}
 

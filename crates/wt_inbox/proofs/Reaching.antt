@@ -15,8 +15,8 @@ use Rattle.wt_proto.specs.Steady.{IsSteady}
 use Rattle.wt_proto.proofs.ProgressLaws.{fed-append, fed-fed}
 use Rattle.wt_proto.proofs.ReadingLaws.{read-outcome}
 use Rattle.wt_seam_spec.specs.Unread.{ReadPosition, AtOffset, advance, from_position}
-use Rattle.wt_seam.specs.State.{TransportState}
-use Rattle.wt_seam.specs.Step.{end_now, unread_now}
+use Rattle.wt_transport.specs.State.{TransportState}
+use Rattle.wt_transport.specs.Step.{end_now, unread_now}
 use Rattle.wt_inbox.specs.KeptReaders.{KeptReader, Pulled, Pulls, outcome_after, outcome_by, outcome_now, reading_of}
 use Rattle.wt_inbox.specs.Stage.{HasReached}
 use Rattle.wt_inbox.proofs.Offsets.{IsOffset}

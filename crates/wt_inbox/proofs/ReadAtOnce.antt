@@ -13,7 +13,7 @@ use Rattle.wt_seam_spec.specs.Arrivals.{log_bytes}
 use Rattle.wt_seam_spec.specs.Reports.{initial_credit}
 use Rattle.wt_seam_spec.specs.Streams.{contents, stream_count}
 use Rattle.wt_seam_spec.specs.Unread.{ReadPosition, AtOffset, GivenUp, advance, from_position, is_given_up, position_after}
-use Rattle.wt_seam.specs.State.{TransportState, Holds, IsStream, IsWithin, Refines, state_of, stream_of}
+use Rattle.wt_transport.specs.State.{TransportState, Holds, IsStream, IsWithin, Refines, state_of, stream_of}
 use Rattle.wt_inbox.proofs.Consuming.{consumed-twice}
 
 -- reading on gives nothing up

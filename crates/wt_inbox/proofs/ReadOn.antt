@@ -13,9 +13,9 @@ use Rattle.wt_proto.specs.Steady.{IsSteady}
 use Rattle.wt_proto.proofs.ProgressLaws.{fed-fed}
 use Rattle.wt_proto.proofs.ReadingLaws.{fed-read, stays}
 use Rattle.wt_streams.specs.Pieces.{first_piece}
-use Rattle.wt_seam.specs.State.{TransportState}
+use Rattle.wt_transport.specs.State.{TransportState}
 use Rattle.wt_streams.proofs.PieceLaws.{drop_none, first_within, take_first}
-use Rattle.wt_seam.specs.Step.{after_consume, end_now, pieces_now, unread_now}
+use Rattle.wt_transport.specs.Step.{after_consume, end_now, pieces_now, unread_now}
 use Rattle.wt_inbox.specs.KeptReaders.{Consumes, Takes, Pulls, outcome_after}
 use Rattle.wt_inbox.proofs.Consuming.{consume-consumes, consumes-twice}
 

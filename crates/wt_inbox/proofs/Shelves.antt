@@ -8,7 +8,7 @@ use Rattle.std.proofs.lemmas.List.Quantifiers.{position-Some}
 use Rattle.std.proofs.lemmas.List.Sums.{fails_before_first}
 use Rattle.wt_wire.specs.declared.side.StreamEnd.{StreamEnd}
 use Rattle.wt_proto.specs.declared.walk.Step.{Step}
-use Rattle.wt_seam.specs.State.{TransportState}
+use Rattle.wt_transport.specs.State.{TransportState}
 use Rattle.std.proofs.lemmas.Bool.Decides.{nat_tests}
 use Rattle.wt_proto.specs.WalkProgress.{Reading}
 use Rattle.wt_inbox.specs.KeptReaders.{KeptReader, Pulled, Pulls, StandsAt, is_kept, no_kept, no_reading, reading_of}

@@ -23,10 +23,10 @@ use Rattle.wt_proto.proofs.ResponseReading.{response_lawful}
 use Rattle.wt_seam_spec.specs.Streams.{contents}
 use Rattle.wt_seam_spec.specs.Reports.{end_of}
 use Rattle.wt_seam_spec.specs.Unread.{ReadPosition, AtOffset, advance, position_after, from_position}
-use Rattle.wt_seam.specs.State.{TransportState, IsWithin}
-use Rattle.wt_seam.specs.State as seam
-use Rattle.wt_seam.specs.Step.{unread_now}
-use Rattle.wt_seam.proofs.Refining.{refined_end, refined_unread}
+use Rattle.wt_transport.specs.State.{TransportState, IsWithin}
+use Rattle.wt_transport.specs.State as seam
+use Rattle.wt_transport.specs.Step.{unread_now}
+use Rattle.wt_transport.proofs.Refining.{refined_end, refined_unread}
 use Rattle.wt_inbox.specs.KeptReaders.{KeptReader, no_reading, outcome_by, outcome_now, reading_of}
 use Rattle.wt_inbox.specs.State.{InboxState, bi_verdict_now, control_now, response_now, session_now, uni_verdict_now, with_transport}
 use Rattle.wt_inbox.specs.Moves.{BiPulled, BiRemoved, ControlPulled, PulledIn, RemovedIn, ResponsePulled, ResponseRemoved, SameReaders, SessionPulled, SessionRemoved, UniPulled, UniRemoved}

@@ -9,8 +9,8 @@ use Rattle.std.proofs.Math.Seq.{map-set_same}
 use Rattle.std.proofs.Math.ListN.{length-set}
 use Rattle.wt_streams.specs.declared.stream.Stream.{Stream}
 use Rattle.wt_streams.specs.StreamState.{with_changed, changed_in, fresh, has_stream, row_at, stream_at, stream_in}
-use Rattle.wt_seam.specs.State.{TransportState}
-use Rattle.wt_seam.specs.Step.{with_change, unread_now}
+use Rattle.wt_transport.specs.State.{TransportState}
+use Rattle.wt_transport.specs.Step.{with_change, unread_now}
 use Rattle.wt_inbox.specs.Quiet.{quiet, quiet_stream}
 
 -- past the end of a list there is the default

@@ -10,8 +10,8 @@ use Rattle.wt_wire.specs.declared.side.Side.{Side}
 use Rattle.wt_turn.specs.declared.action.Action.{Action}
 use Rattle.wt_turn.specs.Log.{Log}
 use Rattle.wt_seam_spec.specs.Unread.{ReadPosition, position_after}
-use Rattle.wt_seam.specs.State.{TransportState, Refines}
-use Rattle.wt_seam.specs.Step.{unread_now, end_now}
+use Rattle.wt_transport.specs.State.{TransportState, Refines}
+use Rattle.wt_transport.specs.Step.{unread_now, end_now}
 use Rattle.wt_inbox.specs.Quiet.{quiet}
 
 -- a reader that is kept, and its stream

@@ -1,7 +1,7 @@
 -- What the readers of streams leave of a transport.
 use Rattle.std.specs.Prelude.{List, [], map, false}
 use Rattle.wt_streams.specs.declared.stream.Stream.{Stream}
-use Rattle.wt_seam.specs.State.{TransportState}
+use Rattle.wt_transport.specs.State.{TransportState}
 
 -- a stream but for what its readers do
 abbrev pub quiet_stream : Stream → Stream

@@ -17,7 +17,7 @@ use Rattle.wt_proto.specs.ResponseWalk.{response_decides, response_walk_of, is_r
 use Rattle.wt_seam_spec.specs.Streams.{contents, local_count, peer_bi, peer_uni}
 use Rattle.wt_seam_spec.specs.Unread.{ReadPosition, AtOffset}
 use Rattle.wt_seam_spec.specs.Unread as positions
-use Rattle.wt_seam.specs.State as seam
+use Rattle.wt_transport.specs.State as seam
 use Rattle.wt_inbox.specs.KeptReaders.{no_reading, reading_of}
 use Rattle.wt_inbox.specs.State.{InboxState}
 

@@ -12,10 +12,10 @@ use Rattle.wt_proto.specs.Bi.{bi_decides, bi_unfinished}
 use Rattle.wt_proto.specs.ControlWalk.{control_decides, control_unfinished}
 use Rattle.wt_proto.specs.SessionWalk.{session_decides, session_unfinished, is_over}
 use Rattle.wt_proto.specs.ResponseWalk.{response_decides, response_unfinished}
-use Rattle.wt_seam.specs.State.{TransportState}
+use Rattle.wt_transport.specs.State.{TransportState}
 use Rattle.wt_message.specs.FixedBytes.{local_control_bytes}
 use Rattle.wt_seam_spec.specs.Streams.{local_uni, peer_bi, peer_uni}
-use Rattle.wt_seam.specs.Step.{count_now, credit_now, nothing_connected, stop_now, unread_now}
+use Rattle.wt_transport.specs.Step.{count_now, credit_now, nothing_connected, stop_now, unread_now}
 use Rattle.wt_inbox.specs.KeptReaders.{KeptReader, outcome_by, outcome_now}
 
 -- what an inbox keeps: the transport, and readers by what they read

@@ -33,7 +33,7 @@ pub(crate) fn copy_walk(alloc: Global, walk: &ResponseWalk) -> Result<ResponseWa
     ensures { IfOk result (λ copied. copied ≡ walk.now) }
 {
     match walk {
-        ResponseWalk::Incomplete => Ok(ResponseWalk::Incomplete),
+        ResponseWalk::Waiting => Ok(ResponseWalk::Waiting),
         ResponseWalk::Response(response, offset) => {
             let response = copy_response(alloc, response)?;
             Ok(ResponseWalk::Response(response, *offset))

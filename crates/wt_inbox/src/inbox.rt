@@ -18,7 +18,7 @@ use wt_proto::control_walk::ControlWalk;
 use wt_proto::response_walk::ResponseWalk;
 use wt_proto::session_walk::SessionWalk;
 use wt_proto::verdict::UniHeader;
-use wt_seam::Transport;
+use wt_transport::Transport;
 use wt_wire::side::Side;
 
 /// The transport of one connection, and the readers of what the peer sends on streams. Contracts see

@@ -5,7 +5,7 @@ ghost use Rattle.wt_wire.specs.declared.side.StreamEnd.TheVariants.{Running};
 ghost use Rattle.wt_proto.specs.WalkProgress.{HasRead, fed_reading};
 ghost use Rattle.wt_proto.specs.Reading.{outcome_in};
 ghost use Rattle.wt_proto.specs.Steady.{IsSteady};
-ghost use Rattle.wt_seam.specs.Step.{unread_now};
+ghost use Rattle.wt_transport.specs.Step.{unread_now};
 ghost use Rattle.wt_inbox.specs.KeptReaders.{Pulls, Takes, outcome_after};
 
 use std::marker::Brand;
@@ -13,7 +13,7 @@ use std::sync::ledger::{Blank, Ledger};
 use wt_proto::reader::StreamReader;
 use wt_proto::steps::Steps;
 use wt_proto::walk::Walk;
-use wt_seam::Transport;
+use wt_transport::Transport;
 use wt_wire::error::OutOfMemory;
 use wt_wire::ids::StreamId;
 use wt_wire::side::StreamEnd;

@@ -6,7 +6,7 @@ ghost use Rattle.std.specs.List.{position};
 ghost use Rattle.wt_wire.specs.declared.side.StreamEnd.TheVariants.{Running};
 ghost use Rattle.wt_proto.specs.Reading.{outcome_in};
 ghost use Rattle.wt_proto.specs.Steady.{IsSteady};
-ghost use Rattle.wt_seam.specs.Step.{unread_now};
+ghost use Rattle.wt_transport.specs.Step.{unread_now};
 ghost use Rattle.wt_inbox.specs.KeptReaders.{Fed, Pulled, Pulls, StandsAt, is_kept, no_reading, outcome_after, outcome_by, reading_of};
 
 use crate::reading::{feed, read_all};
@@ -14,7 +14,7 @@ use std::alloc::Global;
 use std::marker::Model;
 use wt_proto::reader::StreamReader;
 use wt_proto::walk::Walk;
-use wt_seam::Transport;
+use wt_transport::Transport;
 use wt_wire::error::OutOfMemory;
 use wt_wire::ids::StreamId;
 

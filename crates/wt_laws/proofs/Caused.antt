@@ -386,8 +386,8 @@ module _ (side : Side) (turn : Turn) (by_call : is_call turn ≡ true) where
   caused-response log own responses.Ended o s w n h e =
       let r = responses.Ended in
       connect-failed log own 0 _ (Plain (EndsStream (reads-then log own w r (blind-actions walk_of (λ a g. refl) own log ∙ e)) (n, h)) refl) s (going log w) o (ByStreamEnd (reads log w r e) refl)
-  caused-response log own responses.Incomplete o s w n h e =
-      either (is_open log) _ _ (λ b. leaf log own Polled replies.Pending o by_call refl (b, NoResponse None w.head w.call w.state e)) (λ b. connect-failed-so log own _ (going log w) o (BeforeResponse (reads log w responses.Incomplete e) b refl))
+  caused-response log own responses.Waiting o s w n h e =
+      either (is_open log) _ _ (λ b. leaf log own Polled replies.Pending o by_call refl (b, NoResponse None w.head w.call w.state e)) (λ b. connect-failed-so log own _ (going log w) o (BeforeResponse (reads log w responses.Waiting e) b refl))
   caused-response log own (responses.Response fields offset) o s w n h e =
       let r = responses.Response fields offset in
       either (not (has_success fields)) _ _

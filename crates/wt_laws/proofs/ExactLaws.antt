@@ -316,7 +316,7 @@ module _ (side : Side) (log : Log) where
           sends _ (yes (not (local_count (actions_of log) (local_bi side) == 0)) _ _ (not-none n) (no (is_empty left) _ _ (not-true _ a.1) (no (not (is_open log)) _ _ (ap not o) (yes (is_some (stop_of (events_of log) (local_bi side))) _ _ a.0 refl))));
       fault = λ code q e. asked _ q (λ own. walked (responses.Fault code) _ own e refl);
       stream_end = λ q e. asked _ q (λ own. walked responses.Ended _ own e refl);
-      no_response = λ q e o. asked _ q (λ own. walked responses.Incomplete _ own e (no (is_open log) _ _ o refl));
+      no_response = λ q e o. asked _ q (λ own. walked responses.Waiting _ own e (no (is_open log) _ _ o refl));
       rejected = λ fields offset q e s. asked _ q (λ own. walked (responses.Response fields offset) _ own e (yes (not (has_success fields)) _ _ (ap not s) refl));
       session = λ fields offset q e s o. asked _ q (λ own. walked (responses.Response fields offset) _ own e (no (not (has_success fields)) _ _ (ap not s) (yes (is_open log) _ _ o refl)));
       ended = λ fields offset q e s o. asked _ q (λ own. walked (responses.Response fields offset) _ own e (no (not (has_success fields)) _ _ (ap not s) (no (is_open log) _ _ o refl)));

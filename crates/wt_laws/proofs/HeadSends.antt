@@ -70,7 +70,7 @@ module _ (side : Side) (log : Log) (k : ℕ) (c : (local_uni side == k) ≡ fals
   read-sends : (id : ℕ) (own : List Action) (r : ResponseWalk) → sends_of k own ≡ piece → Sends (read_response side log id own r)
   read-sends id own (responses.Fault code) e = leaf (own ++ close_when_open log (code_of code)) HandshakeOver (with-close own (code_of code) e)
   read-sends id own responses.Ended e = leaf (own ++ close_when_open log 0) HandshakeOver (with-close own 0 e)
-  read-sends id own responses.Incomplete e = whether (is_open log) _ _ (λ o. leaf own Polled e) (λ o. leaf own HandshakeOver e)
+  read-sends id own responses.Waiting e = whether (is_open log) _ _ (λ o. leaf own Polled e) (λ o. leaf own HandshakeOver e)
   read-sends id own (responses.Response fields by) e =
       whether (not (has_success fields)) _ _ (λ s. leaf (own ++ close_when_open log 0) HandshakeOver (with-close own 0 e)) (λ s. whether (is_open log) _ _ (λ o. record-flushed own (SessionEstablished id by) e) (λ o. leaf own HandshakeOver e))
 

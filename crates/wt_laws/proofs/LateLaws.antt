@@ -327,7 +327,7 @@ module _ (side : Side) (a b : Log) (p : EndedAlike side a b) where
   alike-walk : (id : ℕ) (r : ResponseWalk) → Alike side a b (read_response side a id [] r) (read_response side b id [] r)
   alike-walk id (responses.Fault code) = abandoning (code_of code) _ _ refl
   alike-walk id responses.Ended = abandoning 0 _ _ same-lost
-  alike-walk id responses.Incomplete = if-open side a b p (is_open a) (is_open b) _ _ _ _ p.closed p.closed_too (failing _ _ same-lost)
+  alike-walk id responses.Waiting = if-open side a b p (is_open a) (is_open b) _ _ _ _ p.closed p.closed_too (failing _ _ same-lost)
   alike-walk id (responses.Response fields by) =
       same-if side a b p (not (has_success fields)) (not (has_success fields)) _ _ _ _ refl (λ s. abandoning 0 _ _ refl)
       (λ s. if-open side a b p (is_open a) (is_open b) _ _ _ _ p.closed p.closed_too (failing _ _ (ap (λ e. connects.ConnectionError e) same-driver)))

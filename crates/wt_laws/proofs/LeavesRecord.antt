@@ -221,7 +221,7 @@ module _ (side : Side) (log : Log) where
   ends-read : (id : ℕ) (own : List Action) (walk : ResponseWalk) → Ends (read_response side log id own walk)
   ends-read id own (responses.Fault code) = ends (own ++ close_when_open log (code_of code)) _
   ends-read id own responses.Ended = ends (own ++ close_when_open log 0) _
-  ends-read id own responses.Incomplete = by-test Ends (is_open log) _ _ (λ o. goes-on _ refl) (λ o. ends own _)
+  ends-read id own responses.Waiting = by-test Ends (is_open log) _ _ (λ o. goes-on _ refl) (λ o. ends own _)
   ends-read id own (responses.Response fields offset) = by-test Ends (not (has_success fields)) _ _ (λ s. ends (own ++ close_when_open log 0) _) (λ s. by-test Ends (is_open log) _ _ (λ o. goes-on _ refl) (λ o. ends own _))
 
   ends-send : (id : ℕ) (own : List Action) (left : List ℕ) → Ends (send_request side log id own left)

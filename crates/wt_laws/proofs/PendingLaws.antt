@@ -116,7 +116,7 @@ module _ (side : Side) (log : Log) where
   waits-read : (id : ℕ) (own : List Action) (r : ResponseWalk) → Waits (is_open log && is_waiting r) (read_response side log id own r)
   waits-read id own (responses.Fault code) = and-false (is_open log)
   waits-read id own responses.Ended = and-false (is_open log)
-  waits-read id own responses.Incomplete = if-open (is_open log) _ _ refl refl ∙ and-true (is_open log)
+  waits-read id own responses.Waiting = if-open (is_open log) _ _ refl refl ∙ and-true (is_open log)
   waits-read id own (responses.Response fields offset) = unless-success (has_success fields) (is_open log) _ _ _ refl refl refl
 
   -- no rest, an ended connection, a stop, a covered rest

@@ -244,7 +244,7 @@ pub record RequestGoesOn (side : Side) (log : Log) (head : List ℕ) : Type 0 wh
       → reply_to side log calls.Handshake ≡ replies.ConnectFailed (connects.ConnectionError (errors.LocalH3Error code))
   pub stream_end : RequestOut side log head → walk_at side log ≡ responses.Ended
       → reply_to side log calls.Handshake ≡ replies.ConnectFailed (loss_to_connect log)
-  pub no_response : RequestOut side log head → walk_at side log ≡ responses.Incomplete → is_open log ≡ false
+  pub no_response : RequestOut side log head → walk_at side log ≡ responses.Waiting → is_open log ≡ false
       → reply_to side log calls.Handshake ≡ replies.ConnectFailed (loss_to_connect log)
   pub rejected : (fields : Fields) (offset : ℕ) → RequestOut side log head → walk_at side log ≡ responses.Response fields offset
       → has_success fields ≡ false → reply_to side log calls.Handshake ≡ replies.ConnectFailed connects.SessionRejected

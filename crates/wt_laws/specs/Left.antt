@@ -52,7 +52,7 @@ lacks_stream side log = local_count (actions_of log) (local_bi side) == 0 && not
 
 -- nothing of the response is known yet
 abbrev pub is_waiting : ResponseWalk → Bool
-is_waiting responses.Incomplete = true
+is_waiting responses.Waiting = true
 is_waiting _ = false
 
 -- the request is out, or goes out now, and nothing of its response is known

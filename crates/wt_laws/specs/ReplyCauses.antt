@@ -115,7 +115,7 @@ pub data PendingCause (side : Side) (turn : Turn) (log : Log) : Type 0 where
       → bytes_within_credit log k bytes ≡ [] → PendingCause side turn log
   NoResponse : (reserved : Option (List ℕ)) (head : List ℕ) → turn ≡ turns.Call calls.Handshake
       → handshake_state (calls_of log) ≡ Connecting reserved head
-      → response_walk_of (contents log (local_bi side)) (end_of (events_of log) (local_bi side)) ≡ responses.Incomplete → PendingCause side turn log
+      → response_walk_of (contents log (local_bi side)) (end_of (events_of log) (local_bi side)) ≡ responses.Waiting → PendingCause side turn log
   Finishing : (head : List ℕ) → ResponseFrom turn (calls_of log) false head
       → is_covered log (requested_stream (calls_of log)) (head_left log (requested_stream (calls_of log)) head) ≡ true
       → is_finished (actions_of log) (requested_stream (calls_of log)) ≡ false → PendingCause side turn log
@@ -173,7 +173,7 @@ pub data ConnectFailedCause (side : Side) (turn : Turn) (log : Log) (e : Connect
   BeforeRequest : (reserved : Option (List ℕ)) (head : List ℕ) → turn ≡ turns.Call calls.Handshake
       → handshake_state (calls_of log) ≡ Connecting reserved head → is_empty (head_left log (local_bi side) head) ≡ false
       → is_open log ≡ false → e ≡ loss_to_connect log → ConnectFailedCause side turn log e
-  BeforeResponse : ResponseIs side turn log responses.Incomplete → is_open log ≡ false → e ≡ loss_to_connect log → ConnectFailedCause side turn log e
+  BeforeResponse : ResponseIs side turn log responses.Waiting → is_open log ≡ false → e ≡ loss_to_connect log → ConnectFailedCause side turn log e
   AfterSuccess : (fields : Fields) (offset : ℕ) → ResponseIs side turn log (responses.Response fields offset) → has_success fields ≡ true
       → is_open log ≡ false
       → e ≡ connects.ConnectionError (driver_error side log) → ConnectFailedCause side turn log e

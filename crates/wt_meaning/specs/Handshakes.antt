@@ -157,7 +157,7 @@ response_ended _ = false
 
 -- no response came yet
 abbrev pub response_incomplete : ResponseWalk → Bool
-response_incomplete responses.Incomplete = true
+response_incomplete responses.Waiting = true
 response_incomplete _ = false
 
 -- a status from 200 to 299 (draft-ietf-webtrans-http3, section 3.2)

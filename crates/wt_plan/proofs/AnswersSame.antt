@@ -8,7 +8,7 @@ use Rattle.wt_laws.proofs.SessionLaws.{has_request}
 use Rattle.wt_laws.specs.Reachable.{IsReachable}
 use Rattle.wt_proto.specs.declared.response_walk.ResponseWalk.{ResponseWalk}
 use Rattle.wt_proto.specs.declared.verdict.Verdict.{Verdict}
-use Rattle.wt_seam.specs.State.{Refines, TransportState}
+use Rattle.wt_transport.specs.State.{Refines, TransportState}
 use Rattle.wt_seam_spec.specs.Reports.{loss_of}
 use Rattle.wt_seam_spec.specs.Unread.{ReadPosition}
 use Rattle.wt_spec.specs.Answers.{is_first}

@@ -2,11 +2,11 @@
 use Rattle.std.specs.Prelude.{[], ◌%◌, ◌&&◌, ◌+◌, ◌*◌, ◌==◌, ◌∷◌, ◌≡◌, Bool, List, false, if◌then◌else◌, is_some, length, nat_lt, not, suc, true, zero, ℕ}
 use Rattle.std.proofs.Common.{◌∙◌, ap, arith, refl, sym}
 use Rattle.std.proofs.lemmas.Bool.{lt-ltb, ne_eqb}
-use Rattle.wt_seam.proofs.Asking.{refined_sent_count}
-use Rattle.wt_seam.proofs.Fitting.{at-is, count-is, has-is}
-use Rattle.wt_seam.specs.Rules.{sending_half}
-use Rattle.wt_seam.specs.State.{Refines, TransportState, state_of, stream_of}
-use Rattle.wt_seam.specs.Step.{count_now, end_now, may_open_now, next_id_now, sent_now, unread_now}
+use Rattle.wt_transport.proofs.Asking.{refined_sent_count}
+use Rattle.wt_transport.proofs.Fitting.{at-is, count-is, has-is}
+use Rattle.wt_transport.specs.Rules.{sending_half}
+use Rattle.wt_transport.specs.State.{Refines, TransportState, state_of, stream_of}
+use Rattle.wt_transport.specs.Step.{count_now, end_now, may_open_now, next_id_now, sent_now, unread_now}
 use Rattle.wt_seam_spec.specs.Outgoing.{may_open, next_id, streams_allowed}
 use Rattle.wt_seam_spec.specs.Reports.{datagram_fact, end_of, initial_credit}
 use Rattle.wt_seam_spec.specs.Sent.{sent_on}

@@ -2,9 +2,9 @@
 use Rattle.std.specs.Prelude.{◌%◌, ◌-◌, ◌==◌, ◌≡◌, Bool, IsTrue, false, not, true, ℕ}
 use Rattle.std.proofs.Common.{refl}
 use Rattle.std.proofs.lemmas.Bool.{and_parts}
-use Rattle.wt_seam.specs.Rules.{sending_half_now}
-use Rattle.wt_seam.specs.State.{TransportState}
-use Rattle.wt_seam.specs.Step.{can_send_now, credit_now, is_acknowledged_now, is_finished_now, is_reset_now, sent_now, stop_now}
+use Rattle.wt_transport.specs.Rules.{sending_half_now}
+use Rattle.wt_transport.specs.State.{TransportState}
+use Rattle.wt_transport.specs.Step.{can_send_now, credit_now, is_acknowledged_now, is_finished_now, is_reset_now, sent_now, stop_now}
 use Rattle.wt_seam_spec.specs.Streams.{peer_uni}
 use Rattle.wt_streams.specs.StreamState.{has_stream}
 use Rattle.wt_plan.specs.FactsNow.{sending_now}

@@ -4,10 +4,10 @@ use Rattle.std.proofs.Common.{◌∙◌, ap, refl, sym}
 use Rattle.std.proofs.lemmas.Bool.{and_parts}
 use Rattle.wt_message.specs.FixedBytes.{response_bytes}
 use Rattle.wt_proto.specs.declared.response_walk.ResponseWalk.{ResponseWalk}
-use Rattle.wt_seam.proofs.Fitting.{receive-is, send-is}
-use Rattle.wt_seam.proofs.Refining.{refined_unread}
-use Rattle.wt_seam.specs.State.{TransportState}
-use Rattle.wt_seam.specs.Step.{can_receive_now, can_send_now, unread_now}
+use Rattle.wt_transport.proofs.Fitting.{receive-is, send-is}
+use Rattle.wt_transport.proofs.Refining.{refined_unread}
+use Rattle.wt_transport.specs.State.{TransportState}
+use Rattle.wt_transport.specs.Step.{can_receive_now, can_send_now, unread_now}
 use Rattle.wt_seam_spec.specs.Streams.{contents, local_bi}
 use Rattle.wt_seam_spec.specs.Unread.{from_position}
 use Rattle.wt_session_spec.proofs.Theorems.{may_call_theorem, planned_theorem}
@@ -78,7 +78,7 @@ module _ (f : CallFacts) (end : ℕ) (walk : ResponseWalk) (bytes : ℕ → List
   read-walk : (id : ℕ) (own : List Action) (w : ResponseWalk) → response_read other id own w ≡ response_read f id own w
   read-walk id own (responses.Fault code) = refl
   read-walk id own responses.Ended = refl
-  read-walk id own responses.Incomplete = refl
+  read-walk id own responses.Waiting = refl
   read-walk id own (responses.Response fields offset) = refl
 
   module _ (same : walk ≡ f.response) where

@@ -2,8 +2,8 @@
 use Rattle.std.specs.Prelude.{[], ◌∷◌, ◌≡◌, Bool, List, None, Option, Some, false, nat_lt, true, ℕ}
 use Rattle.std.proofs.Common.{refl}
 use Rattle.std.proofs.lemmas.Bool.{and_parts}
-use Rattle.wt_seam.specs.State.{TransportState}
-use Rattle.wt_seam.specs.Step.{count_now, may_open_now, next_id_now, opened_id_now, streams_allowed_now}
+use Rattle.wt_transport.specs.State.{TransportState}
+use Rattle.wt_transport.specs.Step.{count_now, may_open_now, next_id_now, opened_id_now, streams_allowed_now}
 use Rattle.wt_seam_spec.specs.Streams.{local_bi}
 use Rattle.wt_session_spec.specs.HandshakePlans.{failed_connect, left_of, lost_connect, request_left, request_plan}
 use Rattle.wt_turn.specs.declared.action.Action.{Action}

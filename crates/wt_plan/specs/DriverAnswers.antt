@@ -3,7 +3,7 @@ use Rattle.std.specs.Prelude.{Bool, None, Option, Some, ℕ}
 use Rattle.wt_driver_spec.specs.DriverState.{DriverState, requests_now}
 use Rattle.wt_plan.specs.FactsNow.{DriverAnswers}
 use Rattle.wt_proto.specs.declared.response_walk.ResponseWalk.{ResponseWalk}
-use Rattle.wt_seam.specs.State.{TransportState}
+use Rattle.wt_transport.specs.State.{TransportState}
 use Rattle.wt_spec.specs.Effect.{loss_or_local}
 use Rattle.wt_spec.specs.StreamTable.{ByFault, BySession, Ending}
 use Rattle.wt_turn.specs.declared.connection_error.ConnectionError.{ConnectionError}

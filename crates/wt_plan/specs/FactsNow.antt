@@ -1,8 +1,8 @@
 -- What calls ask, by what a transport keeps and what the driver answers.
 use Rattle.std.specs.Prelude.{Bool, List, Option, if◌then◌else◌, is_some, nat_lt, ℕ}
 use Rattle.wt_proto.specs.declared.response_walk.ResponseWalk.{ResponseWalk}
-use Rattle.wt_seam.specs.State.{TransportState}
-use Rattle.wt_seam.specs.Step.{count_now, end_now, may_open_now, next_id_now, sent_now, unread_now}
+use Rattle.wt_transport.specs.State.{TransportState}
+use Rattle.wt_transport.specs.Step.{count_now, end_now, may_open_now, next_id_now, sent_now, unread_now}
 use Rattle.wt_seam_spec.specs.Streams.{local_bi}
 use Rattle.wt_session_spec.specs.CallFacts.{CallFacts}
 use Rattle.wt_spec.specs.Effect.{loss_or_local}

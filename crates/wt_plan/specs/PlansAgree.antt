@@ -3,7 +3,7 @@ use Rattle.std.specs.Prelude.{◌+◌, ◌≡◌, List, Option, is_some, true, �
 use Rattle.wt_plan.specs.FactsNow.{DriverAnswers}
 use Rattle.wt_plan.specs.Table.{TableValue, use_as, use_now}
 use Rattle.wt_proto.specs.ResponseWalk.{response_walk_of}
-use Rattle.wt_seam.specs.State.{Refines, TransportState}
+use Rattle.wt_transport.specs.State.{Refines, TransportState}
 use Rattle.wt_seam_spec.specs.Reports.{datagram_fact, end_of, is_connected}
 use Rattle.wt_seam_spec.specs.Streams.{can_receive, can_send, contents, local_bi}
 use Rattle.wt_seam_spec.specs.Unread.{AtOffset, ReadPosition}

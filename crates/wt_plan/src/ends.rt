@@ -3,7 +3,7 @@ ghost use Rattle.std.specs.Prelude.{◌≡◌, IfOk};
 ghost use Rattle.wt_spec.specs.Effect.{loss_or_local};
 
 use std::alloc::Global;
-use wt_seam::Transport;
+use wt_transport::Transport;
 use wt_turn::connection_error::ConnectionError;
 use wt_wire::error::OutOfMemory;
 

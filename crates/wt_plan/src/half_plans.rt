@@ -3,15 +3,15 @@ ghost use Rattle.std.specs.Prelude.{◌≡◌, ◌∷◌, [], ◌≤◌, IfOk, I
 ghost use Rattle.wt_plan.specs.FactsNow.{DriverAnswers, facts_now};
 ghost use Rattle.wt_plan.specs.Planned.{defined_plan};
 ghost use Rattle.wt_seam_spec.specs.Joined.{send_of};
-ghost use Rattle.wt_seam.specs.Rules.{sending_half_now};
-ghost use Rattle.wt_seam.specs.Step.{can_send_now, unread_now};
+ghost use Rattle.wt_transport.specs.Rules.{sending_half_now};
+ghost use Rattle.wt_transport.specs.Step.{can_send_now, unread_now};
 ghost use Rattle.wt_session_spec.specs.HalfPlans.{bytes_out, finish_actions, finish_plan, finish_reply, priority_plan, priority_reply, read_exact_plan, read_plan, reset_plan, set_priority_plan, stop_plan, stopped_by, stopped_plan, write_all_plan, write_all_reply, write_plan, write_reply};
 ghost use Rattle.wt_streams.specs.HalfRules.{write_refusal};
 ghost use Rattle.wt_turn.specs.declared.action.Action.{Action};
 
 use crate::plan::{Plan, one, with_send};
 use std::alloc::Global;
-use wt_seam::{ClosedStream, StreamWriteError, Transport, WriteAll};
+use wt_transport::{ClosedStream, StreamWriteError, Transport, WriteAll};
 use wt_turn::action::Action;
 use wt_turn::piece::Piece;
 use wt_turn::poll::Poll;

@@ -19,7 +19,7 @@ use crate::heads::{HeadProgress, head_progress, left_of, with_head};
 use crate::plan::{Plan, one, with, with_close};
 use std::alloc::Global;
 use wt_proto::response_walk::ResponseWalk;
-use wt_seam::Transport;
+use wt_transport::Transport;
 use wt_turn::action::Action;
 use wt_turn::connecting_error::ConnectingError;
 use wt_turn::connection_error::{ConnectionError, H3Error};
@@ -271,7 +271,7 @@ fn response_read(
             let error = lost_connect(alloc, t)?;
             abandoned(alloc, t, own, error)
         }
-        ResponseWalk::Incomplete => {
+        ResponseWalk::Waiting => {
             if t.is_open() {
                 return Ok(Plan::send_and_reply(own, Reply::Pending));
             }

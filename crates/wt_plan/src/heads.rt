@@ -2,13 +2,13 @@
 ghost use Rattle.std.specs.Prelude.{◌≡◌, ◌++◌, IfOk, ℕ, drop};
 ghost use Rattle.wt_plan.specs.FactsNow.{sending_now};
 ghost use Rattle.wt_plan.specs.Heads.{progress_as};
-ghost use Rattle.wt_seam.specs.Step.{sent_now};
+ghost use Rattle.wt_transport.specs.Step.{sent_now};
 ghost use Rattle.wt_session_spec.specs.HandshakePlans.{head_actions, head_progress};
 
 use crate::half_plans::covered;
 use crate::plan::with_send;
 use std::alloc::Global;
-use wt_seam::Transport;
+use wt_transport::Transport;
 use wt_turn::action::Action;
 use wt_wire::error::OutOfMemory;
 use wt_wire::ids::StreamId;

@@ -3,14 +3,14 @@ ghost use Rattle.std.specs.Prelude.{◌≡◌, ◌≤◌, IfOk, IsTrue, Ok, Some
 ghost use Rattle.wt_plan.specs.FactsNow.{DriverAnswers, facts_now};
 ghost use Rattle.wt_plan.specs.Planned.{defined_plan};
 ghost use Rattle.wt_turn.specs.Records.{record_of};
-ghost use Rattle.wt_seam.specs.Step.{end_now, unread_now};
+ghost use Rattle.wt_transport.specs.Step.{end_now, unread_now};
 ghost use Rattle.wt_session_spec.specs.HalfPlans.{exact_plan, read_exact_plan, read_plan, read_record, reply_of_read};
 ghost use Rattle.wt_streams.specs.HalfRules.{too_few};
 ghost use Rattle.wt_turn.specs.declared.poll.Poll.TheVariants.{Ready};
 
 use crate::plan::Plan;
 use std::alloc::Global;
-use wt_seam::{StreamReadError, StreamReadExactError, Transport};
+use wt_transport::{StreamReadError, StreamReadExactError, Transport};
 use wt_turn::piece::Piece;
 use wt_turn::poll::Poll;
 use wt_turn::record::Record;

@@ -66,7 +66,7 @@ no-close h code e = rw e refl
 silent-response : (side : Side) (h : History) (own : List Action) (walk : ResponseWalk) → is_open h ≡ false → own ≡ [] → IsSilent (response_rows side h own walk)
 silent-response side h own (responses.Fault code) e n = rw (n, e) refl
 silent-response side h own responses.Ended e n = rw (n, e) refl
-silent-response side h own responses.Incomplete e n = rw (n, e) refl
+silent-response side h own responses.Waiting e n = rw (n, e) refl
 silent-response side h own (responses.Response fields offset) e n =
     after-row (not (is_success (responses.Response fields offset))) _ (own ++ close_if_open h 0) _ (rw (n, e) refl) (rw (n, e) refl)
 

@@ -43,9 +43,9 @@ answered false false e own more = refl
 response-waits : (side : Side) (h : History) (own : List Action) (walk : ResponseWalk) → waits (response_rows side h own walk) ≡ (is_open h && response_incomplete walk)
 response-waits side h own (responses.Fault code) = and-false (is_open h)
 response-waits side h own responses.Ended = and-false (is_open h)
-response-waits side h own responses.Incomplete = by (is_open h) refl
+response-waits side h own responses.Waiting = by (is_open h) refl
   where
-    by : (o : Bool) → is_open h ≡ o → waits (response_rows side h own responses.Incomplete) ≡ (is_open h && true)
+    by : (o : Bool) → is_open h ≡ o → waits (response_rows side h own responses.Waiting) ≡ (is_open h && true)
     by true e = rw e refl
     by false e = rw e refl
 response-waits side h own (responses.Response fields offset) = answered (is_success (responses.Response fields offset)) (is_open h) _ own _

@@ -3,7 +3,7 @@ use Rattle.std.specs.Prelude.{ℕ, ◌+◌, List, Bool, true, false, None, Optio
 use Rattle.wt_wire.specs.declared.error.ErrorCode.{ErrorCode}
 use Rattle.wt_wire.specs.declared.error.ErrorCode.TheVariants.{FrameUnexpected, ExcessiveLoad, Message}
 use Rattle.wt_proto.specs.declared.response_walk.ResponseWalk.{ResponseWalk}
-use Rattle.wt_proto.specs.declared.response_walk.ResponseWalk.TheVariants.{Incomplete, Response, Ended, Fault}
+use Rattle.wt_proto.specs.declared.response_walk.ResponseWalk.TheVariants.{Waiting, Response, Ended, Fault}
 use Rattle.wt_message.specs.declared.session.BadStatus.{BadStatus}
 use Rattle.wt_wire.specs.declared.side.StreamEnd.{StreamEnd}
 use Rattle.wt_wire.specs.declared.side.StreamEnd.TheVariants.{Running, Fin, Reset}
@@ -41,7 +41,7 @@ response_decides offset bytes = step_of_item (response_effect offset) (frames.fr
 
 -- where no response and no fault came before
 abbrev pub response_unfinished : StreamEnd → ℕ → Bool → ResponseWalk
-response_unfinished Running offset between = Incomplete
+response_unfinished Running offset between = Waiting
 response_unfinished Fin offset between = Ended
 response_unfinished (Reset code) offset between = Ended
 
@@ -51,14 +51,14 @@ response_walk_of bytes end = outcome_at response_unfinished end (whole_walk resp
 
 -- an outcome that more bytes and an end don't change
 abbrev pub is_answered : ResponseWalk → Bool
-is_answered Incomplete = false
+is_answered Waiting = false
 is_answered (Response response offset) = true
 is_answered Ended = true
 is_answered (Fault fault) = true
 
 -- a response or a fault: after it no more bytes are taken
 abbrev pub is_response_final : ResponseWalk → Bool
-is_response_final Incomplete = false
+is_response_final Waiting = false
 is_response_final (Response response offset) = true
 is_response_final Ended = false
 is_response_final (Fault fault) = true

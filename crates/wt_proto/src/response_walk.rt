@@ -26,7 +26,7 @@ use wt_wire::side::StreamEnd;
 #[derive(Debug, Drop)]
 pub enum ResponseWalk {
     /// No response came yet.
-    Incomplete,
+    Waiting,
     /// A response, and the offset of the first byte after it.
     Response(SessionResponse, usize),
     /// The stream ended before a response.
@@ -99,7 +99,7 @@ fn ended(end: StreamEnd) -> ResponseWalk
     ensures { (offset : ℕ) (between : Bool) → result ≡ response_unfinished end offset between }
 {
     match end {
-        StreamEnd::Running => ResponseWalk::Incomplete,
+        StreamEnd::Running => ResponseWalk::Waiting,
         StreamEnd::Fin | StreamEnd::Reset(_) => ResponseWalk::Ended,
     }
 }
@@ -147,7 +147,7 @@ impl Walk for ResponseWalk {
 
     fn is_final(walk: &ResponseWalk) -> bool {
         match walk {
-            ResponseWalk::Incomplete | ResponseWalk::Ended => false,
+            ResponseWalk::Waiting | ResponseWalk::Ended => false,
             ResponseWalk::Response(_, _) | ResponseWalk::Fault(_) => true,
         }
     }

@@ -1,16 +1,23 @@
-//! The QUIC transport as the session layer sees it (RFC 9000).
+//! The seam between QUIC and the session layer (RFC 9000): turns, calls, actions and answers, the transport as a core sees it,
+//! and the typed streams over it.
 //!
-//! A [`Transport`] takes what the transport reports of one connection, turn after turn, keeps the bytes
-//! that came in the pieces in which they came, and collects what is to go out. The definitions beside
-//! it say the same of the whole log of a connection.
+//! Nothing is defined here. The words come from wt_turn, the [`Transport`] with its halves from wt_transport, and the typed
+//! streams from wt_typed; this crate is where who attaches a QUIC stack finds all of them.
 #![tactic(auto)]
 
-pub mod halves;
-pub mod transport;
-
-pub use halves::{QuicRecvStream, QuicSendStream};
-pub use transport::Transport;
+pub use wt_transport::{QuicRecvStream, QuicSendStream, Transport, halves, transport};
+pub use wt_turn::proto_error::{IoReadError, ProtoReadError, ProtoWriteError};
 pub use wt_turn::stream_error::{
-    ClosedStream, StreamReadError, StreamReadExactError, StreamWriteError, WriteAll,
+    AlreadyStop, ClosedStream, StreamReadError, StreamReadExactError, StreamWriteError, WriteAll,
+};
+pub use wt_turn::{
+    Action, Actions, Answer, Answers, ApplicationClose, Call, ConnectionClose, DatagramFact,
+    LossReason, Piece, Poll, Reply, Turn, Turns, action, answer, call, close, datagram_fact, loss,
+    piece, poll, proto_error, reply, stream_error, turn,
+};
+pub use wt_typed::{
+    Accepted, Pair, Stream, StreamBiLocalH3, StreamBiLocalQuic, StreamBiLocalWT, StreamBiRemoteH3,
+    StreamBiRemoteQuic, StreamBiRemoteWT, StreamSession, StreamUniLocalH3, StreamUniLocalQuic,
+    StreamUniLocalWT, StreamUniRemoteH3, StreamUniRemoteQuic, StreamUniRemoteWT, accepted, stream,
 };
 pub use wt_wire::side::{Side, StreamEnd};

@@ -14,7 +14,7 @@ use Rattle.wt_laws.proofs.Steps.{Keeps, calls-with, kept-actions, kept-flush}
 use Rattle.wt_laws.specs.Reachable.{IsReachable}
 use Rattle.wt_laws.specs.RecordCauses.{CallCause}
 use Rattle.wt_laws.proofs.There.{given-receives}
-use Rattle.wt_seam.specs.Step.{unread_now}
+use Rattle.wt_transport.specs.Step.{unread_now}
 use Rattle.wt_seam_spec.specs.Streams.{can_receive, local_uni}
 use Rattle.wt_spec.specs.Connection.{accepts_stream}
 use Rattle.wt_spec.specs.Halves.{gives_up, has_receiving_half}

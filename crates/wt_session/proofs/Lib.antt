@@ -1,3 +1,6 @@
+pub mod Over
+pub mod Beginning
+pub mod Connects
 pub mod Delivering
 pub mod Responding
 pub mod Waits

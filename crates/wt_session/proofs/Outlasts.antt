@@ -11,7 +11,7 @@ use Rattle.wt_laws.specs.RecordCauses.{AcceptanceEnded, AcceptanceStopped, Conne
 use Rattle.wt_laws.specs.ReplyCauses.{AfterSuccess, BeforeConnection, BeforeRequest, BeforeResponse, BeforeSettings, BeforeStream, ByRefusal, ByReserved, ByResponseFault, ByStatus, ByStreamEnd, ConnectFailedCause, ConnectionEnded, NoAddress, NoUrl, NotHttps, NotProceeding, RejectedCause, RejectionOver, RejectionRefused}
 use Rattle.wt_plan.proofs.AnswersSame.{request_end_kept}
 use Rattle.wt_plan.specs.PlansAgree.{KeepsRequestEnd}
-use Rattle.wt_connecting.specs.Connecting.{Connect, IsConnecting}
+use Rattle.wt_session.specs.Connecting.{Connect, IsConnecting}
 use Rattle.wt_session.specs.Incoming.{IsUnanswered, Request}
 use Rattle.wt_session.specs.Responding.{IsResponse, Response}
 use Rattle.wt_connection.specs.Staying.{is_past_handshake}

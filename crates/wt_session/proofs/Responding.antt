@@ -3,7 +3,7 @@ use Rattle.std.specs.Prelude.{[], ◌&&◌, ◌∷◌, ◌≡◌, Bool, IfOk, Li
 use Rattle.std.proofs.Common.{◌∙◌, ap, refl, subst, sym}
 use Rattle.wt_session.specs.Incoming.{IsUnanswered, Request, unbegun}
 use Rattle.wt_session.specs.Responding.{IsCallOf, IsPollOf, IsResponse, IsResponseReply, Response, StandsWith, response_state, waiting_record}
-use Rattle.wt_connecting.proofs.Over.{establishes}
+use Rattle.wt_session.proofs.Over.{establishes}
 use Rattle.wt_driver_state.specs.DriverValue.{DriverValue}
 use Rattle.wt_driver_state.specs.Tie.{Follows, uncollected_since}
 use Rattle.wt_laws.proofs.SessionLaws.{has_request}
@@ -16,8 +16,8 @@ use Rattle.wt_plan.specs.Planned.{defined_plan}
 use Rattle.wt_plan.specs.PlansAgree.{KeepsRequestEnd, TellsFacts, driver_facts}
 use Rattle.wt_plan.specs.declared.plan.Plan as code
 use Rattle.wt_laws.proofs.Handshaking.{reached-holds}
-use Rattle.wt_seam.specs.State.{TransportState}
-use Rattle.wt_seam.specs.Step.{unread_now}
+use Rattle.wt_transport.specs.State.{TransportState}
+use Rattle.wt_transport.specs.Step.{unread_now}
 use Rattle.wt_calls.proofs.Ends.{step_delivers}
 use Rattle.wt_session_spec.proofs.Theorems.{planned_theorem}
 use Rattle.wt_session_spec.specs.CallFacts.{CallFacts, facts_of}

@@ -4,7 +4,7 @@ use Rattle.std.proofs.Common.{◌∙◌, ap, refl}
 use Rattle.std.proofs.lemmas.Bool.{and_from, and_parts}
 use Rattle.wt_laws.specs.Reachable.{IsReachable}
 use Rattle.wt_turn.specs.Turns.{is_call}
-use Rattle.wt_connecting.specs.Connecting.{Connect, IsConnecting}
+use Rattle.wt_session.specs.Connecting.{Connect, IsConnecting}
 use Rattle.wt_session.specs.Incoming.{IsUnanswered, Request}
 use Rattle.wt_session.specs.Responding.{IsResponse, Response}
 use Rattle.wt_spec.specs.Answers.{is_client, is_first, is_lawful, log_after, may_call}

@@ -1,2 +1,3 @@
+pub mod Connecting
 pub mod Incoming
 pub mod Responding

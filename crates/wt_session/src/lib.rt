@@ -1,12 +1,12 @@
 //! The public types of a WebTransport session, over a driver: a server's handshake, a client's connect, and the session
 //! that is established with its streams and datagrams.
 //!
-//! The types of a client's connect come from wt_connecting, those of an established session and its datagrams from
-//! wt_connection, and those of its streams' halves from wt_halves. [`endpoint`], [`stream`] and [`error`] gather them as the
-//! Rust crate `wtransport` does.
+//! The types of an established session and its datagrams come from wt_connection, those of its streams' halves from
+//! wt_halves. [`endpoint`], [`stream`] and [`error`] gather all of them as the Rust crate `wtransport` does.
 #![tactic(auto)]
 
 pub mod accepting;
+pub mod connecting;
 pub mod endpoint;
 pub mod error;
 pub mod incoming;
@@ -16,12 +16,11 @@ mod response;
 pub mod stream;
 
 pub use accepting::Accepting;
+pub use connecting::Connecting;
 pub use incoming::{IncomingSession, IncomingSessionFuture, SessionRequest};
 pub use rejecting::Rejecting;
 pub use wt_calls::connect_options;
 pub use wt_calls::connect_options::{ConnectOptions, ConnectRequestBuilder, IntoConnectOptions};
-pub use wt_connecting::connecting;
-pub use wt_connecting::connecting::Connecting;
 pub use wt_connection::connection::Connection;
 pub use wt_connection::datagram::Datagram;
 pub use wt_connection::opening::{OpeningBiStream, OpeningUniStream};
@@ -35,5 +34,6 @@ pub use wt_turn::stream_error::{
     ClosedStream, SendDatagramError, StreamOpeningError, StreamReadError, StreamReadExactError,
     StreamWriteError, WriteAll,
 };
-pub use wt_turn::{ApplicationClose, ConnectionClose, Poll};
-pub use wt_turn::{connecting_error, connection_error, stream_error};
+pub use wt_turn::{
+    ApplicationClose, ConnectionClose, Poll, connecting_error, connection_error, stream_error,
+};

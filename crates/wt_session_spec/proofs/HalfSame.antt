@@ -2,7 +2,7 @@
 use Rattle.std.specs.Prelude.{[], ◌==◌, ◌∷◌, ◌≡◌, Bool, Err, List, None, Ok, Option, Some, false, if◌then◌else◌, length, min, nat_lt, option_map, suc, take, true, zero, ℕ, ℤ}
 use Rattle.std.proofs.Common.{ap, arith, length-take, refl}
 use Rattle.std.proofs.lemmas.Bool.{eq-eqb, ltb-false, ltb-true, ne_eqb}
-use Rattle.wt_seam.specs.Rules.{sending_half}
+use Rattle.wt_transport.specs.Rules.{sending_half}
 use Rattle.wt_seam_spec.specs.Joined.{send_of}
 use Rattle.wt_seam_spec.specs.Outgoing.{credit_left}
 use Rattle.wt_seam_spec.specs.Reports.{end_of, stop_of}

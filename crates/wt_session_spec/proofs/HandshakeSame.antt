@@ -123,7 +123,7 @@ module _ (side : Side) (log : Log) where
   same-read : (id : ℕ) (own : List Action) (walk : ResponseWalk) → read_response side log id own walk ≡ perform side log (response_read (facts_of side log) id own walk)
   same-read id own (responses.Fault code) = refl
   same-read id own responses.Ended = refl
-  same-read id own responses.Incomplete = split (is_open log) _ _ _ _ refl refl
+  same-read id own responses.Waiting = split (is_open log) _ _ _ _ refl refl
   same-read id own (responses.Response fields by) = split (not (has_success fields)) _ _ _ _ refl (split (is_open log) _ _ _ _ refl refl)
 
   same-left : (own : List Action) (left : List ℕ)

@@ -37,7 +37,7 @@ use Rattle.wt_wire.specs.declared.lookup.ConnectOutcome.{ConnectOutcome}
 use Rattle.wt_wire.specs.declared.lookup.Lookup.{Lookup}
 use Rattle.wt_proto.specs.declared.response_walk.ResponseWalk.{ResponseWalk}
 use Rattle.wt_proto.specs.declared.response_walk.ResponseWalk.TheVariants as responses
-use Rattle.wt_seam.specs.Rules.{sending_half}
+use Rattle.wt_transport.specs.Rules.{sending_half}
 use Rattle.wt_seam_spec.specs.Joined.{send_of}
 use Rattle.wt_seam_spec.specs.Outgoing.{may_open, next_id, opened_id}
 use Rattle.wt_seam_spec.specs.Reports.{stop_of}
@@ -169,7 +169,7 @@ module _ (side : Side) (log : Log) where
     read-may : (w : ResponseWalk) → MayPlan side log (response_read (facts_of side log) id own w)
     read-may (responses.Fault code) = closing-after _
     read-may responses.Ended = closing-after 0
-    read-may responses.Incomplete = plan-if (is_open log) (send_and_reply own replies.Pending) (failed_connect own (lost_connect (facts_of side log))) (λ o. m) (λ o. m)
+    read-may responses.Waiting = plan-if (is_open log) (send_and_reply own replies.Pending) (failed_connect own (lost_connect (facts_of side log))) (λ o. m) (λ o. m)
     read-may (responses.Response fields by_case) =
         plan-if (not (has_success fields)) (abandon_plan (facts_of side log) own connects.SessionRejected)
         (if is_open log then Establish own id by_case else failed_connect own (connects.ConnectionError (facts_of side log).driver_error)) (λ e. closing-after 0)

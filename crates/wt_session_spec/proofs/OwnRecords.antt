@@ -12,7 +12,7 @@ use Rattle.wt_message.specs.FixedBytes.{response_bytes}
 use Rattle.wt_proto.specs.ResponseWalk.{response_offset}
 use Rattle.wt_proto.specs.declared.response_walk.ResponseWalk.{ResponseWalk}
 use Rattle.wt_proto.specs.declared.response_walk.ResponseWalk.TheVariants as responses
-use Rattle.wt_seam.specs.Rules.{sending_half}
+use Rattle.wt_transport.specs.Rules.{sending_half}
 use Rattle.wt_seam_spec.specs.Outgoing.{may_open, next_id}
 use Rattle.wt_seam_spec.specs.Reports.{end_of, stop_of}
 use Rattle.wt_seam_spec.specs.Sent.{is_finished}
@@ -133,7 +133,7 @@ module _ (side : Side) (log : Log) where
     read-response : (own : List Action) → IsOpened own → (w : ResponseWalk) → (facts_of side log).response ≡ w → RecordMayBeMade side log (response_read (facts_of side log) (local_bi side) own w)
     read-response own o (responses.Fault code) e = fails (own ++ closing_with (facts_of side log) (code_of code))
     read-response own o responses.Ended e = fails (own ++ closing_with (facts_of side log) 0)
-    read-response own o responses.Incomplete e = plan-if (is_open log) (send_and_reply own replies.Pending) (failed_connect own (lost_connect (facts_of side log))) (λ s. polls own) (λ s. fails own)
+    read-response own o responses.Waiting e = plan-if (is_open log) (send_and_reply own replies.Pending) (failed_connect own (lost_connect (facts_of side log))) (λ s. polls own) (λ s. fails own)
     read-response own o (responses.Response fields offset) e =
         plan-if (not (has_success fields)) (abandon_plan (facts_of side log) own connects.SessionRejected)
         (if is_open log then Establish own (local_bi side) offset else failed_connect own (connects.ConnectionError (facts_of side log).driver_error)) (λ s. fails (own ++ closing_with (facts_of side log) 0))

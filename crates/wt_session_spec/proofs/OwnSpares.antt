@@ -11,7 +11,7 @@ use Rattle.wt_message.specs.Datagram.{datagram_bytes}
 use Rattle.wt_message.specs.FixedBytes.{response_bytes}
 use Rattle.wt_proto.specs.declared.response_walk.ResponseWalk.{ResponseWalk}
 use Rattle.wt_proto.specs.declared.response_walk.ResponseWalk.TheVariants as responses
-use Rattle.wt_seam.specs.Rules.{sending_half}
+use Rattle.wt_transport.specs.Rules.{sending_half}
 use Rattle.wt_seam_spec.specs.Joined.{send_of}
 use Rattle.wt_seam_spec.specs.Outgoing.{may_open, next_id}
 use Rattle.wt_seam_spec.specs.Reports.{stop_of}
@@ -167,7 +167,7 @@ module _ (side : Side) (log : Log) where
   read-apart : (id : ℕ) (own : List Action) → AllApart (local_uni side) own → (w : ResponseWalk) → Apart (response_read (facts_of side log) id own w)
   read-apart id own a (responses.Fault code) = closing-after own (code_of code) a
   read-apart id own a responses.Ended = closing-after own 0 a
-  read-apart id own a responses.Incomplete = plan-if (is_open log) (send_and_reply own replies.Pending) (failed_connect own (lost_connect (facts_of side log))) (λ s. a) (λ s. a)
+  read-apart id own a responses.Waiting = plan-if (is_open log) (send_and_reply own replies.Pending) (failed_connect own (lost_connect (facts_of side log))) (λ s. a) (λ s. a)
   read-apart id own a (responses.Response fields by_case) =
       plan-if (not (has_success fields)) (abandon_plan (facts_of side log) own connects.SessionRejected)
       (if is_open log then Establish own id by_case else failed_connect own (connects.ConnectionError (facts_of side log).driver_error)) (λ s. closing-after own 0 a)

@@ -4,7 +4,7 @@ use Rattle.std.specs.Prelude.{Option, Some, None, is_some, nat_lt, not, ◌&&◌
 use Rattle.std.proofs.lemmas.Bool.{ltb-false}
 use Rattle.std.proofs.lemmas.List.{take_all, length-take}
 use Rattle.wt_seam_spec.specs.Acting.{MayAct, MayActAll}
-use Rattle.wt_seam.specs.Rules.{sending_half}
+use Rattle.wt_transport.specs.Rules.{sending_half}
 use Rattle.wt_seam_spec.specs.Joined.{send_of}
 use Rattle.wt_seam_spec.specs.Outgoing.{credit_left, may_send}
 use Rattle.wt_seam_spec.specs.Reports.{stop_of}

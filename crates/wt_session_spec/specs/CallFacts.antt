@@ -2,7 +2,7 @@
 use Rattle.std.specs.Prelude.{◌==◌, Bool, List, Option, length, not, ℕ}
 use Rattle.wt_proto.specs.ResponseWalk.{response_walk_of}
 use Rattle.wt_proto.specs.declared.response_walk.ResponseWalk.{ResponseWalk}
-use Rattle.wt_seam.specs.Rules.{sending_half}
+use Rattle.wt_transport.specs.Rules.{sending_half}
 use Rattle.wt_seam_spec.specs.Outgoing.{may_open, next_id}
 use Rattle.wt_seam_spec.specs.Reports.{datagram_fact, end_of, is_connected}
 use Rattle.wt_seam_spec.specs.Sent.{sent_on}

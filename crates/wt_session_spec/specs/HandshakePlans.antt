@@ -131,7 +131,7 @@ lost_connect f = connects.ConnectionError f.transport_error
 abbrev pub response_read : CallFacts → ℕ → List Action → ResponseWalk → Plan
 response_read f id own (responses.Fault code) = failed_connect (own ++ closing_with f (code_of code)) (connects.ConnectionError (errors.LocalH3Error code))
 response_read f id own responses.Ended = abandon_plan f own (lost_connect f)
-response_read f id own responses.Incomplete = if f.is_open then send_and_reply own replies.Pending else failed_connect own (lost_connect f)
+response_read f id own responses.Waiting = if f.is_open then send_and_reply own replies.Pending else failed_connect own (lost_connect f)
 response_read f id own (responses.Response fields offset) =
     if not (has_success fields) then abandon_plan f own connects.SessionRejected else
     (if f.is_open then Establish own id offset else failed_connect own (connects.ConnectionError f.driver_error))

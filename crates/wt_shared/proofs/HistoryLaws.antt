@@ -9,9 +9,9 @@ use Rattle.wt_core.proofs.Refining.{asked_lawful, working_may}
 use Rattle.wt_core.specs.CoreState.{CoreState, Refines, may_come_next, may_turn}
 use Rattle.wt_laws.specs.Left.{is_pending}
 use Rattle.wt_laws.specs.Reachable.{AllLawful}
-use Rattle.wt_run.proofs.LawsHold.{laws}
-use Rattle.wt_run.proofs.RunLaws.{run-goes}
-use Rattle.wt_run.specs.Laws.{KeepsLaws}
+use Rattle.wt_core.proofs.LawsHold.{laws}
+use Rattle.wt_core.proofs.RunLaws.{run-goes}
+use Rattle.wt_core.specs.Laws.{KeepsLaws}
 use Rattle.wt_spec.specs.Answers.{Run, answer_to, answers_from, answers_to, is_first, is_lawful, log_after, log_from, run, run_from}
 use Rattle.wt_turn.specs.Log.{Log}
 use Rattle.wt_turn.specs.declared.answer.Answer.{Answer}

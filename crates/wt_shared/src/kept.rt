@@ -1,7 +1,7 @@
 //! What lies under the lock of a shared connection.
 ghost use Rattle.std.specs.Prelude.{◌≡◌, ◌≢◌, ◌<◌, ◌^◌, ◌++◌, ◌∷◌, [], Err, IfOk, IsTrue, OnErr, OnOk, false, length, true};
 ghost use Rattle.wt_core.specs.CoreState.{Refines, may_turn};
-ghost use Rattle.wt_run.specs.Laws.{KeepsLaws};
+ghost use Rattle.wt_core.specs.Laws.{KeepsLaws};
 ghost use Rattle.wt_spec.specs.Answers.{answer_to, is_lawful, log_after};
 ghost use Rattle.wt_turn.specs.Log.{Log};
 ghost use Rattle.wt_turn.specs.declared.call.Call.{Call};

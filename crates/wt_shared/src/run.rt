@@ -10,7 +10,7 @@ use crate::rounds::shared_history;
 use std::alloc::Global;
 use std::sync::Wait;
 use std::thread::Threads;
-use wt_run::trace::{TraceError, run_trace};
+use wt_core::trace::{TraceError, run_trace};
 use wt_trace::command::{StreamCount, read_streams};
 use wt_trace::generate::generate;
 use wt_trace::output::write_all;

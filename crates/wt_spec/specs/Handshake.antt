@@ -168,7 +168,7 @@ abbrev pub read_response : Side → Log → ℕ → List Action → ResponseWalk
 read_response side log id own (responses.Fault code) =
     fail_connect side log (own ++ close_when_open log (code_of code)) (connects.ConnectionError (errors.LocalH3Error code))
 read_response side log id own responses.Ended = abandon side log own (loss_to_connect log)
-read_response side log id own responses.Incomplete =
+read_response side log id own responses.Waiting =
     if is_open log then poll_sending side log own replies.Pending else fail_connect side log own (loss_to_connect log)
 read_response side log id own (responses.Response fields offset) =
     if not (has_success fields) then abandon side log own connects.SessionRejected else

@@ -9,7 +9,7 @@ use Rattle.wt_trace.specs.Command.{command_script}
 use Rattle.wt_trace.specs.Input.{script_limit}
 use Rattle.wt_trace.specs.Outcome.{script_outcome, too_long}
 use Rattle.wt_trace.specs.Program.{AnswersInput, AnswersKeepLaws, is_run_status}
-use Rattle.wt_run.proofs.LawsHold.{laws}
+use Rattle.wt_core.proofs.LawsHold.{laws}
 
 of-script : (command : Command) (left_before left_now took_before took_now : Option (List ℕ)) (input : List ℕ) (b : Bool) (r : Result Script ScriptRefused) → command_script command input ≡ r
     → Consumes left_before left_now input → IsTrue (is_run_status (if b then too_long else script_outcome command r).status) → Appends took_before took_now (if b then too_long else script_outcome command r).text

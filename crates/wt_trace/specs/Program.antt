@@ -3,7 +3,7 @@ use Rattle.std.specs.Prelude.{◌≡◌, ℕ, ◌+◌, ◌≤◌, Bool, ◌==◌
 use Rattle.std.specs.Io.KnownBytes.{Appends, Consumes}
 use Rattle.wt_script.specs.declared.script.Script.{Script}
 use Rattle.wt_spec.specs.Answers.{run}
-use Rattle.wt_run.specs.Laws.{KeepsLaws}
+use Rattle.wt_core.specs.Laws.{KeepsLaws}
 use Rattle.wt_trace.specs.Input.{script_limit}
 use Rattle.wt_trace.specs.declared.command.Command.{Command}
 use Rattle.wt_trace.specs.Command.{command_of, command_script}

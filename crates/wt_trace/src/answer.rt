@@ -14,7 +14,7 @@ use crate::input::SCRIPT_LIMIT;
 use crate::output::{number_line, write_all, write_answers, write_summary};
 use crate::outside::Sink;
 use std::alloc::Global;
-use wt_run::trace::{TraceError, run_trace};
+use wt_core::trace::{TraceError, run_trace};
 use wt_script::script::Script;
 use wt_turn::answer::Answer;
 

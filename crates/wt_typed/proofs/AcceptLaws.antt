@@ -5,8 +5,8 @@ use Rattle.wt_wire.specs.declared.side.Side.{Side}
 use Rattle.wt_wire.specs.declared.side.Side.TheVariants.{Client, Server}
 use Rattle.wt_seam_spec.specs.Streams.{local_uni, peer_bi, peer_uni}
 use Rattle.wt_streams.specs.StreamState.{has_stream}
-use Rattle.wt_seam.specs.State.{TransportState}
-use Rattle.wt_seam.specs.Step.{can_receive_now, can_send_now, count_now}
+use Rattle.wt_transport.specs.State.{TransportState}
+use Rattle.wt_transport.specs.Step.{can_receive_now, can_send_now, count_now}
 use Rattle.wt_typed.specs.declared.accepted.Accepted.{Accepted}
 use Rattle.wt_typed.specs.Accepting.{next_bi, next_uni}
 

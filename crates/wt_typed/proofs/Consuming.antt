@@ -9,8 +9,8 @@ use Rattle.wt_streams.specs.declared.stream.Stream.{Stream}
 use Rattle.wt_streams.specs.Pieces.{skip}
 use Rattle.wt_streams.specs.StreamState.{fresh, row_at, stream_in, stream_at, has_stream, with_changed, changed_in, consume}
 use Rattle.wt_streams.proofs.PieceLaws.{concat_skip}
-use Rattle.wt_seam.specs.State.{TransportState}
-use Rattle.wt_seam.specs.Step.{can_receive_now, after_consume, unread_now, with_change}
+use Rattle.wt_transport.specs.State.{TransportState}
+use Rattle.wt_transport.specs.Step.{can_receive_now, after_consume, unread_now, with_change}
 use Rattle.wt_typed.specs.Reading.{after_taking}
 
 -- ---- lists

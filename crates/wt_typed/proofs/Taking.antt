@@ -10,8 +10,8 @@ use Rattle.wt_proto.specs.WalkProgress.{WalkProgress, progress_over, progress_af
 use Rattle.wt_proto.specs.Steady.{size_of_step, IsSteady}
 use Rattle.wt_proto.proofs.ProgressLaws.{progress-cut, progress-goes, progress-stops, fed-fed, kept-open}
 use Rattle.wt_streams.specs.Pieces.{first_piece}
-use Rattle.wt_seam.specs.State.{TransportState}
-use Rattle.wt_seam.specs.Step.{unread_now}
+use Rattle.wt_transport.specs.State.{TransportState}
+use Rattle.wt_transport.specs.Step.{unread_now}
 use Rattle.wt_typed.specs.Reading.{TookFirst, after_taking}
 
 module _ {S O : Type 0} (decide : S → List ℕ → Step S O) (steady : IsSteady decide) (s : S) (kept : List ℕ) (byte : ℕ) (waits : decide s kept ≡ Cut) where

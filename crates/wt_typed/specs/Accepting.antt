@@ -1,8 +1,8 @@
 -- Which stream of the peer's is accepted next (this repository's rule: in the order in which they were opened).
 use Rattle.std.specs.Prelude.{ℕ, ◌+◌, ◌*◌, ◌^◌, Option, Some, None, Bool, nat_lt, ◌==◌, ◌&&◌, ◌||◌, if◌then◌else◌}
 use Rattle.wt_seam_spec.specs.Streams.{peer_bi, peer_uni}
-use Rattle.wt_seam.specs.State.{TransportState}
-use Rattle.wt_seam.specs.Step.{count_now}
+use Rattle.wt_transport.specs.State.{TransportState}
+use Rattle.wt_transport.specs.Step.{count_now}
 use Rattle.wt_typed.specs.declared.accepted.Accepted.{Accepted}
 
 -- none was accepted

@@ -1,7 +1,7 @@
 -- A half that a stream lends.
 use Rattle.std.specs.Borrow.{Lends, MutBor, Fml}
-use Rattle.wt_seam.specs.declared.halves.QuicRecvStream.{QuicRecvStream}
-use Rattle.wt_seam.specs.contracts.halves.QuicRecvStream as half
+use Rattle.wt_transport.specs.declared.halves.QuicRecvStream.{QuicRecvStream}
+use Rattle.wt_transport.specs.contracts.halves.QuicRecvStream as half
 use Rattle.wt_typed.specs.declared.stream.UniRemoteH3.{UniRemoteH3}
 use Rattle.wt_typed.specs.contracts.stream.UniRemoteH3 as stage
 use Rattle.wt_typed.specs.contracts.stream.Stream as stream

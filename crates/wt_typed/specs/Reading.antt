@@ -12,8 +12,8 @@ use Rattle.wt_proto.specs.declared.walk.Step.{Step}
 use Rattle.wt_proto.specs.WalkProgress.{WalkProgress, IsProper, at_item, progress_after, progress_over, reached_in}
 use Rattle.wt_proto.specs.Steady.{IsSteady}
 use Rattle.wt_proto.specs.Walk.{Reached}
-use Rattle.wt_seam.specs.State.{TransportState}
-use Rattle.wt_seam.specs.Step.{after_consume, unread_now}
+use Rattle.wt_transport.specs.State.{TransportState}
+use Rattle.wt_transport.specs.Step.{after_consume, unread_now}
 
 -- what holds of a reader: its items are decided by their own bytes, and the bytes that it keeps decide nothing yet
 pub record IsReader {S O : Type 0} (decide : S → List ℕ → Step S O) (p : WalkProgress S O) : Type 0 where

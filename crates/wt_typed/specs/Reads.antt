@@ -6,8 +6,8 @@ use Rattle.wt_turn.specs.declared.proto_error.ProtoReadError.{ProtoReadError}
 use Rattle.wt_proto.specs.declared.walk.Step.{Step}
 use Rattle.wt_proto.specs.WalkProgress.{WalkProgress, progress_after, reached_in}
 use Rattle.wt_proto.specs.Walk.{whole_walk}
-use Rattle.wt_seam.specs.State.{TransportState}
-use Rattle.wt_seam.specs.Step.{end_now, unread_now}
+use Rattle.wt_transport.specs.State.{TransportState}
+use Rattle.wt_transport.specs.Step.{end_now, unread_now}
 use Rattle.wt_typed.specs.Reading.{HasBegun, Took, TookFirst, after_read, reached_answer, since_item}
 
 -- a read answers by what its reader reaches with all unread bytes

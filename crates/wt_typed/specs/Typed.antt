@@ -5,11 +5,11 @@ use Rattle.wt_turn.specs.declared.poll.Poll.TheVariants as polls
 use Rattle.wt_turn.specs.declared.stream_error.AlreadyStop.{AlreadyStop}
 use Rattle.wt_wire.specs.declared.frame.FrameKind.TheVariants as kinds
 use Rattle.wt_wire.specs.FrameBytes.{frame_bytes}
-use Rattle.wt_seam.specs.declared.halves.QuicSendStream.{QuicSendStream}
-use Rattle.wt_seam.specs.declared.halves.QuicRecvStream.{QuicRecvStream}
-use Rattle.wt_seam.specs.State.{TransportState}
-use Rattle.wt_seam.specs.Step.{can_receive_now, can_send_now, after_give_up, after_stop}
-use Rattle.wt_seam.specs.Rules.{may_write_now}
+use Rattle.wt_transport.specs.declared.halves.QuicSendStream.{QuicSendStream}
+use Rattle.wt_transport.specs.declared.halves.QuicRecvStream.{QuicRecvStream}
+use Rattle.wt_transport.specs.State.{TransportState}
+use Rattle.wt_transport.specs.Step.{can_receive_now, can_send_now, after_give_up, after_stop}
+use Rattle.wt_transport.specs.Rules.{may_write_now}
 use Rattle.wt_typed.specs.declared.next_frame.FrameSource.{FrameSource}
 use Rattle.wt_typed.specs.declared.next_frame.FrameSource.TheVariants as sources
 use Rattle.wt_typed.specs.declared.uni_header.UniHeader.{UniHeader}

@@ -3,7 +3,7 @@ ghost use Rattle.std.specs.Prelude.{◌≡◌, ◌≤◌, ◌<◌, ◌^◌, IsTr
 ghost use Rattle.wt_seam_spec.specs.Streams.{peer_bi, peer_uni};
 ghost use Rattle.wt_typed.specs.Accepting.{accepted_bi, accepted_uni, is_peer, next_bi, next_peer, next_uni, nothing_accepted};
 
-use wt_seam::Transport;
+use wt_transport::Transport;
 use wt_wire::ids::StreamId;
 use wt_wire::side::Side;
 use wt_wire::varint::VarInt;

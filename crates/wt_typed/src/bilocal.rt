@@ -2,8 +2,8 @@
 ghost use Rattle.std.specs.Prelude.{◌≡◌, ◌↔◌, ◌%◌, IfOk, IsTrue, OnErr, OnOk, false, true};
 ghost use Rattle.wt_proto.specs.WalkProgress.{at_item};
 ghost use Rattle.wt_seam_spec.specs.Streams.{local_bi};
-ghost use Rattle.wt_seam.specs.Rules.{after_write, sending_half_now};
-ghost use Rattle.wt_seam.specs.Step.{after_opening, opened_id_now};
+ghost use Rattle.wt_transport.specs.Rules.{after_write, sending_half_now};
+ghost use Rattle.wt_transport.specs.Step.{after_opening, opened_id_now};
 ghost use Rattle.wt_typed.specs.declared.next_frame.FrameSource.TheVariants as sources;
 ghost use Rattle.wt_typed.specs.Typed.{both, can_write_now, in_stage, is_through, map_poll, signal_bytes};
 ghost use Rattle.wt_typed.specs.Writing.{Continues, WritesPrefix, after_pending, is_begun, nothing_begun, pending_answer, rest, write_of};
@@ -16,7 +16,7 @@ use crate::stream::{
 };
 use std::alloc::Global;
 use wt_proto::session::SessionRequest;
-use wt_seam::{QuicRecvStream, QuicSendStream, Transport};
+use wt_transport::{QuicRecvStream, QuicSendStream, Transport};
 use wt_turn::poll::Poll;
 use wt_turn::proto_error::ProtoWriteError;
 use wt_wire::error::OutOfMemory;

@@ -1,7 +1,7 @@
 //! Bidirectional streams that the peer opened.
 ghost use Rattle.std.specs.Prelude.{◌≡◌, ◌%◌, IfOk, IfSome, IsTrue, OnErr, OnOk, false, true};
 ghost use Rattle.wt_proto.specs.WalkProgress.{at_item};
-ghost use Rattle.wt_seam.specs.Step.{can_receive_now};
+ghost use Rattle.wt_transport.specs.Step.{can_receive_now};
 ghost use Rattle.wt_typed.specs.declared.next_frame.FrameSource.TheVariants as sources;
 ghost use Rattle.wt_typed.specs.Accepting.{accepted_bi, next_bi};
 ghost use Rattle.wt_typed.specs.NextFrame.{frame_decides, session_reading};
@@ -18,7 +18,7 @@ use crate::stream::{
 };
 use std::alloc::Global;
 use wt_proto::session::SessionRequest;
-use wt_seam::{QuicRecvStream, QuicSendStream, Transport};
+use wt_transport::{QuicRecvStream, QuicSendStream, Transport};
 use wt_turn::poll::Poll;
 use wt_turn::proto_error::ProtoReadError;
 use wt_turn::stream_error::AlreadyStop;

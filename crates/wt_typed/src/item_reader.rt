@@ -5,14 +5,14 @@ ghost use Rattle.wt_wire.specs.declared.error.ErrorCode.{ErrorCode};
 ghost use Rattle.wt_proto.specs.declared.walk.Step.{Step};
 ghost use Rattle.wt_proto.specs.WalkProgress.{Advances, at_item, progress_over, reached_in};
 ghost use Rattle.wt_proto.specs.Steady.{IsSteady};
-ghost use Rattle.wt_seam.specs.Step.{can_receive_now, unread_now};
+ghost use Rattle.wt_transport.specs.Step.{can_receive_now, unread_now};
 ghost use Rattle.wt_typed.specs.Reading.{Took, after_read, answer_at_end, is_over, reached_answer};
 ghost use Rattle.wt_typed.specs.Reads.{FailedReadTakes, ReadAnswers, ReadAnswersSince, ReadLeaves, ReadTakes};
 
 use std::alloc::Global;
 use std::marker::Model;
 use wt_proto::walk::Step;
-use wt_seam::Transport;
+use wt_transport::Transport;
 use wt_turn::poll::Poll;
 use wt_turn::proto_error::{IoReadError, ProtoReadError};
 use wt_wire::error::{ErrorCode, OutOfMemory};

@@ -2,15 +2,15 @@
 ghost use Rattle.std.specs.Prelude.{◌≡◌, ◌↔◌, ◌<◌, ◌≤◌, [], length, IfOk, IsTrue, OnErr, OnOk};
 ghost use Rattle.wt_proto.specs.StreamHeader.{header_bytes};
 ghost use Rattle.wt_wire.specs.FrameBytes.{frame_bytes};
-ghost use Rattle.wt_seam.specs.Rules.{after_write, may_write_now, sending_half_now};
-ghost use Rattle.wt_seam.specs.Step.{can_send_now};
+ghost use Rattle.wt_transport.specs.Rules.{after_write, may_write_now, sending_half_now};
+ghost use Rattle.wt_transport.specs.Step.{can_send_now};
 ghost use Rattle.wt_typed.specs.Writing.{Continues, WritesPrefix, after_pending, is_begun, nothing_begun, pending_answer, rest, write_of};
 ghost use Rattle.wt_typed.specs.Typed.{can_write_now, signal_bytes};
 
 use std::alloc::Global;
 use std::marker::Model;
 use wt_proto::stream_header::StreamHeader;
-use wt_seam::{QuicSendStream, StreamWriteError, Transport, WriteAll};
+use wt_transport::{QuicSendStream, StreamWriteError, Transport, WriteAll};
 use wt_turn::poll::Poll;
 use wt_turn::proto_error::ProtoWriteError;
 use wt_wire::error::OutOfMemory;

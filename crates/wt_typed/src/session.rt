@@ -2,8 +2,8 @@
 ghost use Rattle.std.specs.Prelude.{◌≡◌, ◌↔◌, IfOk, IsTrue, OnErr, OnOk, true};
 ghost use Rattle.wt_wire.specs.FrameBytes.{frame_bytes};
 ghost use Rattle.wt_streams.specs.HalfRules.{finish_answer, reset_answer};
-ghost use Rattle.wt_seam.specs.Rules.{after_finishing, after_reset_unless_closed, after_write, sending_half_now};
-ghost use Rattle.wt_seam.specs.Step.{can_receive_now, can_send_now};
+ghost use Rattle.wt_transport.specs.Rules.{after_finishing, after_reset_unless_closed, after_write, sending_half_now};
+ghost use Rattle.wt_transport.specs.Step.{can_receive_now, can_send_now};
 ghost use Rattle.wt_typed.specs.declared.next_frame.FrameSource.TheVariants as sources;
 ghost use Rattle.wt_typed.specs.NextFrame.{frame_decides};
 ghost use Rattle.wt_typed.specs.Reads.{FailedReadTakes, ReadAnswers, ReadAnswersSince, ReadLeaves, ReadLeavesBegun, ReadTakes};
@@ -12,7 +12,7 @@ ghost use Rattle.wt_typed.specs.Writing.{Continues, WritesPrefix, after_pending,
 
 use crate::stream::{Pair, Session, Stream, can_write, stop_once};
 use wt_proto::session::SessionRequest;
-use wt_seam::{ClosedStream, Transport};
+use wt_transport::{ClosedStream, Transport};
 use wt_turn::poll::Poll;
 use wt_turn::proto_error::{ProtoReadError, ProtoWriteError};
 use wt_turn::stream_error::AlreadyStop;

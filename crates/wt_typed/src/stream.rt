@@ -9,7 +9,7 @@
 //!             StreamUniLocalQuic  --the header is out--> StreamUniLocalH3   --> StreamUniLocalWT
 //! ```
 ghost use Rattle.std.specs.Prelude.{◌≡◌, ◌%◌, IfOk, OnErr, OnOk, IsTrue, true};
-ghost use Rattle.wt_seam.specs.Step.{can_receive_now};
+ghost use Rattle.wt_transport.specs.Step.{can_receive_now};
 ghost use Rattle.wt_typed.specs.Typed.{after_stop_once, can_write_now, stop_answer};
 
 use crate::next_frame::FrameReader;
@@ -18,7 +18,7 @@ use crate::uni_header::{HeaderReader, UniHeader};
 use std::marker::Model;
 use wt_proto::session::SessionRequest;
 use wt_proto::stream_header::StreamKind;
-use wt_seam::{QuicRecvStream, QuicSendStream, Transport};
+use wt_transport::{QuicRecvStream, QuicSendStream, Transport};
 use wt_turn::stream_error::AlreadyStop;
 use wt_wire::error::OutOfMemory;
 use wt_wire::ids::{SessionId, StreamId};

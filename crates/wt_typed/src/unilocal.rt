@@ -5,8 +5,8 @@ ghost use Rattle.wt_proto.specs.declared.stream_header.StreamKind.TheVariants as
 ghost use Rattle.wt_wire.specs.FrameBytes.{frame_bytes};
 ghost use Rattle.wt_seam_spec.specs.Streams.{local_uni};
 ghost use Rattle.wt_streams.specs.HalfRules.{stopped_answer};
-ghost use Rattle.wt_seam.specs.Rules.{after_write, sending_half_now};
-ghost use Rattle.wt_seam.specs.Step.{after_opening, can_send_now, opened_id_now};
+ghost use Rattle.wt_transport.specs.Rules.{after_write, sending_half_now};
+ghost use Rattle.wt_transport.specs.Step.{after_opening, can_send_now, opened_id_now};
 ghost use Rattle.wt_typed.specs.Typed.{can_write_now, in_stage, is_through, map_poll};
 ghost use Rattle.wt_typed.specs.Writing.{Continues, WritesPrefix, after_pending, is_begun, nothing_begun, pending_answer, rest, write_of};
 
@@ -16,7 +16,7 @@ use crate::stream::{
 };
 use std::alloc::Global;
 use wt_proto::stream_header::{StreamHeader, StreamKind};
-use wt_seam::{QuicSendStream, StreamWriteError, Transport};
+use wt_transport::{QuicSendStream, StreamWriteError, Transport};
 use wt_turn::poll::Poll;
 use wt_turn::proto_error::ProtoWriteError;
 use wt_wire::error::OutOfMemory;

@@ -4,7 +4,7 @@ ghost use Rattle.std.specs.Borrow.{sem};
 ghost use Rattle.wt_proto.specs.WalkProgress.{at_item, progress_after, reached_in};
 ghost use Rattle.wt_proto.specs.Walk.{whole_walk};
 ghost use Rattle.wt_proto.specs.declared.stream_header.StreamKind.TheVariants as kinds;
-ghost use Rattle.wt_seam.specs.Step.{can_receive_now, end_now, unread_now};
+ghost use Rattle.wt_transport.specs.Step.{can_receive_now, end_now, unread_now};
 ghost use Rattle.wt_typed.specs.declared.uni_header.UniHeader.TheVariants as headers;
 ghost use Rattle.wt_typed.specs.Accepting.{accepted_uni, next_uni};
 ghost use Rattle.wt_typed.specs.Lending.{LendsHalf};
@@ -22,7 +22,7 @@ use crate::stream::{
 use crate::uni_header::{HeaderReader, UniHeader};
 use std::alloc::Global;
 use wt_proto::stream_header::StreamKind;
-use wt_seam::{QuicRecvStream, Transport};
+use wt_transport::{QuicRecvStream, Transport};
 use wt_turn::poll::Poll;
 use wt_turn::proto_error::ProtoReadError;
 use wt_wire::error::OutOfMemory;

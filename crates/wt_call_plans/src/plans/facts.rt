@@ -10,7 +10,7 @@ use super::in_session::Established;
 use std::alloc::Global;
 use wt_driver::driver::Driver;
 use wt_plan::ends::transport_error;
-use wt_seam::Transport;
+use wt_transport::Transport;
 use wt_turn::connection_error::{ConnectionError, H3Error};
 use wt_turn::driver_error::DriverError;
 use wt_wire::error::OutOfMemory;

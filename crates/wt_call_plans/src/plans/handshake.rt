@@ -25,7 +25,7 @@ use wt_plan::handshake_plans;
 use wt_plan::plan::Plan;
 use wt_plan::session_table::{Handshake, SessionTable};
 use wt_proto::response_walk::ResponseWalk;
-use wt_seam::Transport;
+use wt_transport::Transport;
 use wt_turn::connection_error::ConnectionError;
 use wt_turn::piece::Piece;
 use wt_turn::record::Record;

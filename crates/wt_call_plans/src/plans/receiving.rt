@@ -11,7 +11,7 @@ use wt_plan::given_halves::has_receiving;
 use wt_plan::plan::Plan;
 use wt_plan::session_table::SessionTable;
 use wt_plan::{half_plans, read_plans};
-use wt_seam::Transport;
+use wt_transport::Transport;
 use wt_turn::reply::Reply;
 use wt_wire::error::OutOfMemory;
 use wt_wire::ids::StreamId;

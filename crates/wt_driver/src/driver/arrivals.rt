@@ -13,7 +13,7 @@ ghost use Rattle.wt_turn.specs.Log.{Event, Log, is_open};
 ghost use Rattle.wt_turn.specs.declared.action.Action.{Action};
 ghost use Rattle.wt_wire.specs.declared.side.Side.{Side};
 ghost use Rattle.wt_seam_spec.specs.Streams.{peer_bi, peer_uni};
-ghost use Rattle.wt_seam.specs.Step.{fits_now};
+ghost use Rattle.wt_transport.specs.Step.{fits_now};
 ghost use Rattle.wt_inbox.specs.State.{peer_bis_now, peer_unis_now};
 ghost use Rattle.wt_driver_spec.specs.Step.{new_slot};
 ghost use Rattle.wt_driver_state.specs.DriverValue.{with_state};

@@ -145,7 +145,7 @@ pub fn register(rt: &impl Abort, driver: &mut Driver, id: StreamId, offset: usiz
 /// How many bytes the response has, where it is there; a stream that ended without one is reported as a rejection.
 pub fn response(rt: &impl Abort, driver: &mut Driver) -> Reply {
     match driver.response(stream(0)).expect(rt, "no memory") {
-        ResponseWalk::Incomplete => Reply::Pending,
+        ResponseWalk::Waiting => Reply::Pending,
         ResponseWalk::Response(_, offset) => Reply::Count(offset as u64),
         ResponseWalk::Ended => Reply::Rejected,
         ResponseWalk::Fault(code) => Reply::Failed(ended(DriverError::Proto(code))),

@@ -6,7 +6,7 @@ ghost use Rattle.wt_seam_spec.specs.Arrivals.{log_turn};
 ghost use Rattle.wt_seam_spec.specs.Joined.{joined_actions, newest_first};
 ghost use Rattle.wt_seam_spec.specs.Outgoing.{credit_left, if_open, opened_id, actions_to_open, reset_entry, actions_to_send};
 ghost use Rattle.wt_seam_spec.specs.Streams.{local_bi, local_uni};
-ghost use Rattle.wt_seam.specs.Step.{after_bytes, after_close, after_consume, after_dial, after_finish, after_give_up, after_opening, after_priority, after_reset, after_send, after_stop, after_turn, can_receive_now, can_send_now, covered_now, fits_now, may_receive_now, may_send_now, opened_id_now, unread_now, with_action};
+ghost use Rattle.wt_transport.specs.Step.{after_bytes, after_close, after_consume, after_dial, after_finish, after_give_up, after_opening, after_priority, after_reset, after_send, after_stop, after_turn, can_receive_now, can_send_now, covered_now, fits_now, may_receive_now, may_send_now, opened_id_now, unread_now, with_action};
 ghost use Rattle.wt_inbox.specs.OfLog.{OfEachLog, SendsIfOk, Tells, TellsAt};
 ghost use Rattle.wt_inbox.specs.Quiet.{quiet};
 ghost use Rattle.wt_inbox.specs.State.{SameAt, with_transport};

@@ -8,7 +8,7 @@ ghost use Rattle.wt_seam_spec.specs.Reports.{credit, datagram_fact, end_of, is_c
 ghost use Rattle.wt_seam_spec.specs.Sent.{sent_on};
 ghost use Rattle.wt_seam_spec.specs.Arrivals.{fits};
 ghost use Rattle.wt_seam_spec.specs.Outgoing.{may_send};
-ghost use Rattle.wt_seam.specs.Step.{can_receive_now, can_send_now, credit_now, end_now, fits_now, may_receive_now, may_send_now, sent_now, stop_now, unread_now};
+ghost use Rattle.wt_transport.specs.Step.{can_receive_now, can_send_now, credit_now, end_now, fits_now, may_receive_now, may_send_now, sent_now, stop_now, unread_now};
 ghost use Rattle.wt_inbox.specs.OfLog.{Tells, TellsAt};
 ghost use Rattle.wt_inbox.specs.State.{control_credit_now, control_stopped_now, may_open_uni_now, peer_bis_now, peer_unis_now, ready_now};
 ghost use Rattle.wt_inbox.specs.Stage.{body_offset};

@@ -11,7 +11,7 @@ ghost use Rattle.wt_proto.specs.SessionWalk.{is_over, session_unfinished, sessio
 ghost use Rattle.wt_proto.specs.ResponseWalk.{is_answered, response_unfinished, response_walk_of};
 ghost use Rattle.wt_seam_spec.specs.Streams.{contents};
 ghost use Rattle.wt_seam_spec.specs.Reports.{end_of};
-ghost use Rattle.wt_seam.specs.Step.{unread_now};
+ghost use Rattle.wt_transport.specs.Step.{unread_now};
 ghost use Rattle.wt_inbox.specs.OfLog.{OfEachLog, TellsAt};
 ghost use Rattle.wt_inbox.specs.KeptReaders.{is_kept, reading_of};
 ghost use Rattle.wt_inbox.specs.Moves.{BiFed, BiPulled, BiRemoved, ControlFed, ControlPulled, ResponsePulled, ResponseRemoved, SessionFed, SessionPulled, SessionRemoved, UniFed, UniPulled, UniRemoved};
@@ -385,7 +385,7 @@ impl Inbox {
     {
         match self.responses.outcome(id) {
             Some(outcome) => copy_walk(self.alloc, outcome),
-            None => Ok(ResponseWalk::Incomplete),
+            None => Ok(ResponseWalk::Waiting),
         }
     }
 
@@ -449,5 +449,5 @@ impl Inbox {
 fn is_answered(walk: &ResponseWalk) -> bool
     ensures { result ≡ is_answered walk.now }
 {
-    !matches!(walk, ResponseWalk::Incomplete)
+    !matches!(walk, ResponseWalk::Waiting)
 }

@@ -1,8 +1,8 @@
 //! Calls of a transport and of the halves of its streams, with ample memory.
 use std::alloc::Global;
 use std::process::Abort;
-use wt_seam::halves::{QuicRecvStream, QuicSendStream};
-use wt_seam::transport::Transport;
+use wt_transport::halves::{QuicRecvStream, QuicSendStream};
+use wt_transport::transport::Transport;
 use wt_turn::call::Call;
 use wt_turn::piece::Piece;
 use wt_turn::poll::Poll;

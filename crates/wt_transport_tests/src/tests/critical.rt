@@ -8,7 +8,7 @@ use wt_critical::qpack::{RemoteQPackDecStream, RemoteQPackEncStream};
 use wt_critical::settings::{LocalSettingsStream, RemoteSettingsStream, RemoteSettingsWatcher};
 use wt_proto::settings::SettingId;
 use wt_proto::stream_header::StreamKind;
-use wt_seam::Transport;
+use wt_transport::Transport;
 use wt_turn::poll::Poll;
 use wt_typed::{StreamSession, StreamUniLocalH3, StreamUniRemoteH3};
 

@@ -4,7 +4,7 @@ use std::alloc::Global;
 use std::process::Abort;
 use wt_script::print::print_answer;
 use wt_script::script::lines::read_turn;
-use wt_seam::transport::Transport;
+use wt_transport::transport::Transport;
 use wt_turn::action::Actions;
 use wt_turn::answer::Answer;
 use wt_turn::reply::Reply;

@@ -13,7 +13,7 @@ use std::fmt::Debug;
 use std::process::Abort;
 use wt_script::print::print_answer;
 use wt_script::script::lines::read_turn;
-use wt_seam::Transport;
+use wt_transport::Transport;
 use wt_turn::{Answer, Reply, Turn};
 use wt_wire::ids::StreamId;
 use wt_wire::side::Side;

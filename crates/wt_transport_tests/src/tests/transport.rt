@@ -1,7 +1,7 @@
 //! What the contracts leave open: that memory suffices where there is enough.
 use crate::tests::rows::{plays, repeats, server, stream};
 use std::process::Abort;
-use wt_seam::transport::Transport;
+use wt_transport::transport::Transport;
 use wt_wire::ids::StreamId;
 
 fn send(rt: &impl Abort, transport: &mut Transport, id: StreamId, bytes: &[u8]) -> usize {

@@ -5,7 +5,7 @@ use std::fmt::Debug;
 use std::process::Abort;
 use wt_proto::session::SessionRequest;
 use wt_proto::stream_header::StreamHeader;
-use wt_seam::Transport;
+use wt_transport::Transport;
 use wt_turn::poll::Poll;
 use wt_typed::{
     Accepted, StreamBiLocalH3, StreamBiLocalQuic, StreamBiLocalWT, StreamBiRemoteH3,

@@ -1,6 +1,6 @@
 use Rattle.std.proofs.Common.{arith, ◌≡◌, ◌<◌, ◌≤◌, ◌+◌, ℕ, Bool, true, false, length, refl}
 use Rattle.std.specs.Prelude.{if◌then◌else◌}
-use Rattle.wt_seam.specs.Step.{unread_now}
+use Rattle.wt_transport.specs.Step.{unread_now}
 use Rattle.wt_critical.proofs.ReadOn.{reads-fewer, reads-run, reads-twice, all-reading, all-state}
 use Rattle.wt_critical.proofs.reading.read_pieces.Goals as goal
 

@@ -1,7 +1,7 @@
 use Rattle.std.proofs.Common.{◌≡◌, ℕ, [], false, length, ◌+◌}
 use Rattle.std.specs.Prelude.{if◌then◌else◌}
 use Rattle.wt_wire.specs.declared.side.StreamEnd.TheVariants.{Running}
-use Rattle.wt_seam.specs.Step.{unread_now}
+use Rattle.wt_transport.specs.Step.{unread_now}
 use Rattle.wt_critical.specs.Reading.{ReadsSome}
 use Rattle.wt_critical.proofs.reading.read_pieces.Given as goal
 

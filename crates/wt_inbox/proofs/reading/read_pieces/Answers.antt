@@ -1,8 +1,8 @@
 use Rattle.std.proofs.Common.{arith, ◌≡◌, ◌<◌, ◌+◌, ◌-◌, ℕ, Bool, true, false, length, ap, ◌∙◌, refl}
 use Rattle.std.specs.Prelude.{if◌then◌else◌}
 use Rattle.std.proofs.lemmas.List.{length-drop}
-use Rattle.wt_seam.specs.State.{TransportState}
-use Rattle.wt_seam.specs.Step.{unread_now}
+use Rattle.wt_transport.specs.State.{TransportState}
+use Rattle.wt_transport.specs.Step.{unread_now}
 use Rattle.wt_inbox.specs.KeptReaders.{Consumes}
 use Rattle.wt_inbox.proofs.ReadOn.{takes-twice}
 use Rattle.wt_inbox.proofs.reading.read_pieces.Goals as goal

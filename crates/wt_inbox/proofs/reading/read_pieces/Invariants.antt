@@ -1,7 +1,7 @@
 use Rattle.std.proofs.Common.{◌≡◌, ◌⊎◌, ℕ, [], true, false, length, ◌+◌}
 use Rattle.std.specs.Prelude.{if◌then◌else◌}
 use Rattle.wt_proto.specs.Reading.{outcome_in}
-use Rattle.wt_seam.specs.Step.{unread_now}
+use Rattle.wt_transport.specs.Step.{unread_now}
 use Rattle.wt_inbox.specs.KeptReaders.{Takes}
 use Rattle.wt_inbox.proofs.reading.read_pieces.Given as goal
 

@@ -1,6 +1,6 @@
 -- What is left of the header is what the definitions say.
 use Rattle.std.proofs.Common.{◌≡◌, ◌∙◌, IfOk, List, ap, drop, subst, ℕ}
-use Rattle.wt_seam.specs.Step.{sent_now}
+use Rattle.wt_transport.specs.Step.{sent_now}
 use Rattle.wt_session_spec.specs.ConnectionPlans.{header_left}
 use Rattle.wt_spec.specs.Connection.{stream_header}
 use Rattle.wt_plan.specs.FactsNow.{facts_now}

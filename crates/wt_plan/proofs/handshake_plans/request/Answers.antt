@@ -1,6 +1,6 @@
 -- The request's stream is open, or is opened now.
 use Rattle.std.proofs.Common.{[], ◌≡◌, ◌∙◌, IfOk, Some, ap, drop, false, nat_lt, refl, subst, sym, true, ℕ}
-use Rattle.wt_seam.specs.Step.{count_now, opened_id_now, sent_now}
+use Rattle.wt_transport.specs.Step.{count_now, opened_id_now, sent_now}
 use Rattle.wt_seam_spec.specs.Streams.{local_bi}
 use Rattle.wt_session_spec.specs.HandshakePlans.{failed_connect, lost_connect}
 use Rattle.wt_session_spec.specs.Plan.{Plan}

@@ -1,7 +1,7 @@
 -- The request goes on, or only its response matters.
 use Rattle.std.proofs.Common.{◌≡◌, ◌∙◌, Bool, IfOk, List, ap, false, subst, sym, true, ℕ}
 use Rattle.std.specs.Prelude.{if◌then◌else◌}
-use Rattle.wt_seam.specs.State.{TransportState}
+use Rattle.wt_transport.specs.State.{TransportState}
 use Rattle.wt_session_spec.specs.Plan.{Plan}
 use Rattle.wt_turn.specs.declared.action.Action.{Action}
 use Rattle.wt_session_spec.specs.HandshakePlans.{HeadProgress, actions_of_head, head_actions, head_progress, head_progress_of, request_sent, response_read}

@@ -1,6 +1,6 @@
 -- What is left of the response is what the definitions say.
 use Rattle.std.proofs.Common.{◌≡◌, ◌∙◌, IfOk, List, ap, drop, subst, ℕ}
-use Rattle.wt_seam.specs.Step.{sent_now}
+use Rattle.wt_transport.specs.Step.{sent_now}
 use Rattle.wt_session_spec.specs.HandshakePlans.{response_left}
 use Rattle.wt_plan.specs.FactsNow.{facts_now}
 use Rattle.wt_plan.specs.Planned.{defined_plan}

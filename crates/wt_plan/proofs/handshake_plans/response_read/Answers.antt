@@ -17,7 +17,7 @@ pub returns-in_ok-error-in-Ended : goal.returns-in_ok-error-in-Ended
 returns-in_ok-error-in-Ended c = λ d e.
     rw c.in-Ended.is (subst (λ (x : ConnectingError). IfOk c.abandoned.result (λ p. defined_plan p ≡ abandon_plan (facts_now c.args.t.now d) c.args.own.items x)) (c.in_ok-error-in-Ended.ensures d) (c.abandoned.ensures d))
 
-pub returns-in_ok-lost_connect-in-Incomplete : goal.returns-in_ok-lost_connect-in-Incomplete
-returns-in_ok-lost_connect-in-Incomplete c = λ d e.
-    let o : c.args.t.now.is_open ≡ false = sym c.is_open-in-Incomplete.ensures.now ∙ c.if-is_open.false in
-    rw (c.in-Incomplete.is, o, ← c.in_ok-lost_connect-in-Incomplete.ensures d) c.failed_connect-in-Incomplete.ensures
+pub returns-in_ok-lost_connect-in-Waiting : goal.returns-in_ok-lost_connect-in-Waiting
+returns-in_ok-lost_connect-in-Waiting c = λ d e.
+    let o : c.args.t.now.is_open ≡ false = sym c.is_open-in-Waiting.ensures.now ∙ c.if-is_open.false in
+    rw (c.in-Waiting.is, o, ← c.in_ok-lost_connect-in-Waiting.ensures d) c.failed_connect-in-Waiting.ensures

@@ -1,7 +1,7 @@
 -- With too few bytes the rule says so.
 use Rattle.std.proofs.Common.{◌≡◌, length, nat_lt, true, arith}
 use Rattle.std.proofs.lemmas.Bool.{lt-ltb}
-use Rattle.wt_seam.specs.Step.{unread_now}
+use Rattle.wt_transport.specs.Step.{unread_now}
 use Rattle.wt_plan.proofs.read_plans.read_exact.Goals as goal
 
 pub returns-then-unread-size : goal.returns-then-unread-size

@@ -1,4 +1,4 @@
-use Rattle.wt_connecting.proofs.Over.{over_may}
+use Rattle.wt_session.proofs.Over.{over_may}
 use Rattle.wt_session.proofs.incoming.fail.Goals as goal
 
 pub returns-clause-log : goal.returns-clause-log

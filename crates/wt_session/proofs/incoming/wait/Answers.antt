@@ -4,7 +4,7 @@ use Rattle.wt_session.proofs.incoming.wait.Goals as goal
 use Rattle.wt_driver_state.specs.Tie.{Follows}
 use Rattle.wt_inbox.specs.State.{InboxState}
 use Rattle.wt_plan.specs.DriverAnswers.{error_now}
-use Rattle.wt_seam.specs.State.{TransportState}
+use Rattle.wt_transport.specs.State.{TransportState}
 use Rattle.wt_spec.specs.Effect.{Effect}
 
 pub returns-then-is_open-clause-reply : goal.returns-then-is_open-clause-reply

@@ -1,4 +1,4 @@
-use Rattle.wt_seam.specs.Step.{pieces_now}
+use Rattle.wt_transport.specs.Step.{pieces_now}
 use Rattle.wt_typed.proofs.Taking.{first-byte}
 use Rattle.wt_typed.proofs.item_reader.next_byte.Goals as goal
 

@@ -1,6 +1,6 @@
 use Rattle.std.proofs.Common.{◌∙◌, ap}
 use Rattle.wt_connection.proofs.Sessions.{may_use, size_by_log, size_replies}
-use Rattle.wt_seam.specs.State.{TransportState}
+use Rattle.wt_transport.specs.State.{TransportState}
 use Rattle.wt_spec.specs.Connection.{payload_limit}
 use Rattle.wt_turn.specs.declared.call.Call.TheVariants as calls
 use Rattle.wt_turn.specs.declared.reply.Reply.TheVariants as replies

@@ -2,7 +2,7 @@ use Rattle.std.proofs.Common.{ap, length, ◌∙◌}
 use Rattle.wt_core.proofs.Refining.{driver_of, event_fits, event_may}
 use Rattle.wt_core.proofs.machine.Core.may_come.Goals as goal
 use Rattle.wt_core.specs.CoreState.{CoreState}
-use Rattle.wt_seam.specs.Step.{fits_now}
+use Rattle.wt_transport.specs.Step.{fits_now}
 use Rattle.wt_turn.specs.Log.{actions_of}
 
 pub returns-in_default : goal.returns-in_default

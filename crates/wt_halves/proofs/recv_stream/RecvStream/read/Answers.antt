@@ -2,8 +2,8 @@ use Rattle.std.proofs.Common.{◌∙◌, ◌≡◌, ◌≤◌, ap, arith, drop, 
 use Rattle.std.proofs.lemmas.List.{length-take-le}
 use Rattle.wt_halves.proofs.Receiving.{may_use, read_planned, read_reported, read_within}
 use Rattle.wt_halves.specs.Replies.{read_into}
-use Rattle.wt_seam.specs.Rules.{receiving_half_now}
-use Rattle.wt_seam.specs.Step.{unread_now}
+use Rattle.wt_transport.specs.Rules.{receiving_half_now}
+use Rattle.wt_transport.specs.Step.{unread_now}
 use Rattle.wt_streams.specs.HalfRules.{read_answer}
 use Rattle.wt_turn.specs.Records.{record_of}
 use Rattle.wt_turn.specs.declared.call.Call.TheVariants as calls

@@ -2,8 +2,8 @@ use Rattle.std.proofs.Common.{◌++◌, ◌∙◌, ◌≤◌, ap, drop, length, 
 use Rattle.std.proofs.lemmas.List.{length-take-le}
 use Rattle.wt_halves.proofs.Receiving.{exact_planned, exact_reported, exact_within, may_use}
 use Rattle.wt_halves.specs.Replies.{exact_reply, exactly_read}
-use Rattle.wt_seam.specs.Rules.{receiving_half_now}
-use Rattle.wt_seam.specs.Step.{unread_now}
+use Rattle.wt_transport.specs.Rules.{receiving_half_now}
+use Rattle.wt_transport.specs.Step.{unread_now}
 use Rattle.wt_turn.specs.Records.{record_of}
 use Rattle.wt_turn.specs.declared.call.Call.TheVariants as calls
 use Rattle.wt_halves.proofs.recv_stream.RecvStream.read_exact.Goals as goal

@@ -1,7 +1,7 @@
 use Rattle.std.proofs.Common.{sym, subst, ◌∙◌}
 use Rattle.wt_inbox.specs.State.{InboxState}
 use Rattle.wt_inbox.specs.Stage.{Refines}
-use Rattle.wt_seam.proofs.Refining.{refined_can_send}
+use Rattle.wt_transport.proofs.Refining.{refined_can_send}
 use Rattle.wt_inbox.proofs.inbox.Inbox.can_send.Goals as goal
 
 pub returns-clause-log : goal.returns-clause-log

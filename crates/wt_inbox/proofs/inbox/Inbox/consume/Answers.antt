@@ -2,7 +2,7 @@ use Rattle.std.proofs.Common.{sym, subst}
 use Rattle.wt_inbox.specs.State.{InboxState}
 use Rattle.wt_inbox.specs.Stage.{Refines}
 use Rattle.std.specs.Prelude.{◌≤◌, length}
-use Rattle.wt_seam.specs.Step.{unread_now}
+use Rattle.wt_transport.specs.Step.{unread_now}
 use Rattle.wt_inbox.proofs.Passing.{read-others-of, read-quiet-of, reads-body}
 use Rattle.wt_inbox.proofs.inbox.Inbox.consume.Goals as goal
 

@@ -2,7 +2,7 @@ use Rattle.std.proofs.Common.{ap, ◌∙◌}
 use Rattle.wt_turn.specs.Log.{events_of}
 use Rattle.wt_seam_spec.specs.Reports.{credit}
 use Rattle.wt_seam_spec.specs.Streams.{local_uni}
-use Rattle.wt_seam.proofs.Refining.{refined_side}
+use Rattle.wt_transport.proofs.Refining.{refined_side}
 use Rattle.wt_inbox.proofs.inbox.Inbox.control_credit.Goals as goal
 
 pub returns-clause-log : goal.returns-clause-log

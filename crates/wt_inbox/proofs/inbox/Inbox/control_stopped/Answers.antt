@@ -3,7 +3,7 @@ use Rattle.std.specs.Prelude.{is_some}
 use Rattle.wt_turn.specs.Log.{events_of}
 use Rattle.wt_seam_spec.specs.Reports.{stop_of}
 use Rattle.wt_seam_spec.specs.Streams.{local_uni}
-use Rattle.wt_seam.proofs.Refining.{refined_side}
+use Rattle.wt_transport.proofs.Refining.{refined_side}
 use Rattle.wt_inbox.proofs.inbox.Inbox.control_stopped.Goals as goal
 
 pub returns-clause-log : goal.returns-clause-log

@@ -5,7 +5,7 @@ use Rattle.wt_inbox.specs.Stage.{Refines}
 use Rattle.std.proofs.Common.{ℤ, ◌∷◌}
 use Rattle.std.proofs.Math.Facts.{to_z-of_z}
 use Rattle.wt_turn.specs.Log.{Called}
-use Rattle.wt_seam.specs.State as seam
+use Rattle.wt_transport.specs.State as seam
 use Rattle.wt_inbox.proofs.Passing.{goes-called, passes}
 use Rattle.wt_inbox.proofs.inbox.Inbox.set_priority.Goals as goal
 

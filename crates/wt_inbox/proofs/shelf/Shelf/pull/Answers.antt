@@ -1,6 +1,6 @@
 use Rattle.std.proofs.Common.{◌≡◌, ℕ, length, length-set, refl, sym, subst, ap, ◌∙◌}
 use Rattle.wt_wire.specs.declared.side.StreamEnd.TheVariants.{Running}
-use Rattle.wt_seam.specs.Step.{unread_now}
+use Rattle.wt_transport.specs.Step.{unread_now}
 use Rattle.wt_inbox.specs.KeptReaders.{StandsAt, outcome_after, reading_of}
 use Rattle.wt_inbox.proofs.Shelves.{pulled-at, pulled-from, on_ok, if_ok}
 use Rattle.wt_inbox.proofs.Counting.{asked-kept, asked-one-each}

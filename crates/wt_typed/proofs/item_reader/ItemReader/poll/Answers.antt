@@ -1,6 +1,6 @@
 use Rattle.std.proofs.Common.{sym, ap, ◌∙◌}
 use Rattle.wt_proto.specs.WalkProgress.{reached_in}
-use Rattle.wt_seam.specs.Step.{end_now, unread_now}
+use Rattle.wt_transport.specs.Step.{end_now, unread_now}
 use Rattle.wt_typed.specs.Reading.{after_read, reached_answer}
 use Rattle.wt_typed.proofs.ReadLaws.{begun_answer}
 use Rattle.wt_typed.proofs.Taking.{took-all}

@@ -2,7 +2,7 @@ use Rattle.std.proofs.Common.{◌≡◌, ◌-◌, ◌∷◌, ◌++◌, ℕ, List
 use Rattle.std.proofs.lemmas.List.{length-drop, take-append-drop}
 use Rattle.wt_proto.specs.WalkProgress.{Advances}
 use Rattle.wt_proto.proofs.AdvanceLaws.{advance-then}
-use Rattle.wt_seam.specs.Step.{after_consume, unread_now}
+use Rattle.wt_transport.specs.Step.{after_consume, unread_now}
 use Rattle.wt_typed.proofs.Consuming.{taken-unread, taken-more}
 use Rattle.wt_typed.proofs.Taking.{took-first}
 use Rattle.wt_typed.proofs.item_reader.ItemReader.take_unread.Goals as goal

@@ -1,6 +1,6 @@
 use Rattle.std.proofs.Common.{◌≡◌, ◌-◌, length}
 use Rattle.wt_proto.specs.WalkProgress.{Advances}
-use Rattle.wt_seam.specs.Step.{unread_now}
+use Rattle.wt_transport.specs.Step.{unread_now}
 use Rattle.wt_typed.specs.Reading.{after_taking}
 use Rattle.wt_typed.proofs.item_reader.ItemReader.take_unread.Given as goal
 

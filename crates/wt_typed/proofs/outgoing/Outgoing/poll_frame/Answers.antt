@@ -1,7 +1,7 @@
 use Rattle.std.proofs.Common.{sym, subst, ap, ◌∙◌}
 use Rattle.std.proofs.lemmas.Result.{on_ok_weaker}
 use Rattle.wt_wire.specs.FrameBytes.{frame_bytes}
-use Rattle.wt_seam.specs.Rules.{sending_half_now}
+use Rattle.wt_transport.specs.Rules.{sending_half_now}
 use Rattle.wt_typed.specs.Writing.{Pending, WritesPrefix, after_pending}
 use Rattle.wt_typed.proofs.WriteLaws.{frame_some, either_continues, writes_prefix}
 use Rattle.wt_typed.proofs.outgoing.Outgoing.poll_frame.Goals as goal

@@ -1,4 +1,4 @@
-use Rattle.wt_seam.specs.Step.{end_now, unread_now}
+use Rattle.wt_transport.specs.Step.{end_now, unread_now}
 use Rattle.wt_typed.specs.Typed.{source_of}
 use Rattle.wt_typed.proofs.ReadLaws.{frames_since}
 use Rattle.wt_typed.proofs.uniremote.Stream+QuicRecvStream+UniRemoteH3.read_frame.Goals as goal

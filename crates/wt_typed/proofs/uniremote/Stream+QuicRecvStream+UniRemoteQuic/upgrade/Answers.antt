@@ -1,6 +1,6 @@
 use Rattle.std.proofs.Common.{Err, ap, ◌∙◌}
 use Rattle.wt_turn.specs.declared.poll.Poll.TheVariants as polls
-use Rattle.wt_seam.specs.Step.{end_now, unread_now}
+use Rattle.wt_transport.specs.Step.{end_now, unread_now}
 use Rattle.wt_typed.proofs.ReadLaws.{header_since_as}
 use Rattle.wt_typed.proofs.uniremote.Stream+QuicRecvStream+UniRemoteQuic.upgrade.Goals as goal
 

@@ -1,3 +1,0 @@
-pub mod Admitted
-pub mod Answered
-pub mod Planning

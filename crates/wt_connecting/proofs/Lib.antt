@@ -1,3 +1,0 @@
-pub mod Over
-pub mod Beginning
-pub mod Connects

@@ -1,4 +1,0 @@
-pub mod RunLaws
-pub mod PrefixLaws
-pub mod CutLaws
-pub mod LawsHold

@@ -1,7 +1,0 @@
-use Rattle.std.proofs.Common.{◌∙◌}
-use Rattle.wt_seam.specs.Rules.{is_writable}
-use Rattle.wt_seam.proofs.HalfLaws.{sending_answer}
-use Rattle.wt_seam.proofs.halves.QuicSendStream.may_write.Goals as goal
-
-pub returns-clause-log : goal.returns-clause-log
-returns-clause-log c = λ side log position uncollected r. c.may_write.ensures ∙ sending_answer side c.args.t.now log position uncollected r (is_writable) c.args.self.now.id c.requires

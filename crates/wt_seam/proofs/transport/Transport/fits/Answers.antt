@@ -1,6 +1,0 @@
-use Rattle.std.proofs.Common.{◌∙◌}
-use Rattle.wt_seam.proofs.Refining.{refined_fits}
-use Rattle.wt_seam.proofs.transport.Transport.fits.Goals as goal
-
-pub returns-clause-log : goal.returns-clause-log
-returns-clause-log c = λ side log position uncollected r. c.fits_now.ensures ∙ refined_fits side c.args.self.now log position uncollected r c.args.turn.now

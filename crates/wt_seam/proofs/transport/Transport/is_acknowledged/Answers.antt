@@ -1,6 +1,0 @@
-use Rattle.std.proofs.Common.{◌∙◌}
-use Rattle.wt_seam.proofs.Asking.{refined_acknowledged}
-use Rattle.wt_seam.proofs.transport.Transport.is_acknowledged.Goals as goal
-
-pub returns-clause-log : goal.returns-clause-log
-returns-clause-log c = λ side log position uncollected r. c.is_acknowledged_now.ensures ∙ refined_acknowledged side c.args.self.now log position uncollected r c.args.id

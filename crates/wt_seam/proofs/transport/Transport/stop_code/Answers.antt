@@ -1,6 +1,0 @@
-use Rattle.std.proofs.Common.{◌∙◌}
-use Rattle.wt_seam.proofs.Asking.{refined_stop}
-use Rattle.wt_seam.proofs.transport.Transport.stop_code.Goals as goal
-
-pub returns-clause-log : goal.returns-clause-log
-returns-clause-log c = λ side log position uncollected r. c.stop_code_now.ensures ∙ refined_stop side c.args.self.now log position uncollected r c.args.id
