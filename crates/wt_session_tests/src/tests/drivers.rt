@@ -84,7 +84,8 @@ fn accept(rt: &impl Abort, alloc: Global, request: SessionRequest) -> Accepting 
     request.accept(alloc).expect(rt, "no memory")
 }
 
-fn accepted(
+/// The session that this acceptance gives.
+pub fn accepted(
     rt: &impl Abort,
     alloc: Global,
     driver: &mut Driver,
