@@ -1,4 +1,4 @@
-use Rattle.std.proofs.Common.{◌∙◌, ap}
+use Rattle.std.proofs.Common.{◌∙◌, None, ap}
 use Rattle.wt_connection.proofs.Sessions.{may_use, size_by_log, size_replies}
 use Rattle.wt_transport.specs.State.{TransportState}
 use Rattle.wt_spec.specs.Connection.{payload_limit}

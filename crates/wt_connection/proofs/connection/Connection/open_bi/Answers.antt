@@ -1,4 +1,4 @@
-use Rattle.std.proofs.Common.{◌∙◌, ◌≡◌, ap, subst, ℕ}
+use Rattle.std.proofs.Common.{◌∙◌, ◌≡◌, None, ap, subst, ℕ}
 use Rattle.wt_connection.proofs.Sessions.{may_use, open_bi_comes, open_bi_planned}
 use Rattle.wt_connection.specs.Openings.{opening_in}
 use Rattle.wt_calls.specs.GivingCalls.{poll_reply}

@@ -1,4 +1,4 @@
-use Rattle.std.proofs.Common.{◌∙◌, ap}
+use Rattle.std.proofs.Common.{◌∙◌, None, ap}
 use Rattle.wt_connection.proofs.Sessions.{datagram_comes, datagram_planned, may_use}
 use Rattle.wt_halves.specs.Replies.{sent_in, sent_reply}
 use Rattle.wt_turn.specs.declared.call.Call.TheVariants as calls
