@@ -5,5 +5,5 @@ pub mod Pending
 pub mod Polls
 pub mod Ended
 pub mod Accepted
-pub mod Reads
+pub mod ReadEnds
 pub mod Theorems

@@ -11,7 +11,7 @@ use Rattle.wt_promise.proofs.Accepted.{bi-accepted, datagram-received, uni-accep
 use Rattle.wt_promise.proofs.Ended.{nothing-after-end}
 use Rattle.wt_promise.proofs.Lists.{cuts-freely, run_from-lawful}
 use Rattle.wt_promise.proofs.Polls.{call-waits}
-use Rattle.wt_promise.proofs.Reads.{ends-rightly}
+use Rattle.wt_promise.proofs.ReadEnds.{ends-rightly}
 use Rattle.wt_turn.specs.declared.call.Call.TheVariants as calls
 use Rattle.wt_turn.specs.declared.reply.Reply.TheVariants as replies
 use Rattle.wt_turn.specs.declared.turn.Turn.TheVariants as turns
