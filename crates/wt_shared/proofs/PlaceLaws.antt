@@ -1,5 +1,5 @@
 -- What the handles were told stands in the history at its places.
-use Rattle.std.proofs.Common.{◌≡◌, ◌+◌, ◌∷◌, ◌++◌, Bool, List, [], append_assoc, false, length, length-append, subst, true}
+use Rattle.std.proofs.Common.{◌≡◌, ◌+◌, ◌∷◌, ◌++◌, Bool, List, [], append_assoc, false, length, length-append, refl, subst, true}
 use Rattle.std.proofs.lemmas.List.Elements.{All-cons, All-head, All-nil, All-tail}
 use Rattle.std.proofs.lemmas.List.Sorted.{All-permutation, IsPermutation-sym}
 use Rattle.std.specs.Prelude.{All, Err, IfOk, Ok, OnOk, Result}
@@ -50,7 +50,7 @@ of-each P (entries ∷ others) h = All-cons (All P) entries others (first-part P
 
 closed-one : (history : Pairs) (handles : List (List Told)) (closed : Result Pairs CloseError) → IsClosed history handles closed → OnOk closed (All (All (StandsIn history)) handles)
 closed-one history handles (Ok pairs) c =
-    of-each (StandsIn history) handles (All-permutation (StandsIn history) (calls_in history) (entries_of handles) (IsPermutation-sym (entries_of handles) (calls_in history) c.1.0) (stands-in history))
+    of-each (StandsIn history) handles (All-permutation (StandsIn history) (calls_in history) (entries_of handles) (IsPermutation-sym (entries_of handles) (calls_in history) c.1) (stands-in history))
 closed-one history handles (Err error) c = tt
 
 -- where the handles' entries are the history's calls, each stands in it at its place

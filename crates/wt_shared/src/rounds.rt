@@ -83,19 +83,6 @@ fn feed_round<R: Wait, F: Gate>(rt: &R, shared: &Shared, round: &[Turn], feed: &
     true
 }
 
-/// Accepts a stream. None at any other answer.
-fn accept_stream<R: Wait>(
-    rt: &R,
-    connection: &mut Connection,
-    gate: &mut CondvarGate,
-) -> Option<StreamId> {
-    let answer = connection.accept_uni(rt, gate).ok()?;
-    match answer.reply {
-        Reply::Uni(id) => Some(id),
-        _ => None,
-    }
-}
-
 /// Reads a part of a stream. Returns whether there may be more; None at any answer but bytes and the end.
 fn read_part<R: Wait>(
     rt: &R,
@@ -111,11 +98,13 @@ fn read_part<R: Wait>(
     }
 }
 
-/// Accepts a stream and reads it to its end. Returns false at any other answer.
-fn read_stream<R: Wait>(rt: &R, connection: &mut Connection, gate: &mut CondvarGate) -> bool {
-    let Some(id) = accept_stream(rt, connection, gate) else {
-        return false;
-    };
+/// Reads a stream to its end. Returns false at any other answer.
+fn read_to_end<R: Wait>(
+    rt: &R,
+    connection: &mut Connection,
+    gate: &mut CondvarGate,
+    id: StreamId,
+) -> bool {
     for _ in rt.forever() {
         match read_part(rt, connection, gate, id) {
             Some(true) => {}
@@ -124,6 +113,17 @@ fn read_stream<R: Wait>(rt: &R, connection: &mut Connection, gate: &mut CondvarG
         }
     }
     unreachable!()
+}
+
+/// Accepts a stream and reads it to its end. Returns false at any other answer.
+fn read_stream<R: Wait>(rt: &R, connection: &mut Connection, gate: &mut CondvarGate) -> bool {
+    let Ok(answer) = connection.accept_uni(rt, gate) else {
+        return false;
+    };
+    match &answer.reply {
+        Reply::Uni(id) => read_to_end(rt, connection, gate, *id),
+        _ => false,
+    }
 }
 
 /// Pauses once, and then accepts and reads as many streams as the round has. Returns false at any other answer.

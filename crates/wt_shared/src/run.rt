@@ -1,8 +1,10 @@
 //! The command `shared`.
 ghost use Rattle.std.specs.Prelude.{◌≡◌, ◌≢◌, ◌<◌, ◌⊎◌, IfOk, None, false, map, string_bytes};
 ghost use Rattle.std.specs.Io.KnownBytes.{Appends};
+ghost use Rattle.wt_spec.specs.Answers.{run};
 ghost use Rattle.wt_trace.specs.Outcome.{usage};
 ghost use Rattle.wt_trace.specs.Outside.{AppendsPart, Rose};
+ghost use Rattle.wt_wire.specs.declared.side.Side.TheVariants.{Server};
 ghost use Rattle.wt_shared.specs.SharedRun.{is_stopped, numbers_line, numbers_of, shared_count_of, shared_outcome};
 
 use crate::gate::Gate;
@@ -17,6 +19,8 @@ use wt_trace::output::write_all;
 use wt_trace::outside::Sink;
 use wt_trace::program::OUT_OF_MEMORY;
 use wt_trace::summary::{Summary, push_number};
+use wt_turn::Turn;
+use wt_turn::answer::Answers;
 use wt_wire::error::OutOfMemory;
 use wt_wire::side::Side;
 
@@ -110,9 +114,18 @@ fn numbers(alloc: Global, streams: StreamCount) -> Result<Summary, OutOfMemory>
     ensures { IfOk result (λ numbers. numbers ≡ numbers_of streams) }
 {
     let turns = generate(alloc, streams.into_u32())?;
-    match run_trace(alloc, Side::Server, turns.as_slice()) {
-        Ok(answers) => Summary::of(answers.as_slice()),
-        Err(TraceError::Unlawful { at: _, answers }) => Summary::of(answers.as_slice()),
+    let answers = answers_to(alloc, turns.as_slice())?;
+    let numbers = Summary::of(answers.as_slice())?;
+    Ok(numbers)
+}
+
+/// A server's answers to these turns, up to the first that isn't lawful.
+fn answers_to(alloc: Global, turns: &[Turn]) -> Result<Answers, OutOfMemory>
+    ensures { IfOk result (λ answers. answers ≡ (run Server turns.now).answers) }
+{
+    match run_trace(alloc, Side::Server, turns) {
+        Ok(answers) => Ok(answers),
+        Err(TraceError::Unlawful { at: _, answers }) => Ok(answers),
         Err(TraceError::OutOfMemory) => Err(OutOfMemory),
     }
 }
