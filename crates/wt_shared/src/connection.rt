@@ -1,5 +1,5 @@
 //! A thread's handle of a shared connection.
-ghost use Rattle.std.specs.Prelude.{◌≡◌, ◌≢◌, ◌<◌, ◌++◌, ◌∷◌, [], Err, IfOk, IsTrue, OnErr, OnOk, false, true, vec_capacity, vec_len};
+ghost use Rattle.std.specs.Prelude.{◌≡◌, ◌≢◌, ◌<◌, ◌++◌, ◌∷◌, [], Err, IfOk, IsTrue, None, OnErr, OnOk, false, true, vec_capacity, vec_len};
 ghost use Rattle.wt_turn.specs.declared.call.Call.TheVariants as calls;
 ghost use Rattle.wt_turn.specs.declared.turn.Turn.TheVariants as turns;
 ghost use Rattle.wt_shared.specs.Calls.{IsCalled, RanOut, may_come_later};
@@ -109,10 +109,10 @@ impl Connection {
         rt: &R,
         gate: &mut G,
     ) -> Result<Answer, SharedError>
-        ensures waited { Waited calls.AcceptUni self.old self.new result }
+        ensures waited { Waited (calls.AcceptUni None) self.old self.new result }
         ensures gate { RefusalsAfter (G.refused gate.old) (G.refused gate.new) result }
     {
-        self.wait(rt, gate, &Call::AcceptUni)
+        self.wait(rt, gate, &Call::AcceptUni { session: None })
     }
 
     /// Accepts the next bidirectional stream of the session, once there is one.
@@ -121,10 +121,10 @@ impl Connection {
         rt: &R,
         gate: &mut G,
     ) -> Result<Answer, SharedError>
-        ensures waited { Waited calls.AcceptBi self.old self.new result }
+        ensures waited { Waited (calls.AcceptBi None) self.old self.new result }
         ensures gate { RefusalsAfter (G.refused gate.old) (G.refused gate.new) result }
     {
-        self.wait(rt, gate, &Call::AcceptBi)
+        self.wait(rt, gate, &Call::AcceptBi { session: None })
     }
 
     /// Begins to open a unidirectional stream of the session, once the peer allows one more.
@@ -133,18 +133,18 @@ impl Connection {
         rt: &R,
         gate: &mut G,
     ) -> Result<Answer, SharedError>
-        ensures waited { Waited calls.OpenUni self.old self.new result }
+        ensures waited { Waited (calls.OpenUni None) self.old self.new result }
         ensures gate { RefusalsAfter (G.refused gate.old) (G.refused gate.new) result }
     {
-        self.wait(rt, gate, &Call::OpenUni)
+        self.wait(rt, gate, &Call::OpenUni { session: None })
     }
 
     /// Begins to open a bidirectional stream of the session, once the peer allows one more.
     pub fn open_bi<R: Wait, G: Gate>(&mut self, rt: &R, gate: &mut G) -> Result<Answer, SharedError>
-        ensures waited { Waited calls.OpenBi self.old self.new result }
+        ensures waited { Waited (calls.OpenBi None) self.old self.new result }
         ensures gate { RefusalsAfter (G.refused gate.old) (G.refused gate.new) result }
     {
-        self.wait(rt, gate, &Call::OpenBi)
+        self.wait(rt, gate, &Call::OpenBi { session: None })
     }
 
     /// Takes the next datagram of the session, once there is one.
@@ -153,10 +153,10 @@ impl Connection {
         rt: &R,
         gate: &mut G,
     ) -> Result<Answer, SharedError>
-        ensures waited { Waited calls.ReceiveDatagram self.old self.new result }
+        ensures waited { Waited (calls.ReceiveDatagram None) self.old self.new result }
         ensures gate { RefusalsAfter (G.refused gate.old) (G.refused gate.new) result }
     {
-        self.wait(rt, gate, &Call::ReceiveDatagram)
+        self.wait(rt, gate, &Call::ReceiveDatagram { session: None })
     }
 
     /// How the connection ended, once it has.

@@ -25,7 +25,7 @@ fn handle(rt: &impl Abort, alloc: Global) -> Connection {
     shared.connection(alloc).expect(rt, "no memory")
 }
 
-const SIZE: Turn = Turn::Call(Call::MaxDatagramSize);
+const SIZE: Turn = Turn::Call(Call::MaxDatagramSize { session: None });
 
 const CLOSED: Turn = Turn::Call(Call::Closed);
 

@@ -122,6 +122,6 @@ fn a_call_that_waits_leaves_the_lock_free(rt: HostRuntime) {
     assert!(&rt; gives_hi(&read));
     assert!(&rt; gate.refusals() == 0);
     let is_second =
-        matches!(second.told(), [told] if matches!(told.turn, Turn::Call(Call::MaxDatagramSize)));
+        matches!(second.told(), [told] if matches!(told.turn, Turn::Call(Call::MaxDatagramSize { .. })));
     assert!(&rt; is_second);
 }
