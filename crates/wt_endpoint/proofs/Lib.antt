@@ -1,0 +1,6 @@
+pub mod Apart
+pub mod Closing
+pub mod Keeping
+pub mod Logs
+pub mod Running
+pub mod Standing

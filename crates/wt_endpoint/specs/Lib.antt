@@ -1,0 +1,4 @@
+pub mod Connections
+pub mod Endpoints
+pub mod Isolation
+pub mod Run
