@@ -20,14 +20,14 @@ pub fn is_set_at_last(flag: &AtomicBool) -> bool {
 
 /// A gate whose pause sets one flag, and then reads another, which someone else sets, until that is set.
 #[derive(Drop)]
-pub struct TurnGate<'a> {
+pub struct TurnGate<'a, 'b> {
     paused: &'a AtomicBool,
-    opened: &'a AtomicBool,
+    opened: &'b AtomicBool,
     refusals: u64,
 }
 
-impl<'a> TurnGate<'a> {
-    pub fn new(paused: &'a AtomicBool, opened: &'a AtomicBool) -> TurnGate<'a> {
+impl<'a, 'b> TurnGate<'a, 'b> {
+    pub fn new(paused: &'a AtomicBool, opened: &'b AtomicBool) -> TurnGate<'a, 'b> {
         TurnGate {
             paused,
             opened,
@@ -36,7 +36,7 @@ impl<'a> TurnGate<'a> {
     }
 }
 
-impl Gate for TurnGate<'_> {
+impl Gate for TurnGate<'_, '_> {
     ghost refused = { λ g. g.refusals };
 
     fn pause<R: Wait>(&mut self, _rt: &R, _changes: u64) -> bool {
