@@ -1,5 +1,4 @@
 //! What the contracts leave open: that memory suffices where there is enough, and worked cases.
-mod endpoint;
 mod errors;
 mod generated;
 mod hostile;
