@@ -4,7 +4,7 @@ use Rattle.wt_turn.specs.Log.{Acked, Connected, Datagram, DatagramLimit, End, Ev
 use Rattle.wt_turn.specs.declared.turn.Turn.{Turn}
 use Rattle.wt_turn.specs.declared.turn.Turn.TheVariants as turns
 
--- the event that a turn of the transport tells, where it carries no bytes
+-- the event that a turn of the transport reports, where it carries no bytes
 abbrev pub event_of : Turn → Option Event
 event_of (turns.Connected uni bi credit fact) = Some (Connected uni bi credit fact)
 event_of turns.PeerUni = Some PeerUni

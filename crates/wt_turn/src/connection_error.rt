@@ -57,6 +57,8 @@ impl fmt::Display for H3Error {
     }
 }
 
+impl std::error::Error for H3Error {}
+
 /// What a reason says: a text that is always the same takes no memory.
 #[derive(Debug, Drop)]
 enum Reason {
@@ -166,6 +168,8 @@ impl fmt::Display for QuicProtoError {
         }
     }
 }
+
+impl std::error::Error for QuicProtoError {}
 
 /// How a connection ended.
 #[derive(PartialEq, Eq, Debug, Drop, Error)]

@@ -1,6 +1,6 @@
-//! What the transport tells about datagrams.
+//! What the transport reports about datagrams.
 
-/// What the transport tells about datagrams (RFC 9221, section 3).
+/// What the transport reports about datagrams (RFC 9221, section 3).
 #[derive(Clone, Copy, PartialEq, Eq, Debug)]
 pub enum DatagramFact {
     /// This end doesn't use datagrams.

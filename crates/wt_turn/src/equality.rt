@@ -142,7 +142,7 @@ pub fn opening_errors_are_equal(first: StreamOpeningError, second: StreamOpening
     first == second
 }
 
-/// Of what the transport tells about datagrams.
+/// Of what the transport reports about datagrams.
 pub fn datagram_facts_are_equal(first: DatagramFact, second: DatagramFact) -> bool
     ensures { IsTrue result ↔ (first ≡ second) }
 {

@@ -6,7 +6,7 @@ use std::alloc::Global;
 use wt_wire::error::OutOfMemory;
 use wt_wire::text::Text;
 
-/// Why a connection is lost, as the transport tells it.
+/// Why a connection is lost, as the transport reports it.
 #[derive(Debug, Drop, PartialEq, Eq)]
 pub enum LossReason {
     /// The peer speaks no version of QUIC that this end speaks (RFC 9000, section 6).

@@ -45,11 +45,11 @@ pub enum Reply {
     Datagram(Piece),
     /// The greatest payload of a datagram, in bytes; None where none can be sent.
     Size(Option<u64>),
-    /// So many bytes were written.
+    /// This number of bytes was written.
     Written(u64),
     /// All bytes were written.
     AllWritten,
-    /// So many bytes were written, and the rest lacks credit.
+    /// This number of bytes was written, and the rest lacks credit.
     Count(u64),
     /// The sending half is finished, and all of it acknowledged.
     Finished,

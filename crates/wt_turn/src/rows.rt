@@ -6,7 +6,7 @@ ghost use Rattle.wt_turn.specs.declared.action.Action.{Action};
 ghost use Rattle.wt_turn.specs.declared.action.Action.TheVariants as actions;
 ghost use Rattle.wt_turn.specs.declared.loss.LossReason.{LossReason};
 
-/// Entries that tell of an event, an action and a call, before and after the end.
+/// Entries that report an event, an action and a call, before and after the end.
 pub fn queries()
     ensures events { (e : Event) (c : CallRecord)
         → events_of (Reported PeerUni ∷ ReportedLate e ∷ Called c ∷ Reported PeerBi ∷ []) ≡ PeerUni ∷ PeerBi ∷ [] }

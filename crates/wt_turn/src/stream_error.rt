@@ -37,7 +37,7 @@ pub enum StreamReadError {
 /// Why fewer bytes than were asked for were read.
 #[derive(Clone, Copy, PartialEq, Eq, Debug, Error)]
 pub enum StreamReadExactError {
-    /// The stream ended after so many bytes.
+    /// The stream ended after this number of bytes.
     #[error("stream finished too early ({0} bytes read)")]
     FinishedEarly(usize),
     /// Nothing could be read.
@@ -88,6 +88,6 @@ pub struct AlreadyStop;
 pub enum WriteAll {
     /// All bytes were written.
     Done,
-    /// So many bytes were written, and the rest lacks credit.
+    /// This number of bytes was written, and the rest lacks credit.
     Count(usize),
 }
