@@ -154,10 +154,11 @@ fn make_rounds<R: Threads + Wait + Sync, F: Gate + Send, G: Gate + Send>(
     read: &mut G,
 ) {
     for round in turns.chunks(ROUND_STREAMS * STREAM_TURNS) {
-        let (fed, whole) = join(
+        // Where no thread can be made, this one feeds the round first, and then reads it: so it never waits for itself.
+        let (whole, fed) = join(
             rt,
-            || feed_round(rt, shared, round, feed),
             || read_round(rt, connection, gate, round, read),
+            || feed_round(rt, shared, round, feed),
         );
         if !fed || !whole {
             return;
