@@ -10,6 +10,7 @@ pub mod answer;
 pub mod command;
 pub mod command_script;
 pub mod cut_short;
+pub mod endpoint;
 pub mod generate;
 pub mod input;
 pub mod output;
