@@ -7,7 +7,7 @@ use wt_wire::lookup::Lookup;
 
 /// Resolves the names of hosts. What it answers for a host is the one meaning of a resolver: it does
 /// not change while the resolver is kept.
-pub trait DnsResolver: Drop {
+pub trait DnsResolver: Drop + Send {
     ghost use Rattle.std.specs.Prelude.{List, ℕ};
     ghost use Rattle.wt_wire.specs.declared.lookup.Lookup.{Lookup};
 
