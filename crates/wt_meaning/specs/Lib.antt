@@ -1,3 +1,5 @@
+pub mod ControlBytes
+pub mod SessionWalk
 pub mod History
 pub mod Lawful
 pub mod Findings

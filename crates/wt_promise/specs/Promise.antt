@@ -7,7 +7,7 @@ use Rattle.wt_proto.specs.ResponseWalk.{response_walk_of}
 use Rattle.wt_seam_spec.specs.Joined.{join_all}
 use Rattle.wt_seam_spec.specs.Reports.{credit, end_of, is_running, unis_allowed}
 use Rattle.wt_seam_spec.specs.Streams.{local_count, local_uni, peer_bi, peer_uni}
-use Rattle.wt_session_bytes.specs.ControlBytes.{local_control_bytes}
+use Rattle.wt_meaning.specs.ControlBytes.{local_control_bytes}
 use Rattle.wt_turn.specs.Log.{closes}
 use Rattle.wt_turn.specs.declared.action.Action.{Action}
 use Rattle.wt_turn.specs.declared.answer.Answer.{Answer}

@@ -3,8 +3,8 @@
 
 ghost use Rattle.std.specs.Prelude.{◌≡◌, ◌∷◌, [], codes};
 ghost use Rattle.wt_proto.specs.declared.session_walk.SessionWalk.TheVariants as walks;
-ghost use Rattle.wt_session_bytes.specs.ControlBytes.{local_control_bytes};
-ghost use Rattle.wt_session_bytes.specs.SessionWalk.{session_walk_of};
+ghost use Rattle.wt_meaning.specs.ControlBytes.{local_control_bytes};
+ghost use Rattle.wt_meaning.specs.SessionWalk.{session_walk_of};
 ghost use Rattle.wt_wire.specs.declared.error.ErrorCode.TheVariants as h3;
 ghost use Rattle.wt_wire.specs.declared.side.StreamEnd.TheVariants as ends;
 

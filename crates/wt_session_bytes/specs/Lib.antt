@@ -1,2 +1,0 @@
-pub mod ControlBytes
-pub mod SessionWalk
