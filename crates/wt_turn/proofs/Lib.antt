@@ -1,0 +1,7 @@
+pub mod Decides
+pub mod EqualActions
+pub mod EqualAnswers
+pub mod EqualCalls
+pub mod EqualParts
+pub mod EqualReplies
+pub mod EqualTurns

@@ -1,8 +1,10 @@
-//! `==` of what is reported of a connection is its equality: two values are found equal exactly where
-//! their variants and their fields are. (Of turns, calls, replies and lists of them `is_equal` says so.)
+//! `==` of what a connection is told and what is reported of it is its equality: two values are found equal
+//! exactly where their variants and their fields are.
 ghost use Rattle.std.specs.Prelude.{◌≡◌, ◌↔◌, IsTrue};
 
-use crate::action::Action;
+use crate::action::{Action, Actions};
+use crate::answer::{Answer, Answers};
+use crate::call::Call;
 use crate::close::{ApplicationClose, ConnectionClose};
 use crate::connecting_error::{ConnectingError, UrlRefusal};
 use crate::connection_error::{ConnectionError, H3Error, QuicProtoError};
@@ -11,10 +13,12 @@ use crate::driver_error::DriverError;
 use crate::loss::LossReason;
 use crate::piece::Piece;
 use crate::proto_error::{ProtoReadError, ProtoWriteError};
+use crate::reply::Reply;
 use crate::stream_error::{
     SendDatagramError, StreamOpeningError, StreamReadError, StreamReadExactError, StreamWriteError,
     WriteAll,
 };
+use crate::turn::{Turn, Turns};
 
 /// Of pieces.
 pub fn pieces_are_equal(first: &Piece, second: &Piece) -> bool
@@ -152,6 +156,55 @@ pub fn datagram_facts_are_equal(first: DatagramFact, second: DatagramFact) -> bo
 /// Of the outcomes of a write of all bytes.
 pub fn write_outcomes_are_equal(first: WriteAll, second: WriteAll) -> bool
     ensures { IsTrue result ↔ (first ≡ second) }
+{
+    first == second
+}
+
+/// Of calls.
+pub fn calls_are_equal(first: &Call, second: &Call) -> bool
+    ensures { IsTrue result ↔ (first.now ≡ second.now) }
+{
+    first == second
+}
+
+/// Of turns.
+pub fn turns_are_equal(first: &Turn, second: &Turn) -> bool
+    ensures { IsTrue result ↔ (first.now ≡ second.now) }
+{
+    first == second
+}
+
+/// Of replies.
+pub fn replies_are_equal(first: &Reply, second: &Reply) -> bool
+    ensures { IsTrue result ↔ (first.now ≡ second.now) }
+{
+    first == second
+}
+
+/// Of answers.
+pub fn answers_are_equal(first: &Answer, second: &Answer) -> bool
+    ensures { IsTrue result ↔ (first.now ≡ second.now) }
+{
+    first == second
+}
+
+/// Of lists of actions.
+pub fn action_lists_are_equal(first: &Actions, second: &Actions) -> bool
+    ensures { IsTrue result ↔ (first.now ≡ second.now) }
+{
+    first == second
+}
+
+/// Of lists of turns.
+pub fn turn_lists_are_equal(first: &Turns, second: &Turns) -> bool
+    ensures { IsTrue result ↔ (first.now ≡ second.now) }
+{
+    first == second
+}
+
+/// Of lists of answers.
+pub fn answer_lists_are_equal(first: &Answers, second: &Answers) -> bool
+    ensures { IsTrue result ↔ (first.now ≡ second.now) }
 {
     first == second
 }

@@ -1,17 +1,36 @@
-//! What is reported of a connection may cross threads.
+//! What is reported of a connection, and what it is told, may cross threads.
+use crate::connecting_error::ConnectingError;
 use crate::driver_error::DriverError;
-use crate::proto_error::{ProtoReadError, ProtoWriteError};
-use crate::{Actions, Answers, Record, Turns};
+use crate::proto_error::{IoReadError, ProtoReadError, ProtoWriteError};
+use crate::stream_error::{AlreadyStop, ClosedStream, WriteAll};
+use crate::{
+    Action, Actions, Answer, Answers, Call, ConnectionClose, LossReason, Piece, Record, Reply,
+    Turn, Turns,
+};
 
 fn is_send<T: Send>() {}
 
-/// Each type that reports of a connection is `Send`: that this compiles is the proof. A list has those of its parts.
+/// Each type that tells or reports something of a connection is `Send`: that this compiles is the proof.
+/// The errors of a stream and of a datagram are parts of a reply.
 pub fn all_are_send() {
+    is_send::<Piece>();
+    is_send::<Call>();
+    is_send::<LossReason>();
+    is_send::<Turn>();
     is_send::<Turns>();
+    is_send::<Action>();
     is_send::<Actions>();
+    is_send::<Reply>();
+    is_send::<Answer>();
     is_send::<Answers>();
     is_send::<Record>();
+    is_send::<ConnectionClose>();
+    is_send::<ConnectingError>();
     is_send::<DriverError>();
+    is_send::<IoReadError>();
     is_send::<ProtoReadError>();
     is_send::<ProtoWriteError>();
+    is_send::<ClosedStream>();
+    is_send::<AlreadyStop>();
+    is_send::<WriteAll>();
 }

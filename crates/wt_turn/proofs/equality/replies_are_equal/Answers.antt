@@ -1,0 +1,6 @@
+use Rattle.wt_turn.proofs.Decides.{answered}
+use Rattle.wt_turn.proofs.EqualReplies.{replies_decide}
+use Rattle.wt_turn.proofs.equality.replies_are_equal.Goals as goal
+
+pub returns : goal.returns
+returns c = answered replies_decide c.args.first.now c.args.second.now c.eq.result c.eq.ensures
