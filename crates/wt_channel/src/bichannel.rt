@@ -5,6 +5,7 @@ ghost use Rattle.wt_channel.specs.BiChannel.{HasRoom, after_leave, after_recv, a
 use std::alloc::Global;
 use std::collections::VecDeque;
 use std::marker::Model;
+use thiserror::Error;
 use wt_turn::poll::Poll;
 use wt_wire::error::OutOfMemory;
 
@@ -18,11 +19,13 @@ pub enum ChannelEnd {
 }
 
 /// Why a value wasn't sent; it carries the value.
-#[derive(Debug, PartialEq, Eq, Drop)]
+#[derive(Debug, PartialEq, Eq, Drop, Error)]
 pub enum TrySendError<T> {
     /// The queue to the other end holds as many values as it may.
+    #[error("channel full")]
     Full(T),
     /// One of the two ends left.
+    #[error("channel closed")]
     Closed(T),
 }
 

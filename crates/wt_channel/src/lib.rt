@@ -4,5 +4,6 @@
 
 pub mod bichannel;
 pub mod laws;
+pub mod send;
 pub mod shared_result;
 pub mod utils;

@@ -5,6 +5,7 @@
 pub mod connect;
 pub mod qpack;
 mod reading;
+pub mod send;
 pub mod settings;
 mod shown;
 pub mod theorems;

@@ -9,6 +9,7 @@
 mod copies;
 pub mod inbox;
 mod reading;
+pub mod send;
 mod shelf;
 
 pub use inbox::Inbox;

@@ -9,6 +9,7 @@ pub mod outgoing;
 pub mod reader;
 pub mod reader_laws;
 pub mod response_walk;
+pub mod send;
 pub mod session_walk;
 pub mod steps;
 pub mod stream_header;

@@ -16,8 +16,8 @@ pub use wt_turn::{
     piece, poll, proto_error, reply, stream_error, turn,
 };
 pub use wt_typed::{
-    Accepted, Pair, Stream, StreamBiLocalH3, StreamBiLocalQuic, StreamBiLocalWT, StreamBiRemoteH3,
+    Pair, Stream, StreamBiLocalH3, StreamBiLocalQuic, StreamBiLocalWT, StreamBiRemoteH3,
     StreamBiRemoteQuic, StreamBiRemoteWT, StreamSession, StreamUniLocalH3, StreamUniLocalQuic,
-    StreamUniLocalWT, StreamUniRemoteH3, StreamUniRemoteQuic, StreamUniRemoteWT, accepted, stream,
+    StreamUniLocalWT, StreamUniRemoteH3, StreamUniRemoteQuic, StreamUniRemoteWT, stream,
 };
 pub use wt_wire::side::{Side, StreamEnd};

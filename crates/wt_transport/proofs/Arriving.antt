@@ -19,7 +19,7 @@ use Rattle.wt_seam_spec.specs.Unread.{ReadPosition, AtOffset, GivenUp, is_given_
 use Rattle.wt_streams.specs.Pieces.{AreFilled}
 use Rattle.wt_streams.specs.StreamState.{with_changed, with_bytes}
 use Rattle.wt_streams.specs.StreamState.{rows}
-use Rattle.wt_transport.specs.State.{TransportState, signals_of, stream_of, state_of, Facts, IsWithin, Holds}
+use Rattle.wt_transport.specs.State.{TransportState, nothing_accepted, signals_of, stream_of, state_of, Facts, IsWithin, Holds}
 use Rattle.wt_transport.specs.Step.{if_so, after_turn}
 use Rattle.wt_streams.proofs.PieceLaws.{concat_more, filled_more}
 use Rattle.wt_transport.proofs.StreamChanges.{received_unless, received, receive-changes}
@@ -87,6 +87,7 @@ module _ (side : Side) (log g : Log) (o : OnlyBytes log g) where
     datagram_fact = datagram_fact (o.events i);
     loss = loss_of (o.events i);
     streams = rows (same-stream position pieces i) (same-count i);
+    accepted = nothing_accepted;
     actions = joined_actions uncollected;
   }
 

@@ -3,9 +3,12 @@ pub mod Results
 pub mod StreamChanges
 pub mod Events
 pub mod KeptFacts
+pub mod ButAccepted
 pub mod Fitting
 pub mod Arriving
 pub mod Calls
 pub mod Refining
+pub mod GivingUp
 pub mod HalfLaws
+pub mod AcceptLaws
 pub mod Asking

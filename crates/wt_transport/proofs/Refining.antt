@@ -20,10 +20,11 @@ use Rattle.wt_seam_spec.specs.Outgoing.{may_send, actions_to_open, opened_id, cr
 use Rattle.wt_seam_spec.specs.Unread.{ReadPosition, unread, at_start, position_after, given_up, IsFront}
 use Rattle.wt_streams.specs.Pieces.{AreFilled, first_piece}
 use Rattle.wt_streams.specs.StreamState.{stream_at}
-use Rattle.wt_transport.specs.State.{TransportState, state_of, Facts, Holds, Refines}
+use Rattle.wt_transport.specs.State.{TransportState, but_accepted, state_of, Facts, Holds, Refines}
 use Rattle.wt_transport.specs.Step.{nothing_connected, fits_now, may_receive_now, after_turn, after_bytes, after_opening, opened_id_now, may_send_now, can_send_now, can_receive_now, after_send, covered_now, after_finish, after_reset, after_stop, after_priority, after_dial, after_close, with_action, pieces_now, unread_now, after_consume, after_give_up, end_now}
 use Rattle.wt_transport.proofs.Bools.{first, second, not-not}
 use Rattle.wt_transport.proofs.StreamChanges.{skipped, emptied}
+use Rattle.wt_transport.proofs.ButAccepted.{Forgets, close-forgets, consume-forgets, fits-same, opening-forgets, reset-forgets, send-forgets, stop-forgets, turn-forgets}
 use Rattle.wt_transport.proofs.Fitting.{fits-is, send-is, receive-is}
 use Rattle.wt_transport.proofs.Arriving.{same-holds, pieces_then, turn-is, turn-facts, turn-holds}
 use Rattle.wt_transport.proofs.Calls.{opened-id-is, opening-is, opening-facts, send-then, send-facts, count-covered, finish-then, finish-facts, reset-here, reset-here-facts, priority-then, priority-facts, stop-out, stop-out-facts, dial-facts, datagram-out-facts, close-then, close-facts, pieces-is, end-is, consume-then, consume-facts, consume-holds, give-up-then, give-up-facts, give-up-holds, may-send-is}
@@ -64,31 +65,26 @@ pub actions-contents : (later : List Action) (log : Log) → contents (with_acti
 actions-contents [] log = refl
 actions-contents (a ∷ later) log = actions-contents later (Sent a ∷ log)
 
--- what is kept of a log refines it
-refines-of : (side : Side) (log : Log) (position : ℕ → ReadPosition) (pieces : ℕ → List (List ℕ)) (uncollected : List Action) → Facts side log position pieces
-    → ((k : ℕ) → Holds log position pieces k) → Refines side (state_of side log position pieces uncollected) log position uncollected
-refines-of side log position pieces uncollected facts holds = record { pieces = pieces; facts = facts; holds = holds; state = refl }
-
 module _ (side : Side) (t : TransportState) (log : Log) (position : ℕ → ReadPosition) (uncollected : List Action) (r : Refines side t log position uncollected) where
   -- a step that leads from what is kept of this log to what is kept of that one
-  refines-after : (step : TransportState → TransportState) (g : Log) (position_then : ℕ → ReadPosition) (pieces_after : ℕ → List (List ℕ)) (uncollected_then : List Action)
+  refines-after : (step : TransportState → TransportState) (g : Log) (position_then : ℕ → ReadPosition) (pieces_after : ℕ → List (List ℕ)) (uncollected_then : List Action) → Forgets step t
       → step (state_of side log position r.pieces uncollected) ≡ state_of side g position_then pieces_after uncollected_then → Facts side g position_then pieces_after
       → ((k : ℕ) → Holds g position_then pieces_after k) → Refines side (step t) g position_then uncollected_then
-  refines-after step g position_then pieces_after uncollected_then e f h =
-      subst (λ (u : TransportState). Refines side u g position_then uncollected_then) (sym (ap step r.state ∙ e)) (refines-of side g position_then pieces_after uncollected_then f h)
+  refines-after step g position_then pieces_after uncollected_then forgets e f h =
+      record { pieces = pieces_after; facts = f; holds = h; state = forgets ∙ (ap step r.state ∙ e) }
 
   -- an entry that is no byte leaves what the pieces hold
   held-by : (g : Log) → contents g ≡ contents log → (k : ℕ) → Holds g position r.pieces k
   held-by g e = same-holds log g position r.pieces e r.holds
 
   -- an answer that what is kept of this log gives
-  kept-gives : {X : Type 0} (answer : TransportState → X) (x : X) → answer (state_of side log position r.pieces uncollected) ≡ x → answer t ≡ x
+  kept-gives : {X : Type 0} (answer : TransportState → X) (x : X) → answer (state_of side log position r.pieces uncollected) ≡ x → answer (but_accepted t) ≡ x
   kept-gives answer x e = ap answer r.state ∙ e
 
   -- ---- what a transport tells
 
   pub refined_fits : (turn : Turn) → fits_now t turn ≡ fits side log turn
-  refined_fits turn = kept-gives (λ u. fits_now u turn) (fits side log turn) (fits-is side log position r.pieces uncollected r.facts turn)
+  refined_fits turn = sym (fits-same t turn) ∙ kept-gives (λ u. fits_now u turn) (fits side log turn) (fits-is side log position r.pieces uncollected r.facts turn)
 
   pub refined_bytes_fit : (id : ℕ) (bytes : List ℕ) → (may_receive_now t id && not t.is_lost) ≡ fits side log (turns.Bytes id bytes)
   refined_bytes_fit id bytes = refined_fits (turns.Bytes id bytes)
@@ -175,7 +171,7 @@ module _ (side : Side) (t : TransportState) (log : Log) (position : ℕ → Read
   turn_refines turn f =
       let fits_then : fits side log turn ≡ true = sym (refined_fits turn) ∙ f in
       refines-after (λ u. after_turn u turn) (log_turn log turn) position (pieces_then log position r.pieces turn) uncollected
-      (turn-is side log position r.pieces uncollected r.facts turn fits_then) (turn-facts side log position r.pieces uncollected r.facts turn fits_then) (turn-holds log position r.pieces r.holds turn)
+      (turn-forgets t turn) (turn-is side log position r.pieces uncollected r.facts turn fits_then) (turn-facts side log position r.pieces uncollected r.facts turn fits_then) (turn-holds log position r.pieces r.holds turn)
 
   pub bytes_refine : (id : ℕ) (bytes : List ℕ) → IsTrue (may_receive_now t id && not t.is_lost) → Refines side (after_bytes t id bytes) (log_turn log (turns.Bytes id bytes)) position uncollected
   bytes_refine id bytes f = turn_refines (turns.Bytes id bytes) f
@@ -185,7 +181,7 @@ module _ (side : Side) (t : TransportState) (log : Log) (position : ℕ → Read
 
   opening_refines : (kind : ℕ) → kind < 4 → Refines side (after_opening t kind) (with_actions (actions_to_open side log kind) log) position (newest_first (actions_to_open side log kind) uncollected)
   opening_refines kind l = refines-after (λ u. after_opening u kind) (with_actions (actions_to_open side log kind) log) position r.pieces (newest_first (actions_to_open side log kind) uncollected)
-      (opening-is side log position r.pieces uncollected r.facts kind l) (opening-facts side log position r.pieces uncollected r.facts kind) (held-by _ (with-contents (actions_to_open side log kind)))
+      (opening-forgets t kind) (opening-is side log position r.pieces uncollected r.facts kind l) (opening-facts side log position r.pieces uncollected r.facts kind) (held-by _ (with-contents (actions_to_open side log kind)))
 
   pub uni_refines : Refines side (after_opening t (local_uni t.side)) (with_actions (actions_to_open side log (local_uni side)) log) position (newest_first (actions_to_open side log (local_uni side)) uncollected)
   uni_refines = subst (λ (w : Side). Refines side (after_opening t (local_uni w)) (with_actions (actions_to_open side log (local_uni side)) log) position (newest_first (actions_to_open side log (local_uni side)) uncollected))
@@ -197,11 +193,11 @@ module _ (side : Side) (t : TransportState) (log : Log) (position : ℕ → Read
 
   pub send_refines : (id : ℕ) (bytes : List ℕ) → IsTrue (may_send_now t id) → Refines side (after_send t id bytes) (with_actions (actions_to_send log id bytes) log) position (newest_first (actions_to_send log id bytes) uncollected)
   send_refines id bytes e = refines-after (λ u. after_send u id bytes) (with_actions (actions_to_send log id bytes) log) position r.pieces (newest_first (actions_to_send log id bytes) uncollected)
-      (send-then side log position r.pieces uncollected r.facts id bytes (sending-exists id e)) (send-facts side log position r.pieces uncollected r.facts id bytes (sending-exists id e)) (held-by _ (with-contents (actions_to_send log id bytes)))
+      (send-forgets t id bytes) (send-then side log position r.pieces uncollected r.facts id bytes (sending-exists id e)) (send-facts side log position r.pieces uncollected r.facts id bytes (sending-exists id e)) (held-by _ (with-contents (actions_to_send log id bytes)))
 
   pub finish_refines : (id : ℕ) → IsTrue (may_send_now t id) → Refines side (after_finish t id) (Sent (actions.Finish id) ∷ log) position (actions.Finish id ∷ uncollected)
   finish_refines id e = refines-after (λ u. after_finish u id) (Sent (actions.Finish id) ∷ log) position r.pieces (actions.Finish id ∷ uncollected)
-      (finish-then side log position r.pieces uncollected r.facts id (sending-exists id e)) (finish-facts side log position r.pieces uncollected r.facts id (sending-exists id e)) (held-by _ refl)
+      refl (finish-then side log position r.pieces uncollected r.facts id (sending-exists id e)) (finish-facts side log position r.pieces uncollected r.facts id (sending-exists id e)) (held-by _ refl)
 
   reset-contents : (b : Bool) (id code : ℕ) → contents ((if b then Sent (actions.ResetOut id code) else Called (ResetUnsent id code)) ∷ log) ≡ contents log
   reset-contents true id code = refl
@@ -209,37 +205,37 @@ module _ (side : Side) (t : TransportState) (log : Log) (position : ℕ → Read
 
   pub reset_refines : (id code : ℕ) → IsTrue (can_send_now t id) → Refines side (after_reset t id code) (reset_entry log id code ∷ log) position (newest_first (if_open log (actions.ResetOut id code)) uncollected)
   reset_refines id code e = refines-after (λ u. after_reset u id code) (reset_entry log id code ∷ log) position r.pieces (newest_first (if_open log (actions.ResetOut id code)) uncollected)
-      (reset-here side log position r.pieces uncollected r.facts id code (half_exists id e)) (reset-here-facts side log position r.pieces uncollected r.facts id code (half_exists id e)) (held-by _ (reset-contents (is_open log) id code))
+      (reset-forgets t id code) (reset-here side log position r.pieces uncollected r.facts id code (half_exists id e)) (reset-here-facts side log position r.pieces uncollected r.facts id code (half_exists id e)) (held-by _ (reset-contents (is_open log) id code))
 
   pub stop_refines : (id code : ℕ) → Refines side (after_stop t id code) (with_actions (if_open log (actions.StopOut id code)) log) position (newest_first (if_open log (actions.StopOut id code)) uncollected)
   stop_refines id code = refines-after (λ u. after_stop u id code) (with_actions (if_open log (actions.StopOut id code)) log) position r.pieces (newest_first (if_open log (actions.StopOut id code)) uncollected)
-      (stop-out side log position r.pieces uncollected r.facts id code) (stop-out-facts side log position r.pieces uncollected r.facts id code) (held-by _ (with-contents (if_open log (actions.StopOut id code))))
+      (stop-forgets t id code) (stop-out side log position r.pieces uncollected r.facts id code) (stop-out-facts side log position r.pieces uncollected r.facts id code) (held-by _ (with-contents (if_open log (actions.StopOut id code))))
 
   pub priority_refines : (id : ℕ) (priority : ℤ) → IsTrue (can_send_now t id) → Refines side (after_priority t id priority) (Called (PrioritySet id priority) ∷ log) position uncollected
   priority_refines id priority e = refines-after (λ u. after_priority u id priority) (Called (PrioritySet id priority) ∷ log) position r.pieces uncollected
-      (priority-then side log position r.pieces uncollected r.facts id priority (half_exists id e)) (priority-facts side log position r.pieces uncollected r.facts id priority (half_exists id e)) (held-by _ refl)
+      refl (priority-then side log position r.pieces uncollected r.facts id priority (half_exists id e)) (priority-facts side log position r.pieces uncollected r.facts id priority (half_exists id e)) (held-by _ refl)
 
   pub dial_refines : (address : Addr) (name : List ℕ) → Refines side (after_dial t address name) (Sent (actions.Dial address name) ∷ log) position (actions.Dial address name ∷ uncollected)
   dial_refines address name = refines-after (λ u. after_dial u address name) (Sent (actions.Dial address name) ∷ log) position r.pieces (actions.Dial address name ∷ uncollected)
-      refl (dial-facts side log position r.pieces uncollected r.facts address name) (held-by _ refl)
+      refl refl (dial-facts side log position r.pieces uncollected r.facts address name) (held-by _ refl)
 
   pub datagram_refines : (piece : List ℕ) → Refines side (with_action t (actions.DatagramOut piece)) (Sent (actions.DatagramOut piece) ∷ log) position (actions.DatagramOut piece ∷ uncollected)
   datagram_refines piece = refines-after (λ u. with_action u (actions.DatagramOut piece)) (Sent (actions.DatagramOut piece) ∷ log) position r.pieces (actions.DatagramOut piece ∷ uncollected)
-      refl (datagram-out-facts side log position r.pieces uncollected r.facts piece) (held-by _ refl)
+      refl refl (datagram-out-facts side log position r.pieces uncollected r.facts piece) (held-by _ refl)
 
   pub close_refines : (code : ℕ) (reason : List ℕ) → Refines side (after_close t code reason) (with_actions (if_open log (actions.Close code reason)) log) position (newest_first (if_open log (actions.Close code reason)) uncollected)
   close_refines code reason = refines-after (λ u. after_close u code reason) (with_actions (if_open log (actions.Close code reason)) log) position r.pieces (newest_first (if_open log (actions.Close code reason)) uncollected)
-      (close-then side log position r.pieces uncollected r.facts code reason) (close-facts side log position r.pieces uncollected r.facts code reason) (held-by _ (with-contents (if_open log (actions.Close code reason))))
+      (close-forgets t code reason) (close-then side log position r.pieces uncollected r.facts code reason) (close-facts side log position r.pieces uncollected r.facts code reason) (held-by _ (with-contents (if_open log (actions.Close code reason))))
 
   pub collected_refines : Refines side (record t { actions = [] }) log position []
-  collected_refines = refines-after (λ u. record u { actions = [] }) log position r.pieces [] refl r.facts r.holds
+  collected_refines = refines-after (λ u. record u { actions = [] }) log position r.pieces [] refl refl r.facts r.holds
 
   pub consume_refines : (id count : ℕ) → count ≤ length (unread_now t id) → Refines side (after_consume t id count) log (position_after position id count) uncollected
   consume_refines id count l =
       let few : count ≤ length (unread log position id) = subst (λ (xs : List ℕ). count ≤ length xs) (refined_unread id) l in
       refines-after (λ u. after_consume u id count) log (position_after position id count) (skipped r.pieces id count) uncollected
-      (consume-then side log position r.pieces uncollected r.facts id count) (consume-facts side log position r.pieces uncollected r.facts id count) (consume-holds log position r.pieces r.holds id count few)
+      (consume-forgets t id count) (consume-then side log position r.pieces uncollected r.facts id count) (consume-facts side log position r.pieces uncollected r.facts id count) (consume-holds log position r.pieces r.holds id count few)
 
   pub give_up_refines : (id : ℕ) → IsTrue (can_receive_now t id) → Refines side (after_give_up t id) log (given_up position id) uncollected
   give_up_refines id e = refines-after (λ u. after_give_up u id) log (given_up position id) (emptied r.pieces id) uncollected
-      (give-up-then side log position r.pieces uncollected r.facts id (receiving_exists id e)) (give-up-facts side log position r.pieces uncollected r.facts id (receiving_exists id e)) (give-up-holds log position r.pieces r.holds id)
+      refl (give-up-then side log position r.pieces uncollected r.facts id (receiving_exists id e)) (give-up-facts side log position r.pieces uncollected r.facts id (receiving_exists id e)) (give-up-holds log position r.pieces r.holds id)

@@ -12,3 +12,4 @@ pub mod State
 pub mod Step
 pub mod Rules
 pub mod OfLog
+pub mod Accepting

@@ -18,6 +18,15 @@ use Rattle.wt_seam_spec.specs.Unread.{ReadPosition, AtOffset, GivenUp, is_given_
 use Rattle.wt_streams.specs.Pieces.{AreFilled}
 use Rattle.wt_streams.specs.StreamState.{fresh, rows}
 
+-- how many of the peer's streams were accepted, of each kind: the first ones by their ids
+pub record AcceptedCounts : Type 0 where
+  pub uni : ℕ
+  pub bi : ℕ
+
+-- none was accepted
+abbrev pub nothing_accepted : AcceptedCounts
+nothing_accepted = record { uni = 0; bi = 0 }
+
 -- what a transport keeps of a connection
 pub record TransportState : Type 0 where
   pub side : Side
@@ -31,6 +40,7 @@ pub record TransportState : Type 0 where
   pub datagram_fact : Option DatagramFact
   pub loss : Option LossReason  -- the one that ended the connection
   pub streams : List (List Stream)  -- those of each kind
+  pub accepted : AcceptedCounts
   pub actions : List Action  -- those that weren't collected yet, joined
 
 -- ---- the abstraction function
@@ -53,7 +63,7 @@ stream_of log position pieces k = record {
   priority = priority_of (calls_of log) k;
 }
 
--- what is kept of a log, where readers are at these positions, with these actions not collected yet, the newest first
+-- what is kept of a log, before a stream is accepted, where readers are at these positions, with these actions not collected yet, the newest first
 abbrev pub state_of : Side → Log → (ℕ → ReadPosition) → (ℕ → List (List ℕ)) → List Action → TransportState
 state_of side log position pieces uncollected = record {
   side = side;
@@ -67,8 +77,13 @@ state_of side log position pieces uncollected = record {
   datagram_fact = datagram_fact (events_of log);
   loss = loss_of (events_of log);
   streams = rows (stream_of log position pieces) (stream_count side log);
+  accepted = nothing_accepted;
   actions = joined_actions uncollected;
 }
+
+-- what is kept, but for how many streams were accepted, which no log tells
+abbrev pub but_accepted : TransportState → TransportState
+but_accepted t = record t { accepted = nothing_accepted }
 
 -- ---- what holds of every log whose turns fit
 
@@ -97,9 +112,9 @@ pub record Holds (log : Log) (position : ℕ → ReadPosition) (pieces : ℕ →
   pub within : IsWithin (position k) (contents log k)
 
 -- What is kept refines a log, of whose streams the readers are at these positions, with these actions not collected yet,
--- the newest first.
+-- the newest first; how many streams were accepted it doesn't say.
 pub record Refines (side : Side) (t : TransportState) (log : Log) (position : ℕ → ReadPosition) (uncollected : List Action) : Type 0 where
   pub pieces : ℕ → List (List ℕ)
   pub facts : Facts side log position pieces
   pub holds : (k : ℕ) → Holds log position pieces k
-  pub state : t ≡ state_of side log position pieces uncollected
+  pub state : but_accepted t ≡ state_of side log position pieces uncollected

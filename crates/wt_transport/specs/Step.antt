@@ -17,7 +17,7 @@ use Rattle.wt_seam_spec.specs.Streams.{local_uni, peer_uni, peer_bi}
 use Rattle.wt_seam_spec.specs.Reports.{is_running}
 use Rattle.wt_seam_spec.specs.Joined.{join_one}
 use Rattle.wt_streams.specs.StreamState as stream
-use Rattle.wt_transport.specs.State.{TransportState}
+use Rattle.wt_transport.specs.State.{TransportState, nothing_accepted}
 
 -- how many streams of a kind there are
 abbrev pub count_now : TransportState → ℕ → ℕ
@@ -267,5 +267,6 @@ nothing_connected side = record {
   datagram_fact = None;
   loss = None;
   streams = [] ∷ [] ∷ [] ∷ [] ∷ [];
+  accepted = nothing_accepted;
   actions = [];
 }

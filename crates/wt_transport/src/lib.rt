@@ -6,6 +6,7 @@
 #![tactic(auto)]
 
 pub mod halves;
+pub mod send;
 pub mod transport;
 
 pub use halves::{QuicRecvStream, QuicSendStream};

@@ -11,6 +11,7 @@ ghost use Rattle.wt_transport.specs.OfLog.{OfEachLog, SendsIfOk, Tells, TellsUnr
 ghost use Rattle.wt_transport.specs.State.{Refines, TransportState};
 ghost use Rattle.wt_transport.specs.Step.{after_close, after_dial, can_receive_now, can_send_now, count_now, nothing_connected, with_action};
 
+mod accepting;
 mod arrivals;
 mod halves;
 mod planning;
@@ -53,6 +54,10 @@ pub struct Transport {
     loss: Option<LossReason>,
     /// The streams of each kind, by the low two bits of their ids.
     rows: [Row; 4],
+    /// How many of the peer's unidirectional streams were accepted.
+    unis_accepted: u64,
+    /// How many of its bidirectional ones.
+    bis_accepted: u64,
     outbox: Outbox,
 }
 
@@ -72,6 +77,8 @@ impl Drop for Transport {
             datagram_fact: _,
             loss: _,
             rows: _,
+            unis_accepted: _,
+            bis_accepted: _,
             outbox: _,
         } = self;
     }
@@ -83,7 +90,7 @@ impl Model for Transport {
 
     ghost Value = { TransportState };
 
-    ghost view = { λ t. record { side = t.side; is_open = t.is_open; has_dialled = t.has_dialled; is_connected = t.is_connected; is_lost = t.is_lost; unis_allowed = t.unis_allowed; bis_allowed = t.bis_allowed; initial_credit = t.initial_credit; datagram_fact = t.datagram_fact; loss = t.loss; streams = t.rows; actions = t.outbox } };
+    ghost view = { λ t. record { side = t.side; is_open = t.is_open; has_dialled = t.has_dialled; is_connected = t.is_connected; is_lost = t.is_lost; unis_allowed = t.unis_allowed; bis_allowed = t.bis_allowed; initial_credit = t.initial_credit; datagram_fact = t.datagram_fact; loss = t.loss; streams = t.rows; accepted = record { uni = t.unis_accepted; bi = t.bis_accepted }; actions = t.outbox } };
 
     ghost invariant = { λ t. (t.unis_allowed ≤ 2 ^ 60) × (t.bis_allowed ≤ 2 ^ 60) };
 }
@@ -113,8 +120,15 @@ impl Transport {
                 Row::new(alloc),
                 Row::new(alloc),
             ],
+            unis_accepted: 0,
+            bis_accepted: 0,
             outbox: Outbox::new(alloc),
         }
+    }
+
+    /// Where it takes memory.
+    pub fn allocator(&self) -> Global {
+        self.alloc
     }
 
     // ---- the streams

@@ -5,4 +5,3 @@ pub mod NextFrameLaws
 pub mod ReadLaws
 pub mod SessionFrames
 pub mod WriteLaws
-pub mod AcceptLaws

@@ -3,6 +3,5 @@ pub mod Reading
 pub mod Reads
 pub mod UniHeader
 pub mod NextFrame
-pub mod Accepting
 pub mod Typed
 pub mod Lending

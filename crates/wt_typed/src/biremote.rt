@@ -1,15 +1,14 @@
 //! Bidirectional streams that the peer opened.
 ghost use Rattle.std.specs.Prelude.{◌≡◌, ◌%◌, IfOk, IfSome, IsTrue, OnErr, OnOk, false, true};
 ghost use Rattle.wt_proto.specs.WalkProgress.{at_item};
+ghost use Rattle.wt_transport.specs.Accepting.{after_accept_bi, next_peer_bi};
 ghost use Rattle.wt_transport.specs.Step.{can_receive_now};
 ghost use Rattle.wt_typed.specs.declared.next_frame.FrameSource.TheVariants as sources;
-ghost use Rattle.wt_typed.specs.Accepting.{accepted_bi, next_bi};
 ghost use Rattle.wt_typed.specs.NextFrame.{frame_decides, session_reading};
 ghost use Rattle.wt_typed.specs.Reads.{FailedReadTakes, ReadAnswers, ReadAnswersSince, ReadLeaves, ReadLeavesBegun, ReadTakes};
 ghost use Rattle.wt_typed.specs.Typed.{after_stop_once, both, has_both, in_stage, stop_answer};
 ghost use Rattle.wt_typed.specs.Writing.{nothing_begun};
 
-use crate::accepted::Accepted;
 use crate::next_frame::{FrameReader, FrameSource};
 use crate::outgoing::Outgoing;
 use crate::stream::{
@@ -28,15 +27,14 @@ use wt_wire::ids::{SessionId, StreamId};
 use wt_wire::varint::VarInt;
 
 impl Stream<Pair, BiRemoteQuic> {
-    /// The peer's next bidirectional stream that wasn't accepted; None where each was.
-    #[tactic(auto, using(crate::proofs::AcceptLaws::bi_there))]
-    pub fn accept_bi(accepted: &mut Accepted, t: &mut Transport) -> Option<Self>
-        ensures stream { result ≡ in_stage both (record {}) (next_bi t.old accepted.old) }
+    /// The peer's next bidirectional stream: of those that weren't accepted yet the first by its id; None
+    /// where each was. The transport counts them, and else stays as it is.
+    pub fn accept_bi(t: &mut Transport) -> Option<Self>
+        ensures stream { result ≡ in_stage both (record {}) (next_peer_bi t.old) }
         ensures exists { IfSome result (λ s. IsTrue (has_both t.new s.halves)) }
-        ensures count { accepted.new ≡ accepted_bi t.old accepted.old }
-        ensures unchanged { t.new ≡ t.old }
+        ensures count { t.new ≡ after_accept_bi t.old }
     {
-        let id = accepted.next_bi(t)?;
+        let id = t.accept_bi()?;
         Some(Stream {
             halves: (QuicSendStream::new(id), QuicRecvStream::new(id)),
             stage: BiRemoteQuic,

@@ -4,9 +4,9 @@ ghost use Rattle.std.specs.Borrow.{sem};
 ghost use Rattle.wt_proto.specs.WalkProgress.{at_item, progress_after, reached_in};
 ghost use Rattle.wt_proto.specs.Walk.{whole_walk};
 ghost use Rattle.wt_proto.specs.declared.stream_header.StreamKind.TheVariants as kinds;
+ghost use Rattle.wt_transport.specs.Accepting.{after_accept_uni, next_peer_uni};
 ghost use Rattle.wt_transport.specs.Step.{can_receive_now, end_now, unread_now};
 ghost use Rattle.wt_typed.specs.declared.uni_header.UniHeader.TheVariants as headers;
-ghost use Rattle.wt_typed.specs.Accepting.{accepted_uni, next_uni};
 ghost use Rattle.wt_typed.specs.Lending.{LendsHalf};
 ghost use Rattle.wt_typed.specs.NextFrame.{frame_decides};
 ghost use Rattle.wt_typed.specs.Reading.{HasBegun, reached_answer};
@@ -14,7 +14,6 @@ ghost use Rattle.wt_typed.specs.Reads.{FailedReadTakes, ReadAnswers, ReadAnswers
 ghost use Rattle.wt_typed.specs.Typed.{in_stage, is_through, map_poll, source_of};
 ghost use Rattle.wt_typed.specs.UniHeader.{header_decides, kind_of};
 
-use crate::accepted::Accepted;
 use crate::next_frame::{FrameReader, FrameSource};
 use crate::stream::{
     Stream, StreamUniRemoteH3, StreamUniRemoteWT, UniRemoteH3, UniRemoteQuic, UniRemoteWT,
@@ -62,20 +61,18 @@ fn session_of(header: &UniHeader) -> SessionId
 }
 
 impl Stream<QuicRecvStream, UniRemoteQuic> {
-    /// The peer's next unidirectional stream that wasn't accepted; None where each was.
-    #[tactic(auto, using(crate::proofs::AcceptLaws::uni_there))]
-    pub fn accept_uni(alloc: Global, accepted: &mut Accepted, t: &mut Transport) -> Option<Self>
-        ensures stream { result
-            ≡ in_stage (λ id. record { id = id }) (record { header = at_item tt; is_spent = false }) (next_uni t.old accepted.old) }
+    /// The peer's next unidirectional stream: of those that weren't accepted yet the first by its id; None
+    /// where each was. The transport counts them, and else stays as it is.
+    pub fn accept_uni(t: &mut Transport) -> Option<Self>
+        ensures stream { result ≡ in_stage (λ id. record { id = id }) (record { header = at_item tt; is_spent = false }) (next_peer_uni t.old) }
         ensures exists { IfSome result (λ s. IsTrue (can_receive_now t.new s.halves.id)) }
-        ensures count { accepted.new ≡ accepted_uni t.old accepted.old }
-        ensures unchanged { t.new ≡ t.old }
+        ensures count { t.new ≡ after_accept_uni t.old }
     {
-        let id = accepted.next_uni(t)?;
+        let id = t.accept_uni()?;
         Some(Stream {
             halves: QuicRecvStream::new(id),
             stage: UniRemoteQuic {
-                header: HeaderReader::for_header(alloc),
+                header: HeaderReader::for_header(t.allocator()),
                 is_spent: false,
             },
         })

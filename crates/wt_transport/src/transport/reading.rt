@@ -6,7 +6,7 @@ ghost use Rattle.wt_wire.specs.declared.side.StreamEnd.TheVariants as ends;
 ghost use Rattle.wt_seam_spec.specs.Streams.{can_receive};
 ghost use Rattle.wt_seam_spec.specs.Reports.{end_of};
 ghost use Rattle.wt_streams.specs.Pieces.{first_piece};
-ghost use Rattle.wt_seam_spec.specs.Unread.{IsFront, position_after, given_up, unread};
+ghost use Rattle.wt_seam_spec.specs.Unread.{GivenUp, IsFront, position_after, given_up, unread};
 ghost use Rattle.wt_streams.specs.StreamState.{piece_count};
 ghost use Rattle.wt_transport.specs.OfLog.{OfEachLog, Tells, TellsUnread};
 ghost use Rattle.wt_transport.specs.State.{Refines};
@@ -98,14 +98,25 @@ impl Transport {
         }
     }
 
-    /// Gives a receiving half up: its bytes are dropped, and so are those that come later.
-    #[tactic(auto, using(crate::proofs::Refining::give_up_refines))]
+    /// Gives a receiving half up: its bytes are dropped, and so are those that come later. Nothing changes
+    /// where the stream isn't there or has no receiving half, or where it was given up before.
     pub fn give_up(&mut self, id: StreamId)
-        requires { IsTrue (can_receive_now self.old id) }
-        ensures now { self.new ≡ after_give_up self.old id }
-        ensures log { OfEachLog self.old (λ side log position uncollected. Refines side self.new log (given_up position id) uncollected) }
+        ensures now { IsTrue (can_receive_now self.old id) → self.new ≡ after_give_up self.old id }
+        ensures no_half { can_receive_now self.old id ≡ false → self.new ≡ self.old }
+        ensures log { IsTrue (can_receive_now self.old id)
+            → OfEachLog self.old (λ side log position uncollected. Refines side self.new log (given_up position id) uncollected) }
+        ensures again { TellsUnread self.old (λ side log position. position id ≡ GivenUp → self.new ≡ self.old) }
     {
-        self.give_up_now(id);
+        self.give_up_if_there(id);
+    }
+
+    fn give_up_if_there(&mut self, id: StreamId)
+        ensures there { IsTrue (can_receive_now self.old id) → self.new ≡ after_give_up self.old id }
+        ensures none { can_receive_now self.old id ≡ false → self.new ≡ self.old }
+    {
+        if self.can_receive(id) {
+            self.give_up_now(id);
+        }
     }
 
     pub(super) fn give_up_now(&mut self, id: StreamId)

@@ -1,4 +1,5 @@
 //! Worked rows of shared results and channels.
+use std::alloc::Global;
 use std::process::Abort;
 use wt_channel::bichannel::{BiChannel, ChannelEnd, SendOutcome, TrySendError};
 use wt_channel::shared_result::SharedResult;
@@ -81,6 +82,21 @@ fn a_channel_of_one_value(rt: HostRuntime) {
     receives(&rt, &mut channel, ChannelEnd::Right, Poll::Ready(Some(7)));
     channel.leave(ChannelEnd::Right);
     tries(&rt, &mut channel, 9, Err(TrySendError::Closed(9)));
+}
+
+/// The text of what a caller is told where a value wasn't sent.
+fn reads(rt: &impl Abort, alloc: Global, error: TrySendError<u8>, text: &str) {
+    match format!(in alloc; "{error}") {
+        Ok(said) => assert_eq!(rt; said.as_str(), text),
+        Err(_) => panic!(rt; "no memory"),
+    }
+}
+
+#[test]
+fn a_value_that_was_not_sent_has_its_text(rt: HostRuntime) {
+    let alloc = rt.alloc();
+    reads(&rt, alloc, TrySendError::Full(8), "channel full");
+    reads(&rt, alloc, TrySendError::Closed(9), "channel closed");
 }
 
 #[test]

@@ -18,9 +18,7 @@ fn consume(rt: &impl Abort, transport: &mut Transport, id: StreamId, count: usiz
     transport.unread(id)
 }
 
-fn give_up(rt: &impl Abort, transport: &mut Transport, id: StreamId) {
-    let can_receive = transport.can_receive(id);
-    assert!(rt; can_receive);
+fn give_up(transport: &mut Transport, id: StreamId) {
     transport.give_up(id);
 }
 
@@ -101,16 +99,30 @@ end 2: done
 end 2: unlawful
 read 2 9: end";
 
+/// The stream that wasn't there when it was given up.
+const NEXT_STREAM: &str = "\
+peer_uni: done
+bytes 6 65: done
+read 6 9: read 65
+read 2 9: end";
+
 #[test]
 fn a_stream_that_is_given_up_keeps_nothing(rt: HostRuntime) {
     let alloc = rt.alloc();
     let mut transport = server(alloc);
     plays(&rt, alloc, &mut transport, A_STREAM);
+    plays(&rt, alloc, &mut transport, "open_uni: opening 3");
     plays(&rt, alloc, &mut transport, FIVE_PIECES);
-    give_up(&rt, &mut transport, stream(2));
+    // a stream that isn't there, and one on which nothing is received
+    give_up(&mut transport, stream(6));
+    give_up(&mut transport, stream(3));
+    assert!(rt; transport.pieces() == 5);
+    give_up(&mut transport, stream(2));
     assert!(rt; transport.pieces() == 0);
     plays(&rt, alloc, &mut transport, LATE_BYTES);
     assert!(rt; transport.pieces() == 0);
+    give_up(&mut transport, stream(2));
+    plays(&rt, alloc, &mut transport, NEXT_STREAM);
 }
 
 /// Cases that rows alone tell.

@@ -8,9 +8,8 @@ use wt_proto::stream_header::StreamHeader;
 use wt_transport::Transport;
 use wt_turn::poll::Poll;
 use wt_typed::{
-    Accepted, StreamBiLocalH3, StreamBiLocalQuic, StreamBiLocalWT, StreamBiRemoteH3,
-    StreamBiRemoteQuic, StreamSession, StreamUniLocalH3, StreamUniLocalQuic, StreamUniRemoteH3,
-    StreamUniRemoteQuic,
+    StreamBiLocalH3, StreamBiLocalQuic, StreamBiLocalWT, StreamBiRemoteH3, StreamBiRemoteQuic,
+    StreamSession, StreamUniLocalH3, StreamUniLocalQuic, StreamUniRemoteH3, StreamUniRemoteQuic,
 };
 use wt_wire::frame::Frame;
 use wt_wire::ids::SessionId;
@@ -102,10 +101,8 @@ fn signals(rt: &impl Abort, alloc: Global, t: &mut Transport, http: &mut StreamB
 }
 
 /// The peer's first unidirectional stream.
-fn accept_uni(rt: &impl Abort, alloc: Global, t: &mut Transport) -> HeaderIn {
-    let mut accepted = Accepted::new();
-    let answer = StreamUniRemoteQuic::accept_uni(alloc, &mut accepted, t);
-    let quic = answer.expect(rt, "no stream");
+fn accept_uni(rt: &impl Abort, t: &mut Transport) -> HeaderIn {
+    let quic = StreamUniRemoteQuic::accept_uni(t).expect(rt, "no stream");
     HeaderIn { quic, http: None }
 }
 
@@ -129,7 +126,7 @@ pub fn after_header(
     t: &mut Transport,
     text: &str,
 ) -> StreamUniRemoteH3 {
-    let mut header = accept_uni(rt, alloc, t);
+    let mut header = accept_uni(rt, t);
     rows(rt, alloc, t, &mut header, text);
     let HeaderIn { http, .. } = header;
     http.expect(rt, "no header")
@@ -147,9 +144,8 @@ impl Subject for StreamUniRemoteH3 {
 
 /// The peer's first bidirectional stream.
 pub fn request(rt: &impl Abort, alloc: Global, t: &mut Transport) -> StreamBiRemoteH3 {
-    let mut accepted = Accepted::new();
-    let answer = StreamBiRemoteQuic::accept_bi(&mut accepted, t);
-    answer.expect(rt, "no stream").upgrade(alloc)
+    let quic = StreamBiRemoteQuic::accept_bi(t).expect(rt, "no stream");
+    quic.upgrade(alloc)
 }
 
 impl Subject for StreamBiRemoteH3 {
@@ -224,9 +220,52 @@ fn stops(rt: &impl Abort, alloc: Global, t: &mut Transport, s: &mut StreamSessio
 /// The peer's first unidirectional stream reads its header.
 fn header(rt: &impl Abort, alloc: Global, text: &str) -> Transport {
     let mut t = server(rt, alloc, "connected 2 2 9 1200\npeer_uni");
-    let mut header = accept_uni(rt, alloc, &mut t);
+    let mut header = accept_uni(rt, &mut t);
     rows(rt, alloc, &mut t, &mut header, text);
     t
+}
+
+/// The peer's next streams, one of each kind.
+#[derive(Drop)]
+struct Accepting;
+
+fn next_uni(t: &mut Transport) -> Option<u64> {
+    let quic = StreamUniRemoteQuic::accept_uni(t)?;
+    Some(quic.id().into_u64())
+}
+
+fn next_bi(t: &mut Transport) -> Option<u64> {
+    let quic = StreamBiRemoteQuic::accept_bi(t)?;
+    Some(quic.id().into_u64())
+}
+
+impl Subject for Accepting {
+    fn ask(&mut self, rt: &impl Abort, alloc: Global, t: &mut Transport) -> String {
+        let uni = next_uni(t);
+        let bi = next_bi(t);
+        match format!(in alloc; "{uni:?} {bi:?}") {
+            Ok(text) => text,
+            Err(_) => panic!(rt; "no memory"),
+        }
+    }
+}
+
+#[test]
+fn streams_are_accepted_by_their_ids_each_once(rt: HostRuntime) {
+    let alloc = rt.alloc();
+    let mut t = server(&rt, alloc, "connected 2 2 9 1200");
+    let text = "> None None\n\
+        peer_uni\n\
+        peer_bi\n\
+        peer_uni\n\
+        > Some(2) Some(0)\n\
+        > Some(6) None\n\
+        > None None\n\
+        peer_bi\n\
+        loss reset\n\
+        > None Some(4)\n\
+        > None None";
+    rows(&rt, alloc, &mut t, &mut Accepting, text);
 }
 
 #[test]
