@@ -34,7 +34,7 @@ use Rattle.wt_spec.specs.StreamTable.{Classified, awaits_delivery, dispatched_st
 use Rattle.wt_agreement.proofs.Serving.{PlansServe, Serves, pass-calls, plans_serve}
 use Rattle.wt_agreement.proofs.Turns.{entry-first, goes-on, same_calls}
 use Rattle.wt_agreement.specs.Delivering.{DeliversFirst, delivers_request}
-use Rattle.wt_turn.specs.Log.{CallRecord, Called, ConnectStarted, DatagramPassed, DatagramReceived, HandshakeOver, Log, Polled, RequestDelivered, ResponseStarted, SessionEstablished, StreamAccepted, calls_of, with_actions}
+use Rattle.wt_turn.specs.Log.{AcceptanceFailed, CallRecord, Called, ConnectStarted, DatagramPassed, DatagramReceived, HandshakeOver, Log, Polled, RequestDelivered, RequestRejected, ResponseStarted, SessionEstablished, StreamAccepted, calls_of, with_actions}
 use Rattle.wt_turn.specs.declared.action.Action.{Action}
 use Rattle.wt_turn.specs.declared.call.Call.{Call}
 use Rattle.wt_turn.specs.declared.call.Call.TheVariants as calls
@@ -98,6 +98,8 @@ record-stays (RequestDelivered k) own reply before d s = absurd (cc)
 record-stays (ResponseStarted accepts head) own reply before d s = record { back = λ a. request-answering (handshake_state before) s; same = λ a. refl }
 record-stays (ConnectStarted reserved head) own reply before d s = record { back = λ a. absurd (cc); same = λ a. refl }
 record-stays (SessionEstablished id offset) own reply before d s = record { back = λ a. absurd (cc); same = λ a. refl }
+record-stays (RequestRejected id) own reply before d s = record { back = λ a. absurd (cc); same = λ a. refl }
+record-stays AcceptanceFailed own reply before d s = record { back = λ a. absurd (cc); same = λ a. refl }
 record-stays HandshakeOver own reply before d s = record { back = λ a. absurd (cc); same = λ a. refl }
 record-stays _ own reply before d s = record { back = λ a. a; same = λ a. refl }
 
@@ -109,9 +111,9 @@ record HandshakeIs (h : HandshakeState) (k : ℕ) (log : Log) : Type 0 where
 handshake-serves : (side : Side) (h : HandshakeState) (k : ℕ) → Serves side (HandshakeIs h k) (HandshakeIs h k)
 handshake-serves side h k = record {
   passed = λ log id p. let c = pass-calls side log id in record { state = ap handshake_state c ∙ p.state; request = ap requested_stream c ∙ p.request };
-  given = λ log id p. let c = calls-logged side log [] (StreamAccepted id) in record { state = ap handshake_state c ∙ p.state; request = ap requested_stream c ∙ p.request };
+  given = λ log id session p. let c = calls-logged side log [] (StreamAccepted id session) in record { state = ap handshake_state c ∙ p.state; request = ap requested_stream c ∙ p.request };
   skipped = λ log p. let c = calls-logged side log [] DatagramPassed in record { state = ap handshake_state c ∙ p.state; request = ap requested_stream c ∙ p.request };
-  received = λ log p. let c = calls-logged side log [] DatagramReceived in record { state = ap handshake_state c ∙ p.state; request = ap requested_stream c ∙ p.request };
+  received = λ log index p. let c = calls-logged side log [] (DatagramReceived index) in record { state = ap handshake_state c ∙ p.state; request = ap requested_stream c ∙ p.request };
   polled = λ log p. let c = calls-logged side log [] Polled in record { state = ap handshake_state c ∙ p.state; request = ap requested_stream c ∙ p.request };
 }
 

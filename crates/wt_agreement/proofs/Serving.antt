@@ -7,6 +7,7 @@ use Rattle.wt_seam_spec.specs.Streams.{peer_count}
 use Rattle.wt_spec.specs.Connection.{accept_due, accept_first, give_or_pass, is_for_session, next_datagram, next_due, pass_stream, receive_first, receive_next, receive_or_pass}
 use Rattle.wt_spec.specs.Effect.{log_call}
 use Rattle.wt_spec.specs.StreamTable.{Classified}
+use Rattle.wt_spec.specs.Driver.{released_datagrams}
 use Rattle.wt_turn.specs.Log.{DatagramPassed, DatagramReceived, Log, Polled, StreamAccepted, StreamPassed, calls_of, events_of}
 use Rattle.wt_turn.specs.declared.reply.Reply.{Reply}
 use Rattle.wt_wire.specs.declared.side.Side.{Side}
@@ -18,17 +19,17 @@ pass-calls side log id = calls-logged side log (passing_stop id ∷ []) (StreamP
 -- a stream or a datagram that is given or passed keeps the one, and the poll at the end leads from it to the other
 pub record Serves (side : Side) (P R : Log → Type 0) : Type 0 where
   pub passed : (log : Log) (k : ℕ) → P log → P (pass_stream side log k)
-  pub given : (log : Log) (k : ℕ) → P log → P (log_call side log [] (StreamAccepted k))
+  pub given : (log : Log) (k session : ℕ) → P log → P (log_call side log [] (StreamAccepted k session))
   pub skipped : (log : Log) → P log → P (log_call side log [] DatagramPassed)
-  pub received : (log : Log) → P log → P (log_call side log [] DatagramReceived)
+  pub received : (log : Log) (index : ℕ) → P log → P (log_call side log [] (DatagramReceived index))
   pub polled : (log : Log) → P log → R (log_call side log [] Polled)
 
 accept-first-serves : {side : Side} {P R : Log → Type 0} (w : Serves side P R) (n : ℕ) (reply : ℕ → Reply) (kind s : ℕ) (log : Log) → P log → R (accept_first n side reply kind s log).log
 accept-first-serves w zero reply kind s log p = w.polled log p
 accept-first-serves {side} {P} {R} w (suc n) reply kind s log p = by (λ later q. accept-first-serves w n reply kind s later q) (next_due side log kind s)
   where
-    one : ((later : Log) → P later → R (accept_first n side reply kind s later).log) → (b : Bool) (k : ℕ) → R (give_or_pass b side reply (λ later. accept_first n side reply kind s later) log k).log
-    one again true k = w.polled (log_call side log [] (StreamAccepted k)) (w.given log k p)
+    one : ((later : Log) → P later → R (accept_first n side reply kind s later).log) → (b : Bool) (k : ℕ) → R (give_or_pass b side reply (λ later. accept_first n side reply kind s later) s log k).log
+    one again true k = w.polled (log_call side log [] (StreamAccepted k s)) (w.given log k s p)
     one again false k = again (pass_stream side log k) (w.passed log k p)
 
     by : ((later : Log) → P later → R (accept_first n side reply kind s later).log) → (o : Option Classified) → R (accept_due side reply (λ later. accept_first n side reply kind s later) s log o).log
@@ -40,7 +41,7 @@ receive-first-serves w zero s log p = w.polled log p
 receive-first-serves {side} {P} {R} w (suc n) s log p = by (λ later q. receive-first-serves w n s later q) (next_datagram side log)
   where
     one : ((later : Log) → P later → R (receive_first n side s later).log) → (b : Bool) (payload : List ℕ) → R (receive_or_pass b side (λ later. receive_first n side s later) log payload).log
-    one again true payload = w.polled (log_call side log [] DatagramReceived) (w.received log p)
+    one again true payload = let index = released_datagrams (calls_of log) in w.polled (log_call side log [] (DatagramReceived index)) (w.received log index p)
     one again false payload = again (log_call side log [] DatagramPassed) (w.skipped log p)
 
     by : ((later : Log) → P later → R (receive_first n side s later).log) → (o : Option (ℕ × List ℕ)) → R (receive_next side (λ later. receive_first n side s later) s log o).log

@@ -7,6 +7,7 @@ use Rattle.wt_plan.specs.Table.{KeepsCalls, TableValue}
 use Rattle.wt_seam_spec.specs.Reports.{datagrams_of}
 use Rattle.wt_seam_spec.specs.Streams.{peer_count}
 use Rattle.wt_agreement.proofs.Serving.{pass-calls}
+use Rattle.wt_spec.specs.Driver.{released_datagrams}
 use Rattle.wt_turn.specs.Log.{CallRecord, DatagramPassed, DatagramReceived, Log, Polled, StreamAccepted, StreamPassed, calls_of, events_of}
 use Rattle.wt_wire.specs.declared.side.Side.{Side}
 
@@ -19,8 +20,8 @@ passed-spares id t calls k = record { handshake_is = k.handshake_is; requested_i
 skipped-spares : (t : TableValue) (calls : List CallRecord) → KeepsCalls t calls → KeepsCalls t (DatagramPassed ∷ calls)
 skipped-spares t calls k = record { handshake_is = k.handshake_is; requested_is = k.requested_is; uses = k.uses }
 
-taken-spares : (t : TableValue) (calls : List CallRecord) → KeepsCalls t calls → KeepsCalls t (DatagramReceived ∷ calls)
-taken-spares t calls k = record { handshake_is = k.handshake_is; requested_is = k.requested_is; uses = k.uses }
+taken-spares : (index : ℕ) (t : TableValue) (calls : List CallRecord) → KeepsCalls t calls → KeepsCalls t (DatagramReceived index ∷ calls)
+taken-spares index t calls k = record { handshake_is = k.handshake_is; requested_is = k.requested_is; uses = k.uses }
 
 -- ---- over a call that gives
 
@@ -50,34 +51,36 @@ goes-due {S} {T} {rule} {P} {Q} w (suc n) s p = by (λ u q. goes-due w n u q) (r
 abbrev KeepsLog : TableValue → Log → Type 0
 KeepsLog t log = KeepsCalls t (calls_of log)
 
--- the log's newest call gave this stream, and a table keeps those before it
-record GaveAfter (t : TableValue) (k : ℕ) (log : Log) : Type 0 where
+-- the log's newest call gave this stream of the session, and a table keeps those before it
+record GaveAfter (t : TableValue) (session k : ℕ) (log : Log) : Type 0 where
   pub before : List CallRecord
-  pub calls : calls_of log ≡ StreamAccepted k ∷ before
+  pub calls : calls_of log ≡ StreamAccepted k session ∷ before
   pub kept : KeepsCalls t before
 
-streams-go : (side : Side) (kind session : ℕ) (t : TableValue) → Goes (log_streams side kind session) (KeepsLog t) (GaveAfter t)
+streams-go : (side : Side) (kind session : ℕ) (t : TableValue) → Goes (log_streams side kind session) (KeepsLog t) (GaveAfter t session)
 streams-go side kind session t = record {
   passes = λ k log p. subst (KeepsCalls t) (sym (pass-calls side log k)) (passed-spares k t (calls_of log) p);
-  gives = λ k log p. record { before = calls_of log; calls = calls-logged side log [] (StreamAccepted k); kept = p };
+  gives = λ k log p. record { before = calls_of log; calls = calls-logged side log [] (StreamAccepted k session); kept = p };
 }
 
 datagrams-go : (side : Side) (session : ℕ) (t : TableValue) → Goes (log_datagrams side session) (KeepsLog t) (λ (payload : List ℕ) (log : Log). KeepsCalls t (calls_of log))
 datagrams-go side session t = record {
   passes = λ payload log p. subst (KeepsCalls t) (sym (calls-logged side log [] DatagramPassed)) (skipped-spares t (calls_of log) p);
-  gives = λ payload log p. subst (KeepsCalls t) (sym (calls-logged side log [] DatagramReceived)) (taken-spares t (calls_of log) p);
+  gives = λ payload log p.
+      let index = released_datagrams (calls_of log) in
+      subst (KeepsCalls t) (sym (calls-logged side log [] (DatagramReceived index))) (taken-spares index t (calls_of log) p);
 }
 
 -- an accept that gives nothing leaves what a table keeps
 pub accept_passes : (side : Side) (log : Log) (kind session : ℕ) (t : TableValue) → KeepsCalls t (calls_of log) → (accept_outcome side kind log session).given ≡ None → KeepsCalls t (calls_of (accept_outcome side kind log session).state)
 accept_passes side log kind session t k e =
-    subst (λ (o : Option ℕ). After (KeepsLog t) (GaveAfter t) o (accept_outcome side kind log session).state) e (goes-due (streams-go side kind session t) (suc (peer_count side (events_of log) kind)) log k)
+    subst (λ (o : Option ℕ). After (KeepsLog t) (GaveAfter t session) o (accept_outcome side kind log session).state) e (goes-due (streams-go side kind session t) (suc (peer_count side (events_of log) kind)) log k)
 
 -- an accept that gives a stream leads to what a table keeps that noted it
-pub accept_gives : (side : Side) (log : Log) (kind session id : ℕ) (old new : TableValue) → KeepsCalls old (calls_of log) → ((calls : List CallRecord) → KeepsCalls old calls → KeepsCalls new (StreamAccepted id ∷ calls))
+pub accept_gives : (side : Side) (log : Log) (kind session id : ℕ) (old new : TableValue) → KeepsCalls old (calls_of log) → ((calls : List CallRecord) → KeepsCalls old calls → KeepsCalls new (StreamAccepted id session ∷ calls))
     → (accept_outcome side kind log session).given ≡ Some id → KeepsCalls new (calls_of (accept_outcome side kind log session).state)
 accept_gives side log kind session id old new k f e =
-    let g : GaveAfter old id (accept_outcome side kind log session).state = subst (λ (o : Option ℕ). After (KeepsLog old) (GaveAfter old) o (accept_outcome side kind log session).state) e (goes-due (streams-go side kind session old) (suc (peer_count side (events_of log) kind)) log k) in
+    let g : GaveAfter old session id (accept_outcome side kind log session).state = subst (λ (o : Option ℕ). After (KeepsLog old) (GaveAfter old session) o (accept_outcome side kind log session).state) e (goes-due (streams-go side kind session old) (suc (peer_count side (events_of log) kind)) log k) in
     subst (KeepsCalls new) (sym g.calls) (f g.before g.kept)
 
 -- a receive leaves what a table keeps

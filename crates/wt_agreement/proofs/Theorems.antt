@@ -81,7 +81,7 @@ polled_theorem = polled_spares
 pub passed_theorem : (side : Side) (log : Log) (kind session : ℕ) (t : TableValue) → KeepsCalls t (calls_of log) → (accept_outcome side kind log session).given ≡ None → KeepsCalls t (calls_of (accept_outcome side kind log session).state)
 passed_theorem = accept_passes
 
-pub given_theorem : (side : Side) (log : Log) (kind session id : ℕ) (old new : TableValue) → KeepsCalls old (calls_of log) → ((calls : List CallRecord) → KeepsCalls old calls → KeepsCalls new (StreamAccepted id ∷ calls))
+pub given_theorem : (side : Side) (log : Log) (kind session id : ℕ) (old new : TableValue) → KeepsCalls old (calls_of log) → ((calls : List CallRecord) → KeepsCalls old calls → KeepsCalls new (StreamAccepted id session ∷ calls))
     → (accept_outcome side kind log session).given ≡ Some id → KeepsCalls new (calls_of (accept_outcome side kind log session).state)
 given_theorem = accept_gives
 

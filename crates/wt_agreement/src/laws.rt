@@ -72,7 +72,7 @@ pub fn tables_keep_calls()
     ensures passed { (side : Side) (log : Log) (kind session : ℕ) (t : TableValue) → KeepsCalls t (calls_of log)
         → (accept_outcome side kind log session).given ≡ None → KeepsCalls t (calls_of (accept_outcome side kind log session).state) }
     ensures given { (side : Side) (log : Log) (kind session id : ℕ) (old new : TableValue) → KeepsCalls old (calls_of log)
-        → ((calls : List CallRecord) → KeepsCalls old calls → KeepsCalls new (StreamAccepted id ∷ calls))
+        → ((calls : List CallRecord) → KeepsCalls old calls → KeepsCalls new (StreamAccepted id session ∷ calls))
         → (accept_outcome side kind log session).given ≡ Some id → KeepsCalls new (calls_of (accept_outcome side kind log session).state) }
     ensures received { (side : Side) (log : Log) (session : ℕ) (t : TableValue) → KeepsCalls t (calls_of log)
         → KeepsCalls t (calls_of (receive_outcome side log session).state) }

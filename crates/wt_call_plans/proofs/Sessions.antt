@@ -19,5 +19,5 @@ pub in_session : (t : TransportState) (d : DriverAnswers) (name : Option ℕ) (c
 in_session t d name call id offset k r h e same = rw h (subst (λ (j : ℕ). IfOk r (λ p. defined_plan p ≡ call j)) same e)
 
 pub opening_polled : (f : CallFacts) (s : SessionState) (k session : ℕ) (r : Result code.Plan OutOfMemory) → is_opening_now s k ≡ true
-    → IfOk r (λ p. defined_plan p ≡ header_left f k (left_of f k (stream_header k session))) → IfOk r (λ p. defined_plan p ≡ poll_plan f s k session)
+    → IfOk r (λ p. defined_plan p ≡ header_left f k session (left_of f k (stream_header k session))) → IfOk r (λ p. defined_plan p ≡ poll_plan f s k session)
 opening_polled f s k session r h e = rw h e

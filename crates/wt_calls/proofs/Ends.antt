@@ -35,7 +35,7 @@ module _ (side : Side) (d : DriverValue) (log : Log) (collected : ℕ) (f : Foll
   reported-by (Step own (RequestDelivered k) reply) e t id fields offset n = reported_end_theorem side d log (uncollected_since collected log) call own k reply id fields offset f.refines m e n
   reported-by _ e t id fields offset n = absurd (cc)
 
-  -- it ends where the driver tells
+  -- it ends where the driver says
   pub reported_end : (p : Plan) → p ≡ plan_of (facts_of side log) (session_state log) call → delivers_request p ≡ true → (reported : ℕ × Bor Fields × ℕ) (result : Option (ℕ × Bor Fields × ℕ))
       → request_as result ≡ first_request (requests_now d.state) → result ≡ Some reported → KeepsRequestEnd side (call_effect side log call).log reported.2
   reported_end p e t reported result n is = reported-by p (sym e) t reported.0 reported.1.now reported.2 (sym n ∙ ap request_as is)
@@ -47,7 +47,7 @@ module _ (side : Side) (d : DriverValue) (log : Log) (collected : ℕ) (f : Foll
       let both : first.queued ∷ first.later ≡ [] = sym first.first ∙ none in cc
   none-by _ e t n = absurd (cc)
 
-  -- and it tells one
+  -- and there is one
   pub tells_one : (p : Plan) → p ≡ plan_of (facts_of side log) (session_state log) call → delivers_request p ≡ true → requests_now d.state ≡ [] → ⊥
   tells_one p e t n = none-by p (sym e) t n
 

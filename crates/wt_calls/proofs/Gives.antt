@@ -37,7 +37,7 @@ polled_may side d log collected f = record {
   half = tt;
 }
 
--- without anything to give a call waits, or fails as the driver tells it
+-- without anything to give a call waits, or fails as the driver reports it
 pub pending_now : (side : Side) (d : DriverValue) (log : Log) (collected : ℕ) → Follows side d log collected
     → pending_or_failed side log ≡ (if d.inbox.transport.is_open then replies.Pending else replies.Failed (error_now d.inbox.transport d.state.progress.ending))
 pending_now side d log collected f = pending_theorem side d log (uncollected_since collected log) f.refines
@@ -71,13 +71,13 @@ module _ (side : Side) (reply : ℕ → Reply) (kind s : ℕ) (log : Log) where
       ∙ sym (ap (λ (x : Effect). x.reply) (accept-is side reply kind s (suc (peer_count side (events_of log) kind)) log))
 
   kept-by : (old new : TableValue) (item : Option ℕ) → (accept_outcome side kind log s).given ≡ item
-      → ((calls : List CallRecord) → KeepsCalls old calls → KeepsCalls new (Polled ∷ with_given item calls))
+      → ((calls : List CallRecord) → KeepsCalls old calls → KeepsCalls new (Polled ∷ with_given s item calls))
       → KeepsCalls old (calls_of log) → KeepsCalls new (calls_of (accept_outcome side kind log s).state)
   kept-by old new None e f x = unpolled new _ (f _ (passed_theorem side log kind s old x e))
-  kept-by old new (Some k) e f x = given_theorem side log kind s k old new x (λ calls y. unpolled new (StreamAccepted k ∷ calls) (f calls y)) e
+  kept-by old new (Some k) e f x = given_theorem side log kind s k old new x (λ calls y. unpolled new (StreamAccepted k s ∷ calls) (f calls y)) e
 
   pub accept_kept : (old new : TableValue) (item : Option ℕ) → item ≡ (accept_outcome side kind log s).given
-      → ((calls : List CallRecord) → KeepsCalls old calls → KeepsCalls new (Polled ∷ with_given item calls))
+      → ((calls : List CallRecord) → KeepsCalls old calls → KeepsCalls new (Polled ∷ with_given s item calls))
       → KeepsCalls old (calls_of log) → KeepsCalls new (calls_of (accept_stream side reply kind log s).log)
   accept_kept old new item e f x =
       let same : calls_of (accept_stream side reply kind log s).log ≡ Polled ∷ calls_of (accept_outcome side kind log s).state =

@@ -7,10 +7,10 @@ use Rattle.wt_turn.specs.declared.poll.Poll.TheVariants.{Pending, Ready}
 use Rattle.wt_turn.specs.declared.reply.Reply.{Reply}
 use Rattle.wt_turn.specs.declared.reply.Reply.TheVariants as replies
 
--- the records with that of the stream that was given
-abbrev pub with_given : Option ℕ → List CallRecord → List CallRecord
-with_given None calls = calls
-with_given (Some k) calls = StreamAccepted k ∷ calls
+-- the records with that of the stream of this session that was given
+abbrev pub with_given : ℕ → Option ℕ → List CallRecord → List CallRecord
+with_given session None calls = calls
+with_given session (Some k) calls = StreamAccepted k session ∷ calls
 
 -- what an accept or a receive gives
 abbrev pub given_in : {T : Type 0} → Poll (Result T ConnectionError) → Option T

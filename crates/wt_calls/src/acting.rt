@@ -268,7 +268,7 @@ pub fn datagram_reply(answer: Poll<Result<Piece, ConnectionError>>) -> Reply
     }
 }
 
-/// Does what is planned, and tells the reply.
+/// Does what is planned, and returns the reply.
 ///
 /// # Errors
 ///

@@ -1,5 +1,5 @@
 //! What the plan of a call leads to over a driver: its actions, its record, and what an accept or a receive
-//! gives. The plans of wt_call_plans and, of wt_connect, what a client is asked to connect to are offered again.
+//! gives. Re-exports the plans of wt_call_plans and, of wt_connect, what a client is asked to connect to.
 #![tactic(auto)]
 
 pub mod acting;

@@ -65,9 +65,9 @@ tells-stream k (replies.BiReady j) g = record { loud = refl; no_bytes = refl; no
 tells-stream k _ g = absurd (cc)
 
 reported-accepts : (turn : Turn) (k : ℕ) (reply : Reply) → given_stream reply ≡ Some k → TellsStream reply → (r : CallRecord) → TellsOf turn r reply → accepts_stream k r ≡ true
-reported-accepts turn k reply g t (StreamAccepted i) q = let e : i ≡ k = cc in eq-eqb i k e
+reported-accepts turn k reply g t (StreamAccepted i session) q = let e : i ≡ k = cc in eq-eqb i k e
 reported-accepts turn k reply g t (BytesRead i n) (piece, e, count, rest) = absurd (let x = t.no_bytes in cc)
-reported-accepts turn k reply g t DatagramReceived (piece, e) = absurd (let x = t.no_datagram in cc)
+reported-accepts turn k reply g t (DatagramReceived index) (piece, e) = absurd (let x = t.no_datagram in cc)
 reported-accepts turn k reply g t (SessionEstablished i n) q = absurd (let x = t.no_session in cc)
 reported-accepts turn k reply g t (RequestDelivered i) q = absurd (let x = t.no_request in cc)
 reported-accepts turn k reply g t _ q = absurd (let x = t.loud in cc)
@@ -183,7 +183,7 @@ bi-receives side k l b = from-or (k % 4 == local_uni side) (k % 4 == local_bi si
 -- where a stream was given it was released
 released : (k : ℕ) (cs : List CallRecord) → list_any (accepts_stream k) cs ≡ true → list_any (releases k) cs ≡ true
 released k [] a = absurd (cc)
-released k (StreamAccepted id ∷ cs) a = from-or (id == k) (list_any (accepts_stream k) cs) (λ e. or_left (id == k) _ e) (λ x. or_right (id == k) _ (released k cs x)) a
+released k (StreamAccepted id session ∷ cs) a = from-or (id == k) (list_any (accepts_stream k) cs) (λ e. or_left (id == k) _ e) (λ x. or_right (id == k) _ (released k cs x)) a
 released k (r ∷ cs) a = or_right (releases k r) _ (released k cs a)
 
 module _ (side : Side) (log : Log) (call : Call) (kind k : ℕ) (m : (middle : Log) × IsDuring side log (turns.Call call) middle × AcceptedRightly side middle kind k) where
@@ -399,15 +399,15 @@ module _ (side : Side) (log : Log) (r : IsReachable side log) (kind : Bool) (o :
   abbrev left : List ℕ
   left = head_left log o.id (stream_header o.id o.session)
 
-  still_going : continue_opening side log o.id left ≡ poll
-  still_going = ap (λ b. if b then continue_opening side log o.id left else poll_only side log replies.NoStream) (sym i.opens) ∙ poll_is
+  still_going : continue_opening side log o.id o.session left ≡ poll
+  still_going = ap (λ b. if b then continue_opening side log o.id o.session left else poll_only side log replies.NoStream) (sym i.opens) ∙ poll_is
 
   -- what a poll of an opening does
   abbrev polled : Bool → Bool → Bool → Effect
   polled c f v =
       if c then reply_with (log_call side log [] (OpeningFailed o.id)) (replies.OpeningFailed openings.NotConnected) else
       (if f then reply_with (log_call side log [] (OpeningFailed o.id)) (replies.OpeningFailed openings.Refused) else
-      (if v then reply_with (log_call side log (send_of o.id left) (StreamAccepted o.id)) (opened_reply o.id) else poll_sending side log (send_of o.id (bytes_within_credit log o.id left)) replies.Pending))
+      (if v then reply_with (log_call side log (send_of o.id left) (StreamAccepted o.id o.session)) (opened_reply o.id) else poll_sending side log (send_of o.id (bytes_within_credit log o.id left)) replies.Pending))
 
   opened-send : (b : Bool) (k : ℕ) → (if b then replies.BiReady o.id else replies.SendReady o.id) ≡ replies.SendReady k → o.id ≡ k
   opened-send true k e = absurd (cc)

@@ -26,7 +26,7 @@ use Rattle.wt_session_spec.specs.ConnectPlans.{dialled_at, dialled_to, dialled_u
 use Rattle.wt_session_spec.specs.ConnectionPlans.{close_plan, closed_plan, datagram_by, datagram_if, datagram_plan, header_left, header_sent, opening_plan, poll_plan}
 use Rattle.wt_session_spec.specs.HalfPlans.{exact_plan, finish_plan, priority_plan, read_exact_plan, read_plan, read_record, reset_plan, set_priority_plan, stop_plan, stopped_plan, write_all_plan, write_plan}
 use Rattle.wt_session_spec.specs.HandshakePlans.{AllOut, Ended, HeadProgress, Refused, Short, abandon_plan, acceptance, actions_of_head, wait_plan, continued_by, continued_connect, delivery, failed_connect, finished_rejection, left_of, lost_connect, head_progress_of, rejection, request_left, request_plan, request_sent, request_unless, response_left, response_read, start_plan}
-use Rattle.wt_session_spec.specs.Plan.{AcceptBi, AcceptUni, Establish, Plan, Receive, Step, closing_with, fail_with, only_reply, perform, send_and_reply}
+use Rattle.wt_session_spec.specs.Plan.{AcceptBi, AcceptUni, Establish, Plan, Receive, Step, closing_with, fail_with, only_reply, perform, reject_with, send_and_reply}
 use Rattle.wt_session_spec.specs.Plans.{in_session_now, plan_of, with_half}
 use Rattle.wt_session_spec.specs.SessionState.{SessionState, has_receiving_now, has_sending_now, is_opening_now, session_state}
 use Rattle.wt_spec.specs.Answers.{call_effect, named_session}
@@ -36,6 +36,7 @@ use Rattle.wt_spec.specs.Effect.{Effect, is_empty, log_call}
 use Rattle.wt_spec.specs.Handshake.{Connecting, HandshakeState, Responding, has_success, response_head}
 use Rattle.wt_spec.specs.StreamTable.{Classified}
 use Rattle.wt_streams.specs.HalfRules.{is_closed, read_count, read_exact_answer}
+use Rattle.wt_spec.specs.Driver.{released_datagrams}
 use Rattle.wt_turn.specs.Log.{CallRecord, DatagramPassed, DatagramReceived, Log, OpeningFailed, Polled, PrioritySet, ResponseStarted, SessionEstablished, StreamAccepted, StreamGivenUp, StreamPassed, calls_of, events_of}
 use Rattle.wt_turn.specs.declared.action.Action.{Action}
 use Rattle.wt_turn.specs.declared.action.Action.TheVariants as actions
@@ -93,8 +94,8 @@ module _ (call : Call) where
     rejection-left Refused id own = refl
     rejection-left Short id own = w
     rejection-left AllOut id own =
-        either (not (f.sending id).finished) (Step (own ++ actions.Finish id ∷ []) waiting replies.Pending) (finished_rejection f (f.sending id) waiting) w
-        (either (is_some (f.sending id).stop || (f.sending id).acknowledged) (fail_with (closing_with f 0) replies.Rejected) (Step [] waiting replies.Pending) refl w)
+        either (not (f.sending id).finished) (Step (own ++ actions.Finish id ∷ []) waiting replies.Pending) (finished_rejection f id (f.sending id) waiting) w
+        (either (is_some (f.sending id).stop || (f.sending id).acknowledged) (reject_with id (closing_with f 0)) (Step [] waiting replies.Pending) refl w)
 
     response-left : (accepts : Bool) (id : ℕ) (left : List ℕ) → Left (response_left accepts f id left waiting)
     response-left true id left = acceptance-left (head_progress_of f id left) id (actions_of_head f id left)
@@ -203,16 +204,16 @@ module _ (call : Call) where
   exact-left k size bytes (Ready (Err (exacts.FinishedEarly count))) = refl
   exact-left k size bytes (Ready (Err (exacts.Read e))) = refl
 
-header-polled : (p : HeadProgress) (k : ℕ) (own : List Action) → Left (calls.PollOpening k) (header_sent p k own)
-header-polled Ended k own = eq-eqb k k refl
-header-polled Refused k own = eq-eqb k k refl
-header-polled Short k own = refl
-header-polled AllOut k own = refl
+header-polled : (p : HeadProgress) (k session : ℕ) (own : List Action) → Left (calls.PollOpening k) (header_sent p k session own)
+header-polled Ended k session own = eq-eqb k k refl
+header-polled Refused k session own = eq-eqb k k refl
+header-polled Short k session own = refl
+header-polled AllOut k session own = refl
 
 poll-left : (f : CallFacts) (s : SessionState) (k session : ℕ) → Left (calls.PollOpening k) (poll_plan f s k session)
 poll-left f s k session =
     let left = left_of f k (stream_header k session) in
-    either (calls.PollOpening k) (is_opening_now s k) (header_left f k left) (only_reply replies.NoStream) (header-polled (head_progress_of f k left) k (actions_of_head f k left)) refl
+    either (calls.PollOpening k) (is_opening_now s k) (header_left f k session left) (only_reply replies.NoStream) (header-polled (head_progress_of f k left) k session (actions_of_head f k left)) refl
 
 -- every call may leave what its plan records
 pub plan-left : (f : CallFacts) (s : SessionState) (call : Call) → Left call (plan_of f s call)
@@ -254,10 +255,10 @@ module _ (side : Side) (call : Call) (test : CallRecord → Bool) (n : (r : Call
   logged-same : (log : Log) (own : List Action) (r : CallRecord) → is_left_by r call ≡ true → list_any test (calls_of (log_call side log own r)) ≡ list_any test (calls_of log)
   logged-same log own r e = ap (list_any test) (calls-logged side log own r) ∙ ap (λ b. b || list_any test (calls_of log)) (n r e)
 
-  given-same : (b : Bool) (reply : ℕ → Reply) (again : Log → Effect) (log : Log) (k : ℕ) → ((later : Log) → list_any test (calls_of (again later).log) ≡ list_any test (calls_of later))
-      → list_any test (calls_of (give_or_pass b side reply again log k).log) ≡ list_any test (calls_of log)
-  given-same true reply again log k a = logged-same (log_call side log [] (StreamAccepted k)) [] Polled refl ∙ logged-same log [] (StreamAccepted k) refl
-  given-same false reply again log k a = a (pass_stream side log k) ∙ logged-same log (actions.StopOut k (code_of h3.BufferedStreamRejected) ∷ []) (StreamPassed k) refl
+  given-same : (b : Bool) (reply : ℕ → Reply) (again : Log → Effect) (s : ℕ) (log : Log) (k : ℕ) → ((later : Log) → list_any test (calls_of (again later).log) ≡ list_any test (calls_of later))
+      → list_any test (calls_of (give_or_pass b side reply again s log k).log) ≡ list_any test (calls_of log)
+  given-same true reply again s log k a = logged-same (log_call side log [] (StreamAccepted k s)) [] Polled refl ∙ logged-same log [] (StreamAccepted k s) refl
+  given-same false reply again s log k a = a (pass_stream side log k) ∙ logged-same log (actions.StopOut k (code_of h3.BufferedStreamRejected) ∷ []) (StreamPassed k) refl
 
   accept-same : (m : ℕ) (reply : ℕ → Reply) (kind s : ℕ) (log : Log) → list_any test (calls_of (accept_first m side reply kind s log).log) ≡ list_any test (calls_of log)
   accept-same zero reply kind s log = logged-same log [] Polled refl
@@ -266,11 +267,13 @@ module _ (side : Side) (call : Call) (test : CallRecord → Bool) (n : (r : Call
       by : (o : Option Classified) → ((later : Log) → list_any test (calls_of (accept_first m side reply kind s later).log) ≡ list_any test (calls_of later))
           → list_any test (calls_of (accept_due side reply (λ later. accept_first m side reply kind s later) s log o).log) ≡ list_any test (calls_of log)
       by None a = logged-same log [] Polled refl
-      by (Some c) a = given-same (is_for_session s c.verdict) reply (λ later. accept_first m side reply kind s later) log c.id a
+      by (Some c) a = given-same (is_for_session s c.verdict) reply (λ later. accept_first m side reply kind s later) s log c.id a
 
   received-same : (b : Bool) (again : Log → Effect) (log : Log) (payload : List ℕ) → ((later : Log) → list_any test (calls_of (again later).log) ≡ list_any test (calls_of later))
       → list_any test (calls_of (receive_or_pass b side again log payload).log) ≡ list_any test (calls_of log)
-  received-same true again log payload a = logged-same (log_call side log [] DatagramReceived) [] Polled refl ∙ logged-same log [] DatagramReceived refl
+  received-same true again log payload a =
+      let r = DatagramReceived (released_datagrams (calls_of log)) in
+      logged-same (log_call side log [] r) [] Polled refl ∙ logged-same log [] r refl
   received-same false again log payload a = a (log_call side log [] DatagramPassed) ∙ logged-same log [] DatagramPassed refl
 
   receive-same : (m s : ℕ) (log : Log) → list_any test (calls_of (receive_first m side s log).log) ≡ list_any test (calls_of log)

@@ -89,13 +89,13 @@ closed_comes f side log = by f.is_open
     by false = refl
 
 -- of an opening that goes on
-uni-ready : (side : Side) (log : Log) (p : HeadProgress) (id : ℕ) (own : List Action) → is_bidirectional id ≡ false → let reply = (perform side log (header_sent p id own)).reply in ready_reply replies.SendReady (ready_in reply) ≡ reply
-uni-ready side log AllOut id own k = rw k refl
-uni-ready side log _ id own k = refl
+uni-ready : (side : Side) (log : Log) (p : HeadProgress) (id session : ℕ) (own : List Action) → is_bidirectional id ≡ false → let reply = (perform side log (header_sent p id session own)).reply in ready_reply replies.SendReady (ready_in reply) ≡ reply
+uni-ready side log AllOut id session own k = rw k refl
+uni-ready side log _ id session own k = refl
 
-bi-ready : (side : Side) (log : Log) (p : HeadProgress) (id : ℕ) (own : List Action) → is_bidirectional id ≡ true → let reply = (perform side log (header_sent p id own)).reply in ready_reply replies.BiReady (ready_in reply) ≡ reply
-bi-ready side log AllOut id own k = rw k refl
-bi-ready side log _ id own k = refl
+bi-ready : (side : Side) (log : Log) (p : HeadProgress) (id session : ℕ) (own : List Action) → is_bidirectional id ≡ true → let reply = (perform side log (header_sent p id session own)).reply in ready_reply replies.BiReady (ready_in reply) ≡ reply
+bi-ready side log AllOut id session own k = rw k refl
+bi-ready side log _ id session own k = refl
 
 module _ (side : Side) (log : Log) (session : ℕ) (s : IsEstablished log session) where
   pub accept_uni_is : accept_stream side replies.Uni (peer_uni side) log session ≡ call_effect side log (calls.AcceptUni None)
@@ -191,35 +191,35 @@ module _ (side : Side) (log : Log) (session : ℕ) (s : IsEstablished log sessio
 
 -- a stream that is being opened for the session
 module _ (side : Side) (d : DriverValue) (log : Log) (collected : ℕ) (f : Follows side d log collected) (r : IsReachable side log) (kind : Bool) (o : OpeningStream) (s : IsOpening kind log o) where
-  pub poll_by_log : header_left (facts_now d.inbox.transport (reported side d log collected f r)) o.id (left_of (facts_now d.inbox.transport (reported side d log collected f r)) o.id (stream_header o.id o.session))
+  pub poll_by_log : header_left (facts_now d.inbox.transport (reported side d log collected f r)) o.id o.session (left_of (facts_now d.inbox.transport (reported side d log collected f r)) o.id (stream_header o.id o.session))
       ≡ plan_of (facts_of side log) (session_state log) (calls.PollOpening o.id)
   unfolding plan_of
   poll_by_log =
       let own = facts_of side log in
-      let left : Plan = header_left own o.id (left_of own o.id (stream_header o.id o.session)) in
-      ap (λ (x : CallFacts). header_left x o.id (left_of x o.id (stream_header o.id o.session))) (facts_reported side d log collected f r)
+      let left : Plan = header_left own o.id o.session (left_of own o.id (stream_header o.id o.session)) in
+      ap (λ (x : CallFacts). header_left x o.id o.session (left_of x o.id (stream_header o.id o.session))) (facts_reported side d log collected f r)
       ∙ sym (ap (λ b. if b then left else only_reply replies.NoStream) (same-opening log o.id ∙ s.opens))
       ∙ had side log o.session s.session (poll_plan own (session_state log) o.id)
 
   pub poll_planned : (t : TransportState) → t ≡ d.inbox.transport → (p : planning.Plan)
-      → ((x : DriverAnswers) → defined_plan p ≡ header_left (facts_now t x) o.id (left_of (facts_now t x) o.id (stream_header o.id o.session)))
+      → ((x : DriverAnswers) → defined_plan p ≡ header_left (facts_now t x) o.id o.session (left_of (facts_now t x) o.id (stream_header o.id o.session)))
       → defined_plan p ≡ plan_of (facts_of side log) (session_state log) (calls.PollOpening o.id)
   poll_planned t same p e =
       let own = reported side d log collected f r in
-      e own ∙ ap (λ (u : TransportState). header_left (facts_now u own) o.id (left_of (facts_now u own) o.id (stream_header o.id o.session))) same ∙ poll_by_log
+      e own ∙ ap (λ (u : TransportState). header_left (facts_now u own) o.id o.session (left_of (facts_now u own) o.id (stream_header o.id o.session))) same ∙ poll_by_log
 
   -- its reply gives a unidirectional stream
   pub uni_ready_comes : kind ≡ false → let reply = (call_effect side log (calls.PollOpening o.id)).reply in ready_reply replies.SendReady (ready_in reply) ≡ reply
   uni_ready_comes k =
       let now = facts_now d.inbox.transport (reported side d log collected f r) in
       let left = left_of now o.id (stream_header o.id o.session) in
-      subst (λ (x : Effect). ready_reply replies.SendReady (ready_in x.reply) ≡ x.reply) (leads side log (calls.PollOpening o.id) (header_left now o.id left) poll_by_log)
-      (uni-ready side log (head_progress_of now o.id left) o.id (actions_of_head now o.id left) (s.kind ∙ k))
+      subst (λ (x : Effect). ready_reply replies.SendReady (ready_in x.reply) ≡ x.reply) (leads side log (calls.PollOpening o.id) (header_left now o.id o.session left) poll_by_log)
+      (uni-ready side log (head_progress_of now o.id left) o.id o.session (actions_of_head now o.id left) (s.kind ∙ k))
 
   -- or a bidirectional one
   pub bi_ready_comes : kind ≡ true → let reply = (call_effect side log (calls.PollOpening o.id)).reply in ready_reply replies.BiReady (ready_in reply) ≡ reply
   bi_ready_comes k =
       let now = facts_now d.inbox.transport (reported side d log collected f r) in
       let left = left_of now o.id (stream_header o.id o.session) in
-      subst (λ (x : Effect). ready_reply replies.BiReady (ready_in x.reply) ≡ x.reply) (leads side log (calls.PollOpening o.id) (header_left now o.id left) poll_by_log)
-      (bi-ready side log (head_progress_of now o.id left) o.id (actions_of_head now o.id left) (s.kind ∙ k))
+      subst (λ (x : Effect). ready_reply replies.BiReady (ready_in x.reply) ≡ x.reply) (leads side log (calls.PollOpening o.id) (header_left now o.id o.session left) poll_by_log)
+      (bi-ready side log (head_progress_of now o.id left) o.id o.session (actions_of_head now o.id left) (s.kind ∙ k))

@@ -107,19 +107,19 @@ receiving-stays side log turn k l n h =
 pub unended : (k : ℕ) (cs : List CallRecord) → list_any (fails_opening k) cs ≡ false → list_any (accepts_stream k) cs ≡ false → list_any (ends_opening k) cs ≡ false
 unended k [] f a = refl
 unended k (OpeningFailed id ∷ cs) f a = let p = or_parts (id == k) (list_any (fails_opening k) cs) f in ap (λ b. b || list_any (ends_opening k) cs) p.0 ∙ unended k cs p.1 a
-unended k (StreamAccepted id ∷ cs) f a = let p = or_parts (id == k) (list_any (accepts_stream k) cs) a in ap (λ b. b || list_any (ends_opening k) cs) p.0 ∙ unended k cs f p.1
+unended k (StreamAccepted id session ∷ cs) f a = let p = or_parts (id == k) (list_any (accepts_stream k) cs) a in ap (λ b. b || list_any (ends_opening k) cs) p.0 ∙ unended k cs f p.1
 unended k (_ ∷ cs) f a = unended k cs f a
 
 unfailed : (k : ℕ) (cs : List CallRecord) → list_any (ends_opening k) cs ≡ false → list_any (fails_opening k) cs ≡ false
 unfailed k [] e = refl
 unfailed k (OpeningFailed id ∷ cs) e = let p = or_parts (id == k) (list_any (ends_opening k) cs) e in ap (λ b. b || list_any (fails_opening k) cs) p.0 ∙ unfailed k cs p.1
-unfailed k (StreamAccepted id ∷ cs) e = unfailed k cs (or_parts (id == k) (list_any (ends_opening k) cs) e).1
+unfailed k (StreamAccepted id session ∷ cs) e = unfailed k cs (or_parts (id == k) (list_any (ends_opening k) cs) e).1
 unfailed k (_ ∷ cs) e = unfailed k cs e
 
 pub ungiven : (k : ℕ) (cs : List CallRecord) → list_any (ends_opening k) cs ≡ false → list_any (accepts_stream k) cs ≡ false
 ungiven k [] e = refl
 ungiven k (OpeningFailed id ∷ cs) e = ungiven k cs (or_parts (id == k) (list_any (ends_opening k) cs) e).1
-ungiven k (StreamAccepted id ∷ cs) e = let p = or_parts (id == k) (list_any (ends_opening k) cs) e in ap (λ b. b || list_any (accepts_stream k) cs) p.0 ∙ ungiven k cs p.1
+ungiven k (StreamAccepted id session ∷ cs) e = let p = or_parts (id == k) (list_any (ends_opening k) cs) e in ap (λ b. b || list_any (accepts_stream k) cs) p.0 ∙ ungiven k cs p.1
 ungiven k (_ ∷ cs) e = ungiven k cs e
 
 -- a stream whose opening began is given by no turn but its poll
@@ -141,12 +141,12 @@ module _ (side : Side) (turn : Turn) (k : ℕ) (n : polls_opening k turn ≡ fal
   not-opened log id x e = absurd (let p = subst (λ (j : ℕ). polls_opening j turn ≡ true) (eqb-true id k e) x.polls in cc)
 
   not-given : (log : Log) (r : CallRecord) → Ungiven side k log → RecordCause side turn log r → accepts_stream k r ≡ false
-  not-given log (StreamAccepted id) h c = by (id == k) refl c
+  not-given log (StreamAccepted id session) h c = by (id == k) refl c
     where
-      by : (b : Bool) → (id == k) ≡ b → AcceptCause side turn log id → b ≡ false
+      by : (b : Bool) → (id == k) ≡ b → AcceptCause side turn log id session → b ≡ false
       by false e c = refl
-      by true e (ByAccept x) = absurd (not-found log id h x e)
-      by true e (ByOpening x) = absurd (not-opened log id x e)
+      by true e (ByAccept x s) = absurd (not-found log id h x e)
+      by true e (ByOpening x s) = absurd (not-opened log id x e)
   not-given log _ h c = refl
 
   entries-ungiven : KeepsEntries side turn (Ungiven side k)

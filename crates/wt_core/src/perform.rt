@@ -45,12 +45,16 @@ fn step(
     s.note(call)
 }
 
-/// The table takes in the stream that was given, and the poll.
-fn note_given(s: &mut SessionTable, given: Option<StreamId>) -> Result<(), OutOfMemory>
-    ensures { (calls : List CallRecord) → KeepsCalls s.old calls → OnOk result (KeepsCalls s.new (Polled ∷ with_given given calls)) }
+/// The table takes in the stream of the session that was given, and the poll.
+fn note_given(
+    s: &mut SessionTable,
+    session: SessionId,
+    given: Option<StreamId>,
+) -> Result<(), OutOfMemory>
+    ensures { (calls : List CallRecord) → KeepsCalls s.old calls → OnOk result (KeepsCalls s.new (Polled ∷ with_given session given calls)) }
 {
     if let Some(id) = given {
-        s.note(Record::StreamAccepted(id))?;
+        s.note(Record::StreamAccepted(id, session))?;
     }
     s.note(Record::Polled)
 }
@@ -78,7 +82,7 @@ fn accept_uni(
         → OnOk result (KeepsCalls s.new (calls_of (accept_stream side replies.Uni (peer_uni side) log session).log))) }
 {
     let answer = acting::accept_uni(alloc, d, session)?;
-    note_given(s, given_in(&answer))?;
+    note_given(s, session, given_in(&answer))?;
     Ok(acting::uni_reply(answer))
 }
 
@@ -95,7 +99,7 @@ fn accept_bi(
         → OnOk result (KeepsCalls s.new (calls_of (accept_stream side replies.Bi (peer_bi side) log session).log))) }
 {
     let answer = acting::accept_bi(alloc, d, session)?;
-    note_given(s, given_in(&answer))?;
+    note_given(s, session, given_in(&answer))?;
     Ok(acting::bi_reply(answer))
 }
 
@@ -112,7 +116,7 @@ fn receive(
         → OnOk result (KeepsCalls s.new (calls_of (receive_datagram side log session).log))) }
 {
     let answer = acting::receive(alloc, d, session)?;
-    note_given(s, None)?;
+    note_given(s, session, None)?;
     Ok(acting::datagram_reply(answer))
 }
 
@@ -136,7 +140,7 @@ fn establish(
     Ok(Reply::Session(id))
 }
 
-/// Does what is planned, and tells the reply.
+/// Does what is planned, and returns the reply.
 pub fn perform(
     alloc: Global,
     d: &mut Driver,

@@ -46,7 +46,7 @@ pub call-sized : (t : TransportView) (r : CallRecord) (s : DriverState) → IsSi
 call-sized t r s z = record { bounded = takes-bounded t (Called r) s z.bounded; small = by r }
   where
     by : (r : CallRecord) → (after_call r s).control_sent.sent < 2 ^ 63
-    by (StreamAccepted id) = z.small
+    by (StreamAccepted id session) = z.small
     by (StreamPassed id) = z.small
     by _ = z.small
 
@@ -140,14 +140,14 @@ streams-add t kind session = record {
   due_now = λ before x. refl;
   pass = λ before id x.
       ap (run_moment t (Called (StreamPassed id))) (action-ahead t (passing_stop id) before x) ∙ moment-ahead t (Called (StreamPassed id)) before (run_action t (passing_stop id) x);
-  give = λ before id x. moment-ahead t (Called (StreamAccepted id)) before x;
+  give = λ before id x. moment-ahead t (Called (StreamAccepted id session)) before x;
 }
 
 pub datagrams-add : (t : TransportView) (session : ℕ) → OnlyAdds (state_datagrams t session)
 datagrams-add t session = record {
   due_now = λ before x. refl;
   pass = λ before payload x. moment-ahead t (Called DatagramPassed) before x;
-  give = λ before payload x. moment-ahead t (Called DatagramReceived) before x;
+  give = λ before payload x. moment-ahead t (Called (DatagramReceived x.state.datagrams)) before x;
 }
 
 -- a call that begins with these actions out leaves them in front of its own

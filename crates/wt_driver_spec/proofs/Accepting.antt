@@ -14,10 +14,10 @@ use Rattle.wt_seam_spec.specs.Joined.{newest_first}
 use Rattle.wt_seam_spec.specs.Reports.{datagrams_of, loss_of}
 use Rattle.wt_seam_spec.specs.Streams.{peer_count}
 use Rattle.wt_spec.specs.Connection.{accept_due, accept_first, accept_stream, first_of, give_or_pass, is_due, is_for_session, next_datagram, next_due, pass_stream, receive_datagram, receive_first, receive_next, receive_or_pass}
-use Rattle.wt_spec.specs.Driver.{call_view, log_and_flush, stream_table, transport_view}
+use Rattle.wt_spec.specs.Driver.{call_view, log_and_flush, released_datagrams, stream_table, transport_view}
 use Rattle.wt_spec.specs.Effect.{error_of_ending, log_call, loss_or_local, pending_or_failed, transport_error}
 use Rattle.wt_spec.specs.StreamTable.{ByFault, BySession, Classified, Ending, awaits_accept, dispatched_streams, is_webtransport, verdict_of}
-use Rattle.wt_turn.specs.Log.{CallRecord, Called, DatagramPassed, DatagramReceived, Event, Log, Polled, Sent, StreamAccepted, StreamPassed, actions_of, events_of, is_open, with_actions}
+use Rattle.wt_turn.specs.Log.{CallRecord, Called, DatagramPassed, DatagramReceived, Event, Log, Polled, Sent, StreamAccepted, StreamPassed, actions_of, calls_of, events_of, is_open, with_actions}
 use Rattle.wt_turn.specs.declared.action.Action.{Action}
 use Rattle.wt_turn.specs.declared.reply.Reply.{Reply}
 use Rattle.wt_wire.specs.declared.side.Side.{Side}
@@ -35,7 +35,7 @@ module _ (side : Side) (reply : ℕ → Reply) (kind session : ℕ) where
   accept-is (suc n) log = by (next_due side log kind session) (accept-is n)
     where
       one : (b : Bool) (k : ℕ) → ((later : Log) → accept_first n side reply kind session later ≡ outcome_effect side reply (take_due streams n later))
-          → give_or_pass b side reply (λ later. accept_first n side reply kind session later) log k
+          → give_or_pass b side reply (λ later. accept_first n side reply kind session later) session log k
           ≡ outcome_effect side reply (give_or_pass_due b streams (λ u. take_due streams n u) k log)
       one true k again = refl
       one false k again = again (pass_stream side log k)
@@ -199,7 +199,7 @@ module _ (side : Side) (since : Log) where
         (may-pass log (passing_stop d.item) d.item named) (tracks-action side since log x (passing_stop d.item) t);
     give = λ log x d t e.
         let named = due-named log kind session d (sound side log t.fits) (next_due side log kind session) refl e in
-        tracks-call side since log x (StreamAccepted d.item) (may-release log d.item named) t;
+        tracks-call side since log x (StreamAccepted d.item session) (may-release log d.item named) t;
   }
 
   -- ---- datagrams
@@ -213,7 +213,7 @@ module _ (side : Side) (since : Log) where
   datagrams-alike session = record {
     due_now = λ log x t. datagram-same log x session t.state t.view;
     pass = λ log x d t e. tracks-call side since log x DatagramPassed tt t;
-    give = λ log x d t e. tracks-call side since log x DatagramReceived tt t;
+    give = λ log x d t e. tracks-call side since log x (DatagramReceived (released_datagrams (calls_of log))) tt t;
   }
 
 -- ---- the call's own poll, and its reply

@@ -153,7 +153,7 @@ reported-bounded t PeerBi k b = record { unis = b.unis; bis = push-bounded 1 0 _
 reported-bounded t _ k b = record { unis = b.unis; bis = b.bis }
 
 called-bounded : (t : TransportView) (d : CallRecord) (k : DriverState) → Bounded k → Bounded (after_entry t (Called d) k)
-called-bounded t (StreamAccepted id) k b = record { unis = without-bounded 4 0 id k.unis b.unis; bis = without-bounded 1 0 id k.bis b.bis }
+called-bounded t (StreamAccepted id session) k b = record { unis = without-bounded 4 0 id k.unis b.unis; bis = without-bounded 1 0 id k.bis b.bis }
 called-bounded t (StreamPassed id) k b = record { unis = without-bounded 4 0 id k.unis b.unis; bis = without-bounded 1 0 id k.bis b.bis }
 called-bounded t _ k b = record { unis = b.unis; bis = b.bis }
 

@@ -97,7 +97,7 @@ release-distinct id s h = record {
 }
 
 pub call-distinct : (r : CallRecord) (s : DriverState) → HasDistinctSlots s → HasDistinctSlots (after_call r s)
-call-distinct (StreamAccepted id) s h = release-distinct id s h
+call-distinct (StreamAccepted id session) s h = release-distinct id s h
 call-distinct (StreamPassed id) s h = release-distinct id s h
 call-distinct _ s h = record { unis = h.unis; bis = h.bis; apart = h.apart }
 

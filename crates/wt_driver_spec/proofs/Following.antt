@@ -69,7 +69,7 @@ untouched-delivering side log id may un k none =
     one-more id k ((call_view log).delivered k) (λ e. none-some (verdict_of id (stream_table side log).classified) (ap (λ i. verdict_of i (stream_table side log).classified) e ∙ none) may) (un.delivered k none)
 
 untouched-called : (side : Side) (log : Log) (d : CallRecord) → MayRecord side log d → Untouched (has_local_kind side) (call_view log) (stream_table side log) → Untouched (has_local_kind side) (call_view (Called d ∷ log)) (stream_table side log)
-untouched-called side log (StreamAccepted id) may un = record { released = untouched-releasing side log id may un; delivered = un.delivered }
+untouched-called side log (StreamAccepted id session) may un = record { released = untouched-releasing side log id may un; delivered = un.delivered }
 untouched-called side log (StreamPassed id) may un = record { released = untouched-releasing side log id may un; delivered = un.delivered }
 untouched-called side log (RequestDelivered id) may un = record { released = un.released; delivered = untouched-delivering side log id may un }
 untouched-called side log _ may un = record { released = un.released; delivered = un.delivered }
@@ -327,7 +327,7 @@ reported-in side log PeerBi s = reported-bi side log s.within
 reported-in side log _ s = refl
 
 called-in : (side : Side) (log : Log) (d : CallRecord) → MayRecord side log d → before_scan side log (Called d) ≡ after_entry (transport_view side log) (Called d) (held side log)
-called-in side log (StreamAccepted id) may = state-releasing (transport_view side log) (call_view log) (control_sent side log) (is_open log) (stream_table side log) id may
+called-in side log (StreamAccepted id session) may = state-releasing (transport_view side log) (call_view log) (control_sent side log) (is_open log) (stream_table side log) id may
 called-in side log (StreamPassed id) may = state-releasing (transport_view side log) (call_view log) (control_sent side log) (is_open log) (stream_table side log) id may
 called-in side log (RequestDelivered id) may = state-delivering (transport_view side log) (call_view log) (control_sent side log) (is_open log) (stream_table side log) id
 called-in side log _ may = refl

@@ -177,9 +177,9 @@ local-misses side id kind count peers own = by (stream_ids kind 0 count) peers
     by (k ∷ ks) p = or_from (k == id) (has id ks) (false_from_ne_true (k == id) (λ e. true≢false (sym own ∙ ap (has_local_kind side) (sym (eqb-true k id e)) ∙ p.0))) (by ks p.1)
 
 -- So an accept of a stream of this end's own changes nothing that a driver keeps.
-pub release-local : (side : Side) (log : Log) (id : ℕ) → Fits side log → has_local_kind side id ≡ true → after_call (StreamAccepted id) (state_of side log) ≡ state_of side log
+pub release-local : (side : Side) (log : Log) (id session : ℕ) → Fits side log → has_local_kind side id ≡ true → after_call (StreamAccepted id session) (state_of side log) ≡ state_of side log
 unfolding state_of
-release-local side log id fits own =
+release-local side log id session fits own =
     let t : TransportView = transport_view side log in
     let apart = apart-ids t in
     let none : verdict_of id (stream_table side log).classified ≡ None =

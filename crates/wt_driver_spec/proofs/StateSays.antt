@@ -1,4 +1,4 @@
--- What the layers above ask of a log, as what is kept tells it.
+-- What the layers above ask of a log, as what is kept has it.
 use Rattle.std.proofs.Common.{◌≡◌, ℕ, [], refl, ap}
 use Rattle.std.specs.Prelude.{None, Option, Some, if◌then◌else◌}
 use Rattle.wt_driver_spec.specs.DriverState.{state_of}

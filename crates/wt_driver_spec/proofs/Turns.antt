@@ -30,9 +30,9 @@ use Rattle.wt_spec.specs.Connection.{accept_stream, datagram_allowed, datagram_w
 use Rattle.wt_spec.specs.Driver.{call_view, established_session, flush, is_moment, log_and_flush, settings_came, stream_table}
 use Rattle.wt_spec.specs.Effect.{Effect, close_when_open, driver_error, head_left, is_covered, is_empty, log_call, poll_sending, reply_with, transport_error}
 use Rattle.wt_spec.specs.Halves.{all_written_reply, exact_at_end, finish_once, has_receiving_half, has_sending_half, is_done, on_half, read, read_exact, read_reply, reset, set_priority, take_bytes, unread_body, write_by, write_error, written_reply}
-use Rattle.wt_spec.specs.Handshake.{Connecting, HandshakeState, Responding, accept_response, await_or_fail, await_response, continue_by, establish, fail_handshake, handshake_state, has_success, incoming, is_refused, open_request, queued_requests, read_response, reject_response, requested_stream, respond, send_request, start_response, unless_reserved}
+use Rattle.wt_spec.specs.Handshake.{Connecting, HandshakeState, Responding, accept_response, await_or_fail, await_response, continue_by, end_rejection, establish, fail_acceptance, fail_handshake, handshake_state, has_success, incoming, is_refused, open_request, queued_requests, read_response, reject_response, requested_stream, respond, send_request, start_response, unless_reserved}
 use Rattle.wt_spec.specs.StreamTable.{Classified, awaits_delivery, dispatched_streams, verdict_of}
-use Rattle.wt_turn.specs.Log.{BytesRead, CallRecord, Called, ConnectStarted, Entry, Event, HandshakeOver, Log, OpeningFailed, OpeningStarted, Polled, PrioritySet, Received, Reported, RequestDelivered, Reset, ResetUnsent, ResponseStarted, SessionEstablished, StreamAccepted, StreamGivenUp, actions_of, calls_of, events_of, is_open, with_actions}
+use Rattle.wt_turn.specs.Log.{AcceptanceFailed, BytesRead, CallRecord, Called, ConnectStarted, Entry, Event, HandshakeOver, Log, OpeningFailed, OpeningStarted, Polled, PrioritySet, Received, Reported, RequestDelivered, RequestRejected, Reset, ResetUnsent, ResponseStarted, SessionEstablished, StreamAccepted, StreamGivenUp, actions_of, calls_of, events_of, is_open, with_actions}
 use Rattle.wt_turn.specs.declared.action.Action.{Action}
 use Rattle.wt_turn.specs.declared.call.Call.{Call}
 use Rattle.wt_turn.specs.declared.connecting_error.ConnectingError.{ConnectingError}
@@ -124,10 +124,10 @@ module _ (side : Side) (log : Log) (held : FitsAndRests side log) where
       (either side (may_open side log kind) _ _
       (called-leads side log (actions_to_open side log kind) (OpeningStarted (next_id side log kind) s) (next-local kind is) fitting) (polls [] _))
 
-  header-leads : (k : ℕ) (left : List ℕ) → has_local_kind side k ≡ true → Leads side (send_header side log k left)
-  header-leads k left local =
+  header-leads : (k s : ℕ) (left : List ℕ) → has_local_kind side k ≡ true → Leads side (send_header side log k s left)
+  header-leads k s left local =
       either side (is_covered log k left) _ _
-      (called-leads side log (send_of k left) (StreamAccepted k) (or_left (has_local_kind side k) (names_session (verdict_of k (stream_table side (with_actions (send_of k left) log)).classified)) local) fitting)
+      (called-leads side log (send_of k left) (StreamAccepted k s) (or_left (has_local_kind side k) (names_session (verdict_of k (stream_table side (with_actions (send_of k left) log)).classified)) local) fitting)
       (polls (send_of k (bytes_within_credit log k left)) _)
 
   opening-leads : (k s : ℕ) → Leads side (poll_opening side log k s)
@@ -136,7 +136,7 @@ module _ (side : Side) (log : Log) (held : FitsAndRests side log) where
       (λ i. let local = openings-local side log k fitting (and_parts (list_any (starts_opening k) (calls_of log)) (not (list_any (ends_opening k) (calls_of log))) i).0 in
       either side (not (is_open log)) _ _ (called-leads side log [] (OpeningFailed k) tt fitting)
       (either side (is_refused log k (head_left log k (stream_header k s))) _ _ (called-leads side log [] (OpeningFailed k) tt fitting)
-      (header-leads k (head_left log k (stream_header k s)) local)))
+      (header-leads k s (head_left log k (stream_header k s)) local)))
       (polls [] _)
 
   -- ---- datagrams, and the rest of a session's calls
@@ -201,6 +201,12 @@ module _ (side : Side) (log : Log) (held : FitsAndRests side log) where
   failed-leads : (own : List Action) (reply : Reply) → Leads side (fail_handshake side log own reply)
   failed-leads own reply = called-leads side log own HandshakeOver tt fitting
 
+  unaccepted-leads : (own : List Action) (e : ConnectionError) → Leads side (fail_acceptance side log own e)
+  unaccepted-leads own e = called-leads side log own AcceptanceFailed tt fitting
+
+  rejected-leads : (id : ℕ) (own : List Action) → Leads side (end_rejection side log id own)
+  rejected-leads id own = called-leads side log own (RequestRejected id) tt fitting
+
   establish-leads : (own : List Action) (id offset : ℕ) → Leads side (establish side log own id offset)
   establish-leads own id offset =
       let later = called-facts side log own (SessionEstablished id offset) tt fitting in
@@ -224,17 +230,17 @@ module _ (side : Side) (log : Log) (held : FitsAndRests side log) where
 
   accept-response-leads : (id : ℕ) (left : List ℕ) (waiting : CallRecord) → ((own : List Action) → MayRecord side (with_actions own log) waiting) → Leads side (accept_response side log id left waiting)
   accept-response-leads id left waiting may =
-      either side (not (is_open log)) _ _ (failed-leads [] _)
-      (either side (is_refused log id left) _ _ (failed-leads (close_when_open log (code_of h3.ClosedCriticalStream)) _)
+      either side (not (is_open log)) _ _ (unaccepted-leads [] _)
+      (either side (is_refused log id left) _ _ (unaccepted-leads (close_when_open log (code_of h3.ClosedCriticalStream)) _)
       (either side (is_covered log id left) _ _ (establish-leads (send_of id left) id _) (called-leads side log (send_of id (bytes_within_credit log id left)) waiting (may (send_of id (bytes_within_credit log id left))) fitting)))
 
   reject-leads : (id : ℕ) (left : List ℕ) (waiting : CallRecord) → ((own : List Action) → MayRecord side (with_actions own log) waiting) → Leads side (reject_response side log id left waiting)
   reject-leads id left waiting may =
-      either side (not (is_open log)) _ _ (failed-leads [] _)
-      (either side (is_refused log id left) _ _ (failed-leads (close_when_open log (code_of h3.ClosedCriticalStream)) _)
+      either side (not (is_open log)) _ _ (rejected-leads id [])
+      (either side (is_refused log id left) _ _ (rejected-leads id (close_when_open log (code_of h3.ClosedCriticalStream)))
       (either side (is_covered log id left) _ _
       (either side (not (is_finished (actions_of log) id)) _ _ (called-leads side log (send_of id left ++ actions.Finish id ∷ []) waiting (may (send_of id left ++ actions.Finish id ∷ [])) fitting)
-      (either side (is_some (stop_of (events_of log) id) || is_acknowledged (events_of log) id) _ _ (failed-leads (close_when_open log 0) _) (called-leads side log [] waiting (may []) fitting)))
+      (either side (is_some (stop_of (events_of log) id) || is_acknowledged (events_of log) id) _ _ (rejected-leads id (close_when_open log 0)) (called-leads side log [] waiting (may []) fitting)))
       (called-leads side log (send_of id (bytes_within_credit log id left)) waiting (may (send_of id (bytes_within_credit log id left))) fitting)))
 
   respond-leads : (accepts : Bool) (head : List ℕ) (waiting : CallRecord) → ((own : List Action) → MayRecord side (with_actions own log) waiting) → Leads side (respond side log accepts head waiting)

@@ -47,7 +47,7 @@ may_dequeue side log = is_open log && settings_ready side log
 abbrev pub WasReady : Side → Log → Type 0
 WasReady side log = (later : List Entry) × (ready_log : Log) × (log ≡ later ++ ready_log) × (settings_ready side ready_log ≡ true)
 
--- what came for the stream tells what it is: its verdict is final
+-- what came for the stream shows what it is: its verdict is final
 abbrev pub has_final_verdict : Log → (List ℕ → StreamEnd → Verdict) → ℕ → Bool
 has_final_verdict log verdict k = is_final (verdict (contents log k) (end_of (events_of log) k))
 
@@ -58,7 +58,7 @@ pub record DequeuedInTurn (side : Side) (log : Log) (kind slots : ℕ) (verdict 
   pub few : (n : ℕ) → is_dequeued side log (stream_id kind n) ≡ true → unreleased_before side log kind n < slots  -- a dequeued stream is after fewer that aren't released
   pub opened : (n : ℕ) → is_dequeued side log (stream_id kind n) ≡ true → n < peer_count side (events_of log) kind  -- it was opened by the peer
   pub ready : (n : ℕ) → is_dequeued side log (stream_id kind n) ≡ true → WasReady side log  -- and there was a moment at which this end was ready
-  pub classified : (n : ℕ) → is_open log ≡ true → is_dequeued side log (stream_id kind n) ≡ true → has_final_verdict log verdict (stream_id kind n) ≡ true → is_classified side log (stream_id kind n) ≡ true  -- while the connection is open, each dequeued stream that tells what it is is classified
+  pub classified : (n : ℕ) → is_open log ≡ true → is_dequeued side log (stream_id kind n) ≡ true → has_final_verdict log verdict (stream_id kind n) ≡ true → is_classified side log (stream_id kind n) ≡ true  -- while the connection is open, each dequeued stream whose verdict is final is classified
   pub only : (n : ℕ) → is_classified side log (stream_id kind n) ≡ true → is_dequeued side log (stream_id kind n) ≡ true  -- a classified stream is dequeued
 
 -- the peer's streams are dequeued and classified in turn: 4 slots are for unidirectional ones, 1 is for bidirectional ones

@@ -26,7 +26,7 @@ pub record DriverState : Type 0 where
   pub dispatched : Dispatched
   pub progress : DriverProgress
   pub control_sent : ControlSent
-  pub datagrams : ℕ  -- so many were received or passed
+  pub datagrams : ℕ  -- how many were received or passed
   pub session : Option (ℕ × ℕ)  -- the session that is established, and where its part of the stream begins
   pub is_open : Bool
 

@@ -6,9 +6,9 @@ use Rattle.wt_seam_spec.specs.Reports.{datagrams_of}
 use Rattle.wt_seam_spec.specs.Streams.{peer_count}
 use Rattle.wt_spec.specs.Connection.{first_of, is_due, is_for_session, next_datagram, next_due, pass_stream, read_datagram}
 use Rattle.wt_spec.specs.Effect.{Effect, log_call, pending_or_failed, poll_only, transport_error}
-use Rattle.wt_spec.specs.Driver.{transport_view}
+use Rattle.wt_spec.specs.Driver.{released_datagrams, transport_view}
 use Rattle.wt_spec.specs.StreamTable.{ByFault, BySession, Classified, Ending, TransportView}
-use Rattle.wt_turn.specs.Log.{Called, DatagramPassed, DatagramReceived, Entry, Log, Sent, StreamAccepted, StreamPassed, actions_of, events_of}
+use Rattle.wt_turn.specs.Log.{Called, DatagramPassed, DatagramReceived, Entry, Log, Sent, StreamAccepted, StreamPassed, actions_of, calls_of, events_of}
 use Rattle.wt_turn.specs.declared.action.Action.{Action}
 use Rattle.wt_turn.specs.declared.connection_error.ConnectionError.{ConnectionError}
 use Rattle.wt_turn.specs.declared.reply.Reply.{Reply}
@@ -75,7 +75,7 @@ abbrev pub log_streams : Side → ℕ → ℕ → DueRule Log ℕ
 log_streams side kind session = record {
   due_now = λ log. due_stream session (next_due side log kind session);
   pass = λ k log. pass_stream side log k;
-  give = λ k log. log_call side log [] (StreamAccepted k);
+  give = λ k log. log_call side log [] (StreamAccepted k session);
 }
 
 -- a receive of a datagram
@@ -83,7 +83,7 @@ abbrev pub log_datagrams : Side → ℕ → DueRule Log (List ℕ)
 log_datagrams side session = record {
   due_now = λ log. due_datagram session (next_datagram side log);
   pass = λ payload log. log_call side log [] DatagramPassed;
-  give = λ payload log. log_call side log [] DatagramReceived;
+  give = λ payload log. log_call side log [] (DatagramReceived (released_datagrams (calls_of log)));
 }
 
 -- the stream that an accept gives, and the log before its poll
@@ -115,7 +115,7 @@ ending_error error None = error
 ending_error error (Some (ByFault code)) = errors.LocalH3Error code
 ending_error error (Some (BySession code reason by_capsule)) = errors.ApplicationClosed (record { code = code; reason = reason })
 
--- nothing is left for the call, by what is kept and how the transport tells its end
+-- nothing is left for the call, by what is kept and how the transport reports its end
 abbrev pub state_pending_or_failed : ConnectionError → DriverState → Reply
 state_pending_or_failed error s = if s.is_open then replies.Pending else replies.Failed (ending_error error s.progress.ending)
 
@@ -151,7 +151,7 @@ abbrev pub state_streams : TransportView → ℕ → ℕ → DueRule DriverRun �
 state_streams t kind session = record {
   due_now = λ x. due_stream session (state_next_due x.state kind session);
   pass = λ k x. run_moment t (Called (StreamPassed k)) (run_action t (passing_stop k) x);
-  give = λ k x. run_moment t (Called (StreamAccepted k)) x;
+  give = λ k x. run_moment t (Called (StreamAccepted k session)) x;
 }
 
 -- a receive of a datagram
@@ -159,7 +159,7 @@ abbrev pub state_datagrams : TransportView → ℕ → DueRule DriverRun (List �
 state_datagrams t session = record {
   due_now = λ x. due_datagram session (state_next_datagram t x.state);
   pass = λ payload x. run_moment t (Called DatagramPassed) x;
-  give = λ payload x. run_moment t (Called DatagramReceived) x;
+  give = λ payload x. run_moment t (Called (DatagramReceived x.state.datagrams)) x;
 }
 
 -- a call begins

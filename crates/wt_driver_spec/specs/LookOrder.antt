@@ -36,10 +36,10 @@ pub record ClassifiesNow (side : Side) (e : Entry) (log : Log) (k : ℕ) : Type 
 pub record PassesOverNone (side : Side) (e : Entry) (log : Log) (kind slots : ℕ) (verdict : List ℕ → StreamEnd → Verdict) : Type 0 where
   pub dequeued : (k n : ℕ) → ClassifiesNow side e log k → looks_before side (stream_id kind n) k ≡ true
       → n < peer_count side (events_of (e ∷ log)) kind → settings_ready side (e ∷ log) ≡ true
-      → unreleased_before side (e ∷ log) kind n < slots → is_dequeued side (e ∷ log) (stream_id kind n) ≡ true  -- each that is after fewer than so many unreleased ones is dequeued, where this end is ready
+      → unreleased_before side (e ∷ log) kind n < slots → is_dequeued side (e ∷ log) (stream_id kind n) ≡ true  -- each that is after fewer unreleased ones than there are slots is dequeued, where this end is ready
   pub classified : (k n : ℕ) → ClassifiesNow side e log k → looks_before side (stream_id kind n) k ≡ true
       → n < peer_count side (events_of (e ∷ log)) kind → is_dequeued side (e ∷ log) (stream_id kind n) ≡ true
-      → has_final_verdict (e ∷ log) verdict (stream_id kind n) ≡ true → is_classified side (e ∷ log) (stream_id kind n) ≡ true  -- each dequeued one that tells what it is is classified
+      → has_final_verdict (e ∷ log) verdict (stream_id kind n) ≡ true → is_classified side (e ∷ log) (stream_id kind n) ≡ true  -- each dequeued one whose verdict is final is classified
 
 -- The streams that an entry classifies stand after those that were classified before, in the order in which it looks at
 -- them, and it passes over none. So of several streams with faults the first in this order ends the connection.

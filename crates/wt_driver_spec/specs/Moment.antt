@@ -27,7 +27,7 @@ may_release side cs k = has_local_kind side k || names_session (verdict_of k cs)
 
 -- a stream of a session is released once it is classified, a request is delivered once it is, and this end opens its own streams
 abbrev pub MayRecord : Side → Log → CallRecord → Type 0
-MayRecord side log (StreamAccepted id) = may_release side (stream_table side log).classified id ≡ true
+MayRecord side log (StreamAccepted id session) = may_release side (stream_table side log).classified id ≡ true
 MayRecord side log (StreamPassed id) = may_release side (stream_table side log).classified id ≡ true
 MayRecord side log (RequestDelivered id) = is_some (verdict_of id (stream_table side log).classified) ≡ true
 MayRecord side log (OpeningStarted id session) = has_local_kind side id ≡ true

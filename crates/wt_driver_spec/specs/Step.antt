@@ -194,9 +194,9 @@ with_arrival t _ s = s
 
 -- what a call did
 abbrev pub after_call : CallRecord → DriverState → DriverState
-after_call (StreamAccepted id) s = release id s
+after_call (StreamAccepted id session) s = release id s
 after_call (StreamPassed id) s = release id s
-after_call DatagramReceived s = record s { datagrams = s.datagrams + 1 }
+after_call (DatagramReceived index) s = record s { datagrams = s.datagrams + 1 }
 after_call DatagramPassed s = record s { datagrams = s.datagrams + 1 }
 after_call (RequestDelivered id) s = remove_request id s
 after_call (SessionEstablished id offset) s = record s { session = Some (id, offset) }

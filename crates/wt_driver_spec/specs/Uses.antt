@@ -8,7 +8,7 @@ use Rattle.wt_spec.specs.Driver.{established_session, released_datagrams, stream
 use Rattle.wt_spec.specs.Halves.{is_accepted, unread_body}
 use Rattle.wt_spec.specs.Handshake.{awaits_answer, handshake_state}
 use Rattle.wt_spec.specs.StreamTable.{Classified, is_webtransport}
-use Rattle.wt_turn.specs.Log.{BytesRead, CallRecord, Called, ConnectStarted, DatagramPassed, DatagramReceived, Entry, HandshakeOver, Log, OpeningStarted, RequestDelivered, ResponseStarted, SessionEstablished, StreamAccepted, StreamGivenUp, StreamPassed, actions_of, calls_of, events_of}
+use Rattle.wt_turn.specs.Log.{AcceptanceFailed, BytesRead, CallRecord, Called, ConnectStarted, DatagramPassed, DatagramReceived, Entry, HandshakeOver, Log, OpeningStarted, RequestDelivered, RequestRejected, ResponseStarted, SessionEstablished, StreamAccepted, StreamGivenUp, StreamPassed, actions_of, calls_of, events_of}
 use Rattle.wt_wire.specs.declared.side.Side.{Side}
 use Rattle.wt_wire.specs.declared.side.Side.TheVariants.{Client, Server}
 use Rattle.wt_proto.specs.declared.verdict.Verdict.TheVariants as verdicts
@@ -68,7 +68,7 @@ pub record CallUse : Type 0 where
   pub read : ℕ  -- n bytes of it were read
   pub is_dropped : Bool  -- it was passed or given up
   pub session : Option (ℕ × ℕ)  -- the session that is established
-  pub is_over : Bool  -- the handshake failed
+  pub is_over : Bool  -- the handshake is over, with no session
 
 -- before the first call
 abbrev pub no_use : CallUse
@@ -80,6 +80,8 @@ use_after k (BytesRead id count) before = record before { read = if id == k then
 use_after k (StreamGivenUp id) before = record before { is_dropped = id == k || before.is_dropped }
 use_after k (StreamPassed id) before = record before { is_dropped = id == k || before.is_dropped }
 use_after k (SessionEstablished id offset) before = record before { session = Some (id, offset) }
+use_after k (RequestRejected id) before = record before { is_over = true }
+use_after k AcceptanceFailed before = record before { is_over = true }
 use_after k HandshakeOver before = record before { is_over = true }
 use_after k _ before = before
 
@@ -130,14 +132,14 @@ MayUse side log (RequestDelivered id) = is_some (queued_at (classified_of id (st
 MayUse side log (ResponseStarted accepts head) = (side ≡ Server) × (awaits_answer (handshake_state (calls_of log)) ≡ true)
 MayUse side log (SessionEstablished id offset) = (session_at side (role_of side id) (classified_of id (stream_table side log).classified) offset ≡ Some offset)
     × RequestOpened side log
-MayUse side log (StreamAccepted id) = (may_give (role_of side id) (classified_of id (stream_table side log).classified) ≡ true)
+MayUse side log (StreamAccepted id session) = (may_give (role_of side id) (classified_of id (stream_table side log).classified) ≡ true)
     × (list_any (passes id) (calls_of log) ≡ false)
 MayUse side log (StreamPassed id) = (is_sessions (classified_of id (stream_table side log).classified) ≡ true) × (is_accepted log id ≡ false)
 MayUse side log (OpeningStarted id session) = may_give (role_of side id) None ≡ true
 MayUse side log (BytesRead id count) = (is_for_application (role_of side id) (classified_of id (stream_table side log).classified) ≡ true)
     × (count ≤ length (unread_body side log id))
 MayUse side log (StreamGivenUp id) = is_for_application (role_of side id) (classified_of id (stream_table side log).classified) ≡ true
-MayUse side log DatagramReceived = released_datagrams (calls_of log) < length (datagrams_of (events_of log))
+MayUse side log (DatagramReceived index) = released_datagrams (calls_of log) < length (datagrams_of (events_of log))
 MayUse side log DatagramPassed = released_datagrams (calls_of log) < length (datagrams_of (events_of log))
 MayUse side log _ = Unit {0}
 

@@ -84,13 +84,13 @@ module _ (side : Side) (collected kind session left : ℕ) (whole : DueOutcome L
     due-is b e = next-is ∙ ap due_as is ∙ ap (λ (x : Bool). Some (record { item = id; is_own = x })) e
 
     -- one of the session is given
-    pub stream-may : own ≡ true → MayBeCalled side s.log_now (StreamAccepted id)
+    pub stream-may : own ≡ true → MayBeCalled side s.log_now (StreamAccepted id session)
     stream-may e = may-give side s.log_now collected d s.follows kind session id (due-is true e)
 
-    stream-gives : own ≡ true → whole ≡ record { state = log_and_flush side s.log_now (Called (StreamAccepted id)); given = Some id }
+    stream-gives : own ≡ true → whole ≡ record { state = log_and_flush side s.log_now (Called (StreamAccepted id session)); given = Some id }
     stream-gives e = own-due (log_streams side kind session) whole left s.log_now s.same id (due-is true e)
 
-    pub stream-follows : (new : DriverValue) → own ≡ true → Follows side new (log_and_flush side s.log_now (Called (StreamAccepted id))) collected → Follows side new whole.state collected
+    pub stream-follows : (new : DriverValue) → own ≡ true → Follows side new (log_and_flush side s.log_now (Called (StreamAccepted id session))) collected → Follows side new whole.state collected
     stream-follows new e f = subst (λ (x : DueOutcome Log ℕ). Follows side new x.state collected) (sym (stream-gives e)) f
 
     pub stream-given : own ≡ true → Some id ≡ whole.given
@@ -185,10 +185,10 @@ module _ (side : Side) (collected session left : ℕ) (whole : DueOutcome Log (L
     pub datagram-may : (r : CallRecord) → releases_datagram r ≡ true → MayBeCalled side s.log_now r
     datagram-may r reads-settings = may-release-datagram side s.log_now collected d s.follows session (record { item = datagram-due.datagram.1; is_own = own }) datagram-due.due r reads-settings
 
-    datagram-gives : own ≡ true → whole ≡ record { state = log_and_flush side s.log_now (Called DatagramReceived); given = Some datagram-due.datagram.1 }
+    datagram-gives : own ≡ true → whole ≡ record { state = log_and_flush side s.log_now (Called (DatagramReceived (released_datagrams (calls_of s.log_now)))); given = Some datagram-due.datagram.1 }
     datagram-gives e = own-due (log_datagrams side session) whole left s.log_now s.same datagram-due.datagram.1 (due-by true e)
 
-    pub datagram-follows : (new : DriverValue) → own ≡ true → Follows side new (log_and_flush side s.log_now (Called DatagramReceived)) collected → Follows side new whole.state collected
+    pub datagram-follows : (new : DriverValue) → own ≡ true → Follows side new (log_and_flush side s.log_now (Called (DatagramReceived (released_datagrams (calls_of s.log_now))))) collected → Follows side new whole.state collected
     datagram-follows new e f = subst (λ (x : DueOutcome Log (List ℕ)). Follows side new x.state collected) (sym (datagram-gives e)) f
 
     pub datagram-given : (piece : Option (List ℕ)) → own ≡ true → piece ≡ front_of d.queue → payload_in (read_datagram piece) ≡ whole.given

@@ -95,17 +95,17 @@ module _ (side : Side) (log : Log) (collected : ℕ) (d : DriverValue) (f : Foll
   named own e = due-named side log log kind session (record { item = id; is_own = own }) (sound side log f.refines.fits) (next_due side log kind session) refl e
 
   -- A stream of the session may be given.
-  pub may-give : due_stream session (next_due side log kind session) ≡ Some (record { item = id; is_own = true }) → MayBeCalled side log (StreamAccepted id)
+  pub may-give : due_stream session (next_due side log kind session) ≡ Some (record { item = id; is_own = true }) → MayBeCalled side log (StreamAccepted id session)
   may-give e = record {
     may = may-release side log log id (named true e);
     can = by (next_due side log kind session) refl e;
-    sends = call-sends side log (StreamAccepted id) refl (λ k. refl) f.sends;
+    sends = call-sends side log (StreamAccepted id session) refl (λ k. refl) f.sends;
     half = tt;
   }
     where
-      by : (o : Option Classified) → next_due side log kind session ≡ o → due_stream session o ≡ Some (record { item = id; is_own = true }) → MayUse side log (StreamAccepted id)
+      by : (o : Option Classified) → next_due side log kind session ≡ o → due_stream session o ≡ Some (record { item = id; is_own = true }) → MayUse side log (StreamAccepted id session)
       by None g h = absurd cc
-      by (Some c) g h = subst (λ k. MayUse side log (StreamAccepted k)) (due-parts session c (record { item = id; is_own = true }) h).0 (due-uses side log kind session c f.refines.fits g).0
+      by (Some c) g h = subst (λ k. MayUse side log (StreamAccepted k session)) (due-parts session c (record { item = id; is_own = true }) h).0 (due-uses side log kind session c f.refines.fits g).0
 
   -- One of another session may be passed.
   pub may-pass-due : due_stream session (next_due side log kind session) ≡ Some (record { item = id; is_own = false }) → MayPass side log id
@@ -160,7 +160,7 @@ may-release-datagram side log collected d f session x e r is = by r is
     lt = came-more log (datagram-waits side log session x e)
 
     by : (r : CallRecord) → releases_datagram r ≡ true → MayBeCalled side log r
-    by DatagramReceived i = record { may = tt; can = lt; sends = call-sends side log DatagramReceived refl (λ k. refl) f.sends; half = tt }
+    by (DatagramReceived index) i = record { may = tt; can = lt; sends = call-sends side log (DatagramReceived index) refl (λ k. refl) f.sends; half = tt }
     by DatagramPassed i = record { may = tt; can = lt; sends = call-sends side log DatagramPassed refl (λ k. refl) f.sends; half = tt }
     by _ i = absurd (true≢false (sym i))
 
@@ -168,7 +168,7 @@ may-release-datagram side log collected d f session x e r is = by r is
 pub released-noted : (side : Side) (log : Log) (collected : ℕ) (d : DriverValue) (f : Follows side d log collected) (new : DriverValue)
     → new ≡ record d { state = record d.state { datagrams = suc d.state.datagrams }; queue = without_first d.queue }
     → (r : CallRecord) → releases_datagram r ≡ true → MayBeCalled side log r → EntryNoted side log (Called r) new collected
-released-noted side log collected d f new e DatagramReceived is a = received-noted side log collected d f new e a
+released-noted side log collected d f new e (DatagramReceived index) is a = received-noted side log collected d f new index e a
 released-noted side log collected d f new e DatagramPassed is a = skipped-noted side log collected d f new e a
 released-noted side log collected d f new e _ is a = absurd (true≢false (sym is))
 

@@ -15,7 +15,7 @@ use Rattle.wt_driver_spec.specs.Uses.{classified_of, role_of}
 use Rattle.wt_spec.specs.Driver.{apply_if, call_view, log_and_flush, stream_table, transport_view}
 use Rattle.wt_spec.specs.Scan.{bi_ids, bi_rule, scan_bis, scan_order, scan_unis, uni_ids, uni_rule, without_stops}
 use Rattle.wt_spec.specs.StreamTable.{CallView, Classified, Ending, DriverProgress, StreamTable, TransportView, control_start, first_at}
-use Rattle.wt_turn.specs.Log.{BytesRead, CallRecord, Called, ConnectStarted, HandshakeOver, Log, OpeningFailed, OpeningStarted, Polled, PrioritySet, ResponseStarted, is_open}
+use Rattle.wt_turn.specs.Log.{AcceptanceFailed, BytesRead, CallRecord, Called, ConnectStarted, HandshakeOver, Log, OpeningFailed, OpeningStarted, Polled, PrioritySet, RequestRejected, ResponseStarted, is_open}
 use Rattle.wt_wire.specs.declared.side.Side.{Side}
 
 -- ---- the record of a call
@@ -28,6 +28,8 @@ record Plain (log : Log) (r : CallRecord) (s : DriverState) : Type 0 where
 plain : (log : Log) (r : CallRecord) (s : DriverState) → leaves_at_rest r ≡ true → Plain log r s
 plain log (ConnectStarted reserved head) s e = record { same = refl; view = refl }
 plain log (ResponseStarted accepts head) s e = record { same = refl; view = refl }
+plain log (RequestRejected id) s e = record { same = refl; view = refl }
+plain log AcceptanceFailed s e = record { same = refl; view = refl }
 plain log HandshakeOver s e = record { same = refl; view = refl }
 plain log (OpeningStarted id session) s e = record { same = refl; view = refl }
 plain log (OpeningFailed id) s e = record { same = refl; view = refl }

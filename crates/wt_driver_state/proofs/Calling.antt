@@ -36,7 +36,7 @@ use Rattle.wt_seam_spec.specs.Unread.{ReadPosition}
 use Rattle.wt_spec.specs.Driver.{stream_table}
 use Rattle.wt_spec.specs.Halves as halves
 use Rattle.wt_spec.specs.StreamTable.{verdict_of}
-use Rattle.wt_turn.specs.Log.{BytesRead, CallRecord, Called, ConnectStarted, DatagramPassed, DatagramReceived, HandshakeOver, Log, OpeningFailed, OpeningStarted, Polled, PrioritySet, RequestDelivered, ResetUnsent, ResponseStarted, SessionEstablished, StreamAccepted, StreamGivenUp, StreamPassed, all_events_of, calls_of, events_of}
+use Rattle.wt_turn.specs.Log.{AcceptanceFailed, BytesRead, CallRecord, Called, ConnectStarted, DatagramPassed, DatagramReceived, HandshakeOver, Log, OpeningFailed, OpeningStarted, Polled, PrioritySet, RequestDelivered, RequestRejected, ResetUnsent, ResponseStarted, SessionEstablished, StreamAccepted, StreamGivenUp, StreamPassed, all_events_of, calls_of, events_of}
 use Rattle.wt_turn.specs.declared.action.Action.{Action}
 use Rattle.wt_wire.specs.declared.side.Side.{Side}
 use Rattle.wt_wire.specs.declared.side.Side.TheVariants.{Client, Server}
@@ -80,7 +80,7 @@ inbox-kept side x log stage uncollected r n s = passes side x log stage uncollec
 -- ---- a record noted
 
 queue-so : (r : CallRecord) (log : Log) → unreleased_datagrams (Called r ∷ log) ≡ called_queue r (unreleased_datagrams log)
-queue-so DatagramReceived log = received-waits log
+queue-so (DatagramReceived index) log = received-waits log index
 queue-so DatagramPassed log = passed-waits log
 queue-so _ log = refl
 
@@ -132,6 +132,8 @@ module _ (side : Side) (log : Log) (collected : ℕ) (d : DriverValue) (f : Foll
 abbrev pub ChangesNothing : CallRecord → Type 0
 ChangesNothing (ConnectStarted reserved head) = Unit {0}
 ChangesNothing (ResponseStarted accepts head) = Unit {0}
+ChangesNothing (RequestRejected id) = Unit {0}
+ChangesNothing AcceptanceFailed = Unit {0}
 ChangesNothing HandshakeOver = Unit {0}
 ChangesNothing (OpeningStarted id session) = Unit {0}
 ChangesNothing (OpeningFailed id) = Unit {0}
@@ -154,6 +156,8 @@ module _ (side : Side) (log : Log) (collected : ℕ) (d : DriverValue) (f : Foll
   pub nothing-noted : (r : CallRecord) → ChangesNothing r → Asks r → EntryNoted side log (Called r) d collected
   nothing-noted (ConnectStarted reserved head) n a = call-noted side log collected d f (ConnectStarted reserved head) a d d.state.is_open (kept (ConnectStarted reserved head) tt) refl opened refl refl
   nothing-noted (ResponseStarted accepts head) n a = call-noted side log collected d f (ResponseStarted accepts head) a d d.state.is_open (kept (ResponseStarted accepts head) tt) refl opened refl refl
+  nothing-noted (RequestRejected id) n a = call-noted side log collected d f (RequestRejected id) a d d.state.is_open (kept (RequestRejected id) tt) refl opened refl refl
+  nothing-noted AcceptanceFailed n a = call-noted side log collected d f AcceptanceFailed a d d.state.is_open (kept AcceptanceFailed tt) refl opened refl refl
   nothing-noted HandshakeOver n a = call-noted side log collected d f HandshakeOver a d d.state.is_open (kept HandshakeOver tt) refl opened refl refl
   nothing-noted (OpeningStarted id session) n a = call-noted side log collected d f (OpeningStarted id session) a d d.state.is_open (kept (OpeningStarted id session) tt) refl opened refl refl
   nothing-noted (OpeningFailed id) n a = call-noted side log collected d f (OpeningFailed id) a d d.state.is_open (kept (OpeningFailed id) tt) refl opened refl refl
@@ -176,16 +180,16 @@ module _ (side : Side) (log : Log) (collected : ℕ) (d : DriverValue) (f : Foll
         let y = inbox-kept side new.inbox log stage (uncollected_since collected log) (SessionEstablished id start) tt x in
         call-noted side log collected d f (SessionEstablished id start) a new new.inbox.transport.is_open y s (open-stays (SessionEstablished id start) new.inbox stage y) q k
 
-    pub accepted-noted : (id : ℕ) → (IsAmong 4 id d.state.unis → IsAmong 1 id d.state.bis → new ≡ with_state d (release id d.state)) → Asks (StreamAccepted id) → EntryNoted side log (Called (StreamAccepted id)) new collected
-    accepted-noted id e a = subst (λ (v : DriverValue). EntryNoted side log (Called (StreamAccepted id)) v collected) (sym (e (first id a.may).unis (first id a.may).bis))
-        (call-noted side log collected d f (StreamAccepted id) a (with_state d (release id d.state)) d.state.is_open (kept (StreamAccepted id) tt) refl opened refl refl)
+    pub accepted-noted : (id session : ℕ) → (IsAmong 4 id d.state.unis → IsAmong 1 id d.state.bis → new ≡ with_state d (release id d.state)) → Asks (StreamAccepted id session) → EntryNoted side log (Called (StreamAccepted id session)) new collected
+    accepted-noted id session e a = subst (λ (v : DriverValue). EntryNoted side log (Called (StreamAccepted id session)) v collected) (sym (e (first id a.may).unis (first id a.may).bis))
+        (call-noted side log collected d f (StreamAccepted id session) a (with_state d (release id d.state)) d.state.is_open (kept (StreamAccepted id session) tt) refl opened refl refl)
 
     abbrev released_value : DriverValue
     released_value = record d { state = record d.state { datagrams = suc d.state.datagrams }; queue = without_first d.queue }
 
-    pub received-noted : new ≡ record d { state = record d.state { datagrams = suc d.state.datagrams }; queue = without_first d.queue } → Asks DatagramReceived → EntryNoted side log (Called DatagramReceived) new collected
-    received-noted e a = subst (λ (v : DriverValue). EntryNoted side log (Called DatagramReceived) v collected) (sym e)
-        (call-noted side log collected d f DatagramReceived a released_value d.state.is_open (kept DatagramReceived tt) (λ i. record d.state { datagrams = sym (add-one d.state.datagrams) i }) opened refl refl)
+    pub received-noted : (index : ℕ) → new ≡ record d { state = record d.state { datagrams = suc d.state.datagrams }; queue = without_first d.queue } → Asks (DatagramReceived index) → EntryNoted side log (Called (DatagramReceived index)) new collected
+    received-noted index e a = subst (λ (v : DriverValue). EntryNoted side log (Called (DatagramReceived index)) v collected) (sym e)
+        (call-noted side log collected d f (DatagramReceived index) a released_value d.state.is_open (kept (DatagramReceived index) tt) (λ i. record d.state { datagrams = sym (add-one d.state.datagrams) i }) opened refl refl)
 
     pub skipped-noted : new ≡ record d { state = record d.state { datagrams = suc d.state.datagrams }; queue = without_first d.queue } → Asks DatagramPassed → EntryNoted side log (Called DatagramPassed) new collected
     skipped-noted e a = subst (λ (v : DriverValue). EntryNoted side log (Called DatagramPassed) v collected) (sym e)
@@ -230,16 +234,16 @@ module _ (side : Side) (log : Log) (collected : ℕ) (d : DriverValue) (f : Foll
         (s ∙ (λ i. record (sym same i) { is_open = new.inbox.transport.is_open })) (open-stays r new.inbox f.refines.stage x) (q ∙ sym same_queue) k
 
 -- a call that isn't one of these leaves a driver at rest
-pub no-other : (call : Record) → ((id : ℕ) → call ≡ records.RequestDelivered id → ⊥) → ((id offset : ℕ) → call ≡ records.SessionEstablished id offset → ⊥) → ((id : ℕ) → call ≡ records.StreamAccepted id → ⊥)
+pub no-other : (call : Record) → ((id : ℕ) → call ≡ records.RequestDelivered id → ⊥) → ((id offset : ℕ) → call ≡ records.SessionEstablished id offset → ⊥) → ((id session : ℕ) → call ≡ records.StreamAccepted id session → ⊥)
     → ((id : ℕ) → call ≡ records.StreamPassed id → ⊥) → ((id : ℕ) → call ≡ records.StreamGivenUp id → ⊥) → ((id code : ℕ) → call ≡ records.ResetUnsent id code → ⊥)
-    → (call ≡ records.DatagramReceived → ⊥) → (call ≡ records.DatagramPassed → ⊥) → leaves_at_rest (record_of call) ≡ true
+    → ((index : ℕ) → call ≡ records.DatagramReceived index → ⊥) → (call ≡ records.DatagramPassed → ⊥) → leaves_at_rest (record_of call) ≡ true
 no-other (records.RequestDelivered id) a b c d e f g h = absurd (a id refl)
 no-other (records.SessionEstablished id offset) a b c d e f g h = absurd (b id offset refl)
-no-other (records.StreamAccepted id) a b c d e f g h = absurd (c id refl)
+no-other (records.StreamAccepted id session) a b c d e f g h = absurd (c id session refl)
 no-other (records.StreamPassed id) a b c d e f g h = absurd (d id refl)
 no-other (records.StreamGivenUp id) a b c d e f g h = absurd (e id refl)
 no-other (records.ResetUnsent id code) a b c d e f g h = absurd (f id code refl)
-no-other records.DatagramReceived a b c d e f g h = absurd (g refl)
+no-other (records.DatagramReceived index) a b c d e f g h = absurd (g index refl)
 no-other records.DatagramPassed a b c d e f g h = absurd (h refl)
 no-other _ a b c d e f g h = refl
 
@@ -250,6 +254,8 @@ keeps-nothing (records.BytesRead id count) a b e = absurd (a id count refl)
 keeps-nothing (records.PrioritySet id p) a b e = absurd (b id p refl)
 keeps-nothing (records.ConnectStarted reserved head) a b e = tt
 keeps-nothing (records.ResponseStarted accepts head) a b e = tt
+keeps-nothing (records.RequestRejected id) a b e = tt
+keeps-nothing records.AcceptanceFailed a b e = tt
 keeps-nothing records.HandshakeOver a b e = tt
 keeps-nothing (records.OpeningStarted id session) a b e = tt
 keeps-nothing (records.OpeningFailed id) a b e = tt

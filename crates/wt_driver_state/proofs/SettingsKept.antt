@@ -267,7 +267,7 @@ scanned-agrees t s kept k =
 pub entry-keeps : (t : TransportView) (m : Entry) (s : DriverState) → ((after_entry t m s).progress.settings ≡ s.progress.settings) × ((after_entry t m s).dispatched.control ≡ s.dispatched.control)
 entry-keeps t (Reported PeerUni) s = (refl, refl)
 entry-keeps t (Reported _) s = (refl, refl)
-entry-keeps t (Called (StreamAccepted id)) s = (refl, refl)
+entry-keeps t (Called (StreamAccepted id session)) s = (refl, refl)
 entry-keeps t (Called _) s = (refl, refl)
 entry-keeps t _ s = (refl, refl)
 

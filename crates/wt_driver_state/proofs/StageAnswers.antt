@@ -102,10 +102,10 @@ given-now _ (Some c) e = inr e
 
 pub accepted-given : (side : Side) (log : Log) (k : ℕ) → Uses side log → is_accepted log k ≡ true → IsGiven side log k
 accepted-given side [] k uses e = absurd cc
-accepted-given side (Called (StreamAccepted id) ∷ log) k uses e = by (id == k) refl e (λ f. accepted-given side log k uses.1 f)
+accepted-given side (Called (StreamAccepted id session) ∷ log) k uses e = by (id == k) refl e (λ f. accepted-given side log k uses.1 f)
   where
     m : Entry
-    m = Called (StreamAccepted id)
+    m = Called (StreamAccepted id session)
 
     here : IsGiven side log id
     here = record { stream = given-now (role_of side id) (classified_of id (stream_table side log).classified) uses.0.0; kept = uses.0.1 }

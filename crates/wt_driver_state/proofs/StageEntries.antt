@@ -11,7 +11,7 @@ use Rattle.wt_proto.specs.declared.verdict.Verdict.{Verdict}
 use Rattle.wt_proto.specs.declared.verdict.Verdict.TheVariants as verdicts
 use Rattle.wt_spec.specs.Driver.{stream_table}
 use Rattle.wt_spec.specs.StreamTable.{Classified, Ending, StreamTable, is_webtransport}
-use Rattle.wt_turn.specs.Log.{BytesRead, CallRecord, Called, HandshakeOver, Log, SessionEstablished, StreamGivenUp, StreamPassed}
+use Rattle.wt_turn.specs.Log.{AcceptanceFailed, BytesRead, CallRecord, Called, HandshakeOver, Log, RequestRejected, SessionEstablished, StreamGivenUp, StreamPassed}
 use Rattle.wt_wire.specs.declared.side.Side.{Side}
 use Rattle.wt_wire.specs.declared.side.Side.TheVariants.{Client, Server}
 
@@ -198,5 +198,7 @@ called-fits side log stage (StreamGivenUp id) own may f =
 called-fits side log stage (StreamPassed id) own may f =
     drop-fits side log (stream_table side log) stage id (StreamPassed id) true (named-for (role_of side id) (classified_of id (stream_table side log).classified) may.0) (λ k e. rw e refl) (rw (eq-eqb id id refl) refl) f
 called-fits side log stage (SessionEstablished id offset) own may f = established-fits side log (stream_table side log) stage id offset own may.0 f
+called-fits side log stage (RequestRejected id) own may f = λ k. over-says (role_of side k) (call_use side log k) (stream_table side log).progress.ending (classified_of k (stream_table side log).classified) (stage k) (f k)
+called-fits side log stage AcceptanceFailed own may f = λ k. over-says (role_of side k) (call_use side log k) (stream_table side log).progress.ending (classified_of k (stream_table side log).classified) (stage k) (f k)
 called-fits side log stage HandshakeOver own may f = λ k. over-says (role_of side k) (call_use side log k) (stream_table side log).progress.ending (classified_of k (stream_table side log).classified) (stage k) (f k)
 called-fits side log stage _ own may f = f

@@ -32,9 +32,9 @@ use Rattle.wt_spec.specs.Connection.{accept_due, accept_first, datagram_allowed,
 use Rattle.wt_spec.specs.Driver.{call_view, established_session, flush, log_and_flush, settings_came, released_datagrams, stream_table}
 use Rattle.wt_spec.specs.Effect.{Effect, close_when_open, driver_error, head_left, is_covered, is_empty, log_call, poll_sending, reply_with, transport_error}
 use Rattle.wt_spec.specs.Halves.{all_written_reply, exact_at_end, finish_once, has_receiving_half, has_sending_half, is_done, on_half, read, read_exact, read_reply, reset, set_priority, take_bytes, unread_body, write_by, write_error, written_reply}
-use Rattle.wt_spec.specs.Handshake.{Connecting, HandshakeState, Requested, Responding, accept_response, await_or_fail, await_response, awaits_answer, continue_by, deliver, establish, fail_handshake, handshake_state, has_success, incoming, is_refused, open_request, queued_requests, read_response, reject_response, request_end, requested_stream, respond, send_request, start_response, unless_reserved}
+use Rattle.wt_spec.specs.Handshake.{Connecting, HandshakeState, Requested, Responding, accept_response, await_or_fail, await_response, awaits_answer, continue_by, deliver, end_rejection, establish, fail_acceptance, fail_handshake, handshake_state, has_success, incoming, is_refused, open_request, queued_requests, read_response, reject_response, request_end, requested_stream, respond, send_request, start_response, unless_reserved}
 use Rattle.wt_spec.specs.StreamTable.{Classified, dispatched_streams, verdict_of}
-use Rattle.wt_turn.specs.Log.{BytesRead, CallRecord, Called, ConnectStarted, DatagramPassed, DatagramReceived, Event, HandshakeOver, Log, OpeningFailed, OpeningStarted, Polled, PrioritySet, Received, Reported, RequestDelivered, ResetUnsent, ResponseStarted, Sent, SessionEstablished, StreamAccepted, StreamGivenUp, StreamPassed, actions_of, calls_of, events_of, is_open, with_actions}
+use Rattle.wt_turn.specs.Log.{AcceptanceFailed, BytesRead, CallRecord, Called, ConnectStarted, DatagramPassed, DatagramReceived, Event, HandshakeOver, Log, OpeningFailed, OpeningStarted, Polled, PrioritySet, Received, Reported, RequestDelivered, RequestRejected, ResetUnsent, ResponseStarted, Sent, SessionEstablished, StreamAccepted, StreamGivenUp, StreamPassed, actions_of, calls_of, events_of, is_open, with_actions}
 use Rattle.wt_turn.specs.declared.action.Action.{Action}
 use Rattle.wt_turn.specs.declared.call.Call.{Call}
 use Rattle.wt_turn.specs.declared.connecting_error.ConnectingError.{ConnectingError}
@@ -98,11 +98,11 @@ module _ (side : Side) (reply : ℕ → Reply) (kind session : ℕ) where
   accept-uses (suc n) log fits uses = by (next_due side log kind session) refl (λ later. accept-uses n later)
     where
       one : (b : Bool) (c : Classified) → next_due side log kind session ≡ Some c → ((later : Log) → Fits side later → Uses side later → LeadsUses side (accept_first n side reply kind session later))
-          → LeadsUses side (give_or_pass b side reply (λ later. accept_first n side reply kind session later) log c.id)
+          → LeadsUses side (give_or_pass b side reply (λ later. accept_first n side reply kind session later) session log c.id)
       one true c e again =
           let may = due-uses side log kind session c fits e in
-          let given = moment-uses side log (Called (StreamAccepted c.id)) may.0 uses in
-          called-uses side (log_call side log [] (StreamAccepted c.id)) [] Polled given tt
+          let given = moment-uses side log (Called (StreamAccepted c.id session)) may.0 uses in
+          called-uses side (log_call side log [] (StreamAccepted c.id session)) [] Polled given tt
       one false c e again =
           let may = due-uses side log kind session c fits e in
           let stop : List Action = actions.StopOut c.id (code_of h3.BufferedStreamRejected) ∷ [] in
@@ -133,7 +133,9 @@ receive-uses side session zero log uses = called-uses side log [] Polled uses tt
 receive-uses side session (suc n) log uses = by (next_datagram side log) refl (λ later. receive-uses side session n later)
   where
     one : (b : Bool) (payload : List ℕ) → released_datagrams (calls_of log) < length (datagrams_of (events_of log)) → ((later : Log) → Uses side later → LeadsUses side (receive_first n side session later)) → LeadsUses side (receive_or_pass b side (λ later. receive_first n side session later) log payload)
-    one true payload has_come again = called-uses side (log_call side log [] DatagramReceived) [] Polled (moment-uses side log (Called DatagramReceived) has_come uses) tt
+    one true payload has_come again =
+        let r = DatagramReceived (released_datagrams (calls_of log)) in
+        called-uses side (log_call side log [] r) [] Polled (moment-uses side log (Called r) has_come uses) tt
     one false payload has_come again = again (log_call side log [] DatagramPassed) (moment-uses side log (Called DatagramPassed) has_come uses)
 
     by : (o : Option (ℕ × List ℕ)) → next_datagram side log ≡ o → ((later : Log) → Uses side later → LeadsUses side (receive_first n side session later)) → LeadsUses side (receive_next side (λ later. receive_first n side session later) session log o)
@@ -175,11 +177,11 @@ module _ (side : Side) (log : Log) (fits : Fits side log) (uses : Uses side log)
   opening-leads : (k s : ℕ) → LeadsUses side (poll_opening side log k s)
   opening-leads k s =
       either-so side (is_opening log k) _ _
-      (λ i. let may = opening-uses side log k fits uses (and_parts (list_any (starts_opening k) (calls_of log)) (not (list_any (ends_opening k) (calls_of log))) i).0 in
+      (λ i. let may = opening-uses side log k s fits uses (and_parts (list_any (starts_opening k) (calls_of log)) (not (list_any (ends_opening k) (calls_of log))) i).0 in
       let left = head_left log k (stream_header k s) in
       either side (not (is_open log)) _ _ (called-uses side log [] (OpeningFailed k) uses tt)
       (either side (is_refused log k left) _ _ (called-uses side log [] (OpeningFailed k) uses tt)
-      (either side (is_covered log k left) _ _ (called-uses side log (send_of k left) (StreamAccepted k) uses (may-with side (send_of k left) log (StreamAccepted k) may)) (polls (send_of k (bytes_within_credit log k left)) _))))
+      (either side (is_covered log k left) _ _ (called-uses side log (send_of k left) (StreamAccepted k s) uses (may-with side (send_of k left) log (StreamAccepted k s) may)) (polls (send_of k (bytes_within_credit log k left)) _))))
       (polls [] _)
 
   -- ---- datagrams, and the rest of a session's calls
@@ -241,6 +243,12 @@ module _ (side : Side) (log : Log) (fits : Fits side log) (uses : Uses side log)
   failed-uses : (own : List Action) (reply : Reply) → LeadsUses side (fail_handshake side log own reply)
   failed-uses own reply = called-uses side log own HandshakeOver uses tt
 
+  unaccepted-uses : (own : List Action) (e : ConnectionError) → LeadsUses side (fail_acceptance side log own e)
+  unaccepted-uses own e = called-uses side log own AcceptanceFailed uses tt
+
+  rejected-uses : (id : ℕ) (own : List Action) → LeadsUses side (end_rejection side log id own)
+  rejected-uses id own = called-uses side log own (RequestRejected id) uses tt
+
   establish-uses : (own : List Action) (id offset : ℕ) → MayUse side (with_actions own log) (SessionEstablished id offset) → LeadsUses side (establish side log own id offset)
   establish-uses own id offset may =
       called-uses side (log_call side log own (SessionEstablished id offset)) [] Polled (moment-uses side (with_actions own log) (Called (SessionEstablished id offset)) may (actions-use side own log uses)) tt
@@ -276,8 +284,8 @@ module _ (side : Side) (log : Log) (fits : Fits side log) (uses : Uses side log)
 
     accept-leads : (left : List ℕ) → LeadsUses side (accept_response side log id left waiting)
     accept-leads left =
-        either side (not (is_open log)) _ _ (failed-uses [] _)
-        (either side (is_refused log id left) _ _ (failed-uses (close_when_open log (code_of h3.ClosedCriticalStream)) _)
+        either side (not (is_open log)) _ _ (unaccepted-uses [] _)
+        (either side (is_refused log id left) _ _ (unaccepted-uses (close_when_open log (code_of h3.ClosedCriticalStream)) _)
         (either side (is_covered log id left) _ _
         (establish-uses (send_of id left) id (request_end (verdict_of id (stream_table side log).classified))
         (may-with side (send_of id left) log (SessionEstablished id (request_end (verdict_of id (stream_table side log).classified)))
@@ -286,11 +294,11 @@ module _ (side : Side) (log : Log) (fits : Fits side log) (uses : Uses side log)
 
     reject-leads : (left : List ℕ) → LeadsUses side (reject_response side log id left waiting)
     reject-leads left =
-        either side (not (is_open log)) _ _ (failed-uses [] _)
-        (either side (is_refused log id left) _ _ (failed-uses (close_when_open log (code_of h3.ClosedCriticalStream)) _)
+        either side (not (is_open log)) _ _ (rejected-uses id [])
+        (either side (is_refused log id left) _ _ (rejected-uses id (close_when_open log (code_of h3.ClosedCriticalStream)))
         (either side (is_covered log id left) _ _
         (either side (not (is_finished (actions_of log) id)) _ _ (waits (send_of id left ++ actions.Finish id ∷ []) _)
-        (either side (is_some (stop_of (events_of log) id) || is_acknowledged (events_of log) id) _ _ (failed-uses (close_when_open log 0) _) (waits [] _)))
+        (either side (is_some (stop_of (events_of log) id) || is_acknowledged (events_of log) id) _ _ (rejected-uses id (close_when_open log 0)) (waits [] _)))
         (waits (send_of id (bytes_within_credit log id left)) _)))
 
     respond-uses : (accepts : Bool) (head : List ℕ) → LeadsUses side (respond side log accepts head waiting)

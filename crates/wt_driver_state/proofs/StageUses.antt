@@ -20,7 +20,7 @@ use Rattle.wt_spec.specs.Driver.{call_view, established_session, releases, strea
 use Rattle.wt_spec.specs.Halves.{gives_up, has_receiving_half, is_accepted}
 use Rattle.wt_spec.specs.Handshake.{Connecting, HandshakeState, Requested, Responding, awaits_answer, handshake_state, request_end, requested_stream}
 use Rattle.wt_spec.specs.StreamTable.{Classified, awaits_accept, awaits_delivery, dispatched_streams, is_request, is_webtransport, verdict_of}
-use Rattle.wt_turn.specs.Log.{CallRecord, Called, ConnectStarted, Entry, HandshakeOver, Log, OpeningStarted, RequestDelivered, ResponseStarted, Sent, SessionEstablished, StreamAccepted, StreamPassed, actions_of, calls_of, is_open, with_actions}
+use Rattle.wt_turn.specs.Log.{AcceptanceFailed, CallRecord, Called, ConnectStarted, Entry, HandshakeOver, Log, OpeningStarted, RequestDelivered, RequestRejected, ResponseStarted, Sent, SessionEstablished, StreamAccepted, StreamPassed, actions_of, calls_of, is_open, with_actions}
 use Rattle.wt_turn.specs.declared.action.Action.{Action}
 use Rattle.wt_wire.specs.declared.side.Side.{Side}
 use Rattle.wt_wire.specs.declared.side.Side.TheVariants.{Client, Server}
@@ -126,6 +126,8 @@ answering-queued side (Called (ResponseStarted accepts head) ∷ log) uses e =
     by _ e = absurd cc
 answering-queued side (Called (ConnectStarted reserved head) ∷ log) uses e = absurd cc
 answering-queued side (Called (SessionEstablished id offset) ∷ log) uses e = absurd cc
+answering-queued side (Called (RequestRejected id) ∷ log) uses e = absurd cc
+answering-queued side (Called AcceptanceFailed ∷ log) uses e = absurd cc
 answering-queued side (Called HandshakeOver ∷ log) uses e = absurd cc
 answering-queued side (Called r ∷ log) uses e = queued-stays side log (Called r) (requested_stream (calls_of log)) (answering-queued side log uses.1 e)
 answering-queued side (m ∷ log) uses e = queued-stays side log m (requested_stream (calls_of log)) (answering-queued side log uses.1 e)
@@ -151,6 +153,8 @@ responding-side side (Called (ResponseStarted a h) ∷ log) accepts head uses e 
 responding-side side (Called (RequestDelivered id) ∷ log) accepts head uses e = absurd cc
 responding-side side (Called (ConnectStarted reserved h) ∷ log) accepts head uses e = absurd cc
 responding-side side (Called (SessionEstablished id offset) ∷ log) accepts head uses e = absurd cc
+responding-side side (Called (RequestRejected id) ∷ log) accepts head uses e = absurd cc
+responding-side side (Called AcceptanceFailed ∷ log) accepts head uses e = absurd cc
 responding-side side (Called HandshakeOver ∷ log) accepts head uses e = absurd cc
 responding-side side (Called _ ∷ log) accepts head uses e = responding-side side log accepts head uses.1 e
 responding-side side (_ ∷ log) accepts head uses e = responding-side side log accepts head uses.1 e
@@ -161,6 +165,8 @@ connecting-side side (Called (ConnectStarted r h) ∷ log) reserved head uses e 
 connecting-side side (Called (RequestDelivered id) ∷ log) reserved head uses e = absurd cc
 connecting-side side (Called (ResponseStarted accepts h) ∷ log) reserved head uses e = absurd cc
 connecting-side side (Called (SessionEstablished id offset) ∷ log) reserved head uses e = absurd cc
+connecting-side side (Called (RequestRejected id) ∷ log) reserved head uses e = absurd cc
+connecting-side side (Called AcceptanceFailed ∷ log) reserved head uses e = absurd cc
 connecting-side side (Called HandshakeOver ∷ log) reserved head uses e = absurd cc
 connecting-side side (Called _ ∷ log) reserved head uses e = connecting-side side log reserved head uses.1 e
 connecting-side side (_ ∷ log) reserved head uses e = connecting-side side log reserved head uses.1 e
@@ -189,8 +195,8 @@ own-kept side (Called _ ∷ log) k fits uses e = own-kept side log k fits.1 uses
 own-kept side (_ ∷ log) k fits uses e = own-kept side log k fits.1 uses.1 e
 
 -- an opening that is through gives its stream
-pub opening-uses : (side : Side) (log : Log) (k : ℕ) → Fits side log → Uses side log → list_any (starts_opening k) (calls_of log) ≡ true → MayUse side log (StreamAccepted k)
-opening-uses side log k fits uses e =
+pub opening-uses : (side : Side) (log : Log) (k session : ℕ) → Fits side log → Uses side log → list_any (starts_opening k) (calls_of log) ≡ true → MayUse side log (StreamAccepted k session)
+opening-uses side log k session fits uses e =
     let given = openings-given side log k uses e in
     (ap (may_give (role_of side k)) (own-unclassified side log k fits given) ∙ given, own-kept side log k fits uses given)
 
@@ -198,12 +204,12 @@ opening-uses side log k fits uses e =
 
 unreleased : (k : ℕ) (calls : List CallRecord) → list_any (releases k) calls ≡ false → (list_any (accepts_stream k) calls ≡ false) × (list_any (passes k) calls ≡ false)
 unreleased k [] e = (refl, refl)
-unreleased k (StreamAccepted id ∷ calls) e = let parts = or_parts (id == k) (list_any (releases k) calls) e in let rest = unreleased k calls parts.1 in (rw (parts.0, rest.0) refl, rest.1)
+unreleased k (StreamAccepted id session ∷ calls) e = let parts = or_parts (id == k) (list_any (releases k) calls) e in let rest = unreleased k calls parts.1 in (rw (parts.0, rest.0) refl, rest.1)
 unreleased k (StreamPassed id ∷ calls) e = let parts = or_parts (id == k) (list_any (releases k) calls) e in let rest = unreleased k calls parts.1 in (rest.0, rw (parts.0, rest.1) refl)
 unreleased k (_ ∷ calls) e = unreleased k calls e
 
 -- a stream that is due may be given or passed
-pub due-uses : (side : Side) (log : Log) (kind session : ℕ) (c : Classified) → Fits side log → next_due side log kind session ≡ Some c → MayUse side log (StreamAccepted c.id) × MayUse side log (StreamPassed c.id)
+pub due-uses : (side : Side) (log : Log) (kind session : ℕ) (c : Classified) → Fits side log → next_due side log kind session ≡ Some c → MayUse side log (StreamAccepted c.id session) × MayUse side log (StreamPassed c.id)
 due-uses side log kind session c fits e =
     let both = only-in (awaits_accept (call_view log).released) (stream_table side log).classified c (found-in (is_due (is_open log) kind session) (dispatched_streams (call_view log) (stream_table side log).classified).waiting c e) in
     let parts = and_parts (not ((call_view log).released c.id)) (is_webtransport c.verdict) both.1 in

@@ -48,7 +48,7 @@ more-came _ n xs le = le
 
 pub released-came : (side : Side) (log : Log) → Uses side log → released_datagrams (calls_of log) ≤ length (datagrams_of (events_of log))
 released-came side [] uses = omega arith
-released-came side (Called DatagramReceived ∷ log) uses = let has_come = uses.0 in omega arith
+released-came side (Called (DatagramReceived index) ∷ log) uses = let has_come = uses.0 in omega arith
 released-came side (Called DatagramPassed ∷ log) uses = let has_come = uses.0 in omega arith
 released-came side (Called _ ∷ log) uses = released-came side log uses.1
 released-came side (Reported e ∷ log) uses = more-came e (released_datagrams (calls_of log)) (datagrams_of (events_of log)) (released-came side log uses.1)
@@ -68,8 +68,8 @@ drop-more : (n : ℕ) (xs : List (List ℕ)) → drop (n + 1) xs ≡ without_fir
 drop-more n xs = ap (λ (i : ℕ). drop i xs) (add-one n) ∙ drop-next n xs
 
 -- the front one waits no longer
-pub received-waits : (log : Log) → unreleased_datagrams (Called DatagramReceived ∷ log) ≡ without_first (unreleased_datagrams log)
-received-waits log = drop-more (released_datagrams (calls_of log)) (datagrams_of (events_of log))
+pub received-waits : (log : Log) (index : ℕ) → unreleased_datagrams (Called (DatagramReceived index) ∷ log) ≡ without_first (unreleased_datagrams log)
+received-waits log index = drop-more (released_datagrams (calls_of log)) (datagrams_of (events_of log))
 
 pub passed-waits : (log : Log) → unreleased_datagrams (Called DatagramPassed ∷ log) ≡ without_first (unreleased_datagrams log)
 passed-waits log = drop-more (released_datagrams (calls_of log)) (datagrams_of (events_of log))

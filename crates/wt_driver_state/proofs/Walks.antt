@@ -76,7 +76,7 @@ module _ (side : Side) (log : Log) where
   event-leaves _ f = event-passes _ (λ k. refl) refl
 
 pub release-establishes-none : (r : CallRecord) → releases_datagram r ≡ true → is_some (establishes r) ≡ false
-release-establishes-none DatagramReceived e = refl
+release-establishes-none (DatagramReceived index) e = refl
 release-establishes-none DatagramPassed e = refl
 release-establishes-none _ e = absurd cc
 

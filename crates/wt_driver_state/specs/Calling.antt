@@ -1,7 +1,7 @@
 -- What a call's record finds and leaves of what waits in a driver.
 use Rattle.std.specs.Prelude.{Bool, List, false, true, ℕ}
 use Rattle.wt_driver_state.specs.DriverValue.{DriverValue, IsAmong, without_first}
-use Rattle.wt_turn.specs.Log.{BytesRead, CallRecord, ConnectStarted, DatagramPassed, DatagramReceived, HandshakeOver, OpeningFailed, OpeningStarted, Polled, PrioritySet, ResponseStarted}
+use Rattle.wt_turn.specs.Log.{AcceptanceFailed, BytesRead, CallRecord, ConnectStarted, DatagramPassed, DatagramReceived, HandshakeOver, OpeningFailed, OpeningStarted, Polled, PrioritySet, RequestRejected, ResponseStarted}
 
 -- a stream that has a slot has it among the first few of its kind
 pub record IsEarly (d : DriverValue) (id : ℕ) : Type 0 where
@@ -10,7 +10,7 @@ pub record IsEarly (d : DriverValue) (id : ℕ) : Type 0 where
 
 -- the datagrams that wait after a call
 abbrev pub called_queue : CallRecord → List (List ℕ) → List (List ℕ)
-called_queue DatagramReceived q = without_first q
+called_queue (DatagramReceived index) q = without_first q
 called_queue DatagramPassed q = without_first q
 called_queue _ q = q
 
@@ -18,6 +18,8 @@ called_queue _ q = q
 abbrev pub leaves_at_rest : CallRecord → Bool
 leaves_at_rest (ConnectStarted reserved head) = true
 leaves_at_rest (ResponseStarted accepts head) = true
+leaves_at_rest (RequestRejected id) = true
+leaves_at_rest AcceptanceFailed = true
 leaves_at_rest HandshakeOver = true
 leaves_at_rest (OpeningStarted id session) = true
 leaves_at_rest (OpeningFailed id) = true

@@ -72,16 +72,16 @@ module _ (side : Side) (turn : Turn) (by_call : is_call turn ≡ true) where
     left = head_left log k (stream_header k s)
 
     caused-header : is_open log ≡ true → is_refused log k left ≡ false → (b : Bool) → is_covered log k left ≡ b → (c : Bool) → is_bidirectional k ≡ c
-        → Caused side turn log (if b then reply_with (log_call side log (send_of k left) (StreamAccepted k)) (if c then replies.BiReady k else replies.SendReady k) else poll_sending side log (send_of k (bytes_within_credit log k left)) replies.Pending)
+        → Caused side turn log (if b then reply_with (log_call side log (send_of k left) (StreamAccepted k s)) (if c then replies.BiReady k else replies.SendReady k) else poll_sending side log (send_of k (bytes_within_credit log k left)) replies.Pending)
     unfolding left
-    caused-header o f true c x y = leaf side turn by_call log (send_of k left) (StreamAccepted k) _ (own-send side turn by_call log k left o (unrefused-whole side turn by_call log k left f c) (OfHeader s offset p d i (sym (covered-whole log k left c)))) (ByOpening (record {
+    caused-header o f true c x y = leaf side turn by_call log (send_of k left) (StreamAccepted k s) _ (own-send side turn by_call log k left o (unrefused-whole side turn by_call log k left f c) (OfHeader s offset p d i (sym (covered-whole log k left c)))) (ByOpening (record {
       polls = p;
       opening = still-opening (send_of k left) log k ∙ i;
       session = s;
       offset = offset;
       is_established = ap established_session (calls-with (send_of k left) log) ∙ d;
       whole = head-out log k (stream_header k s);
-    })) (reported x) (ready x y)
+    }) refl) (reported x) (ready x y)
       where
         reported : (x : Bool) → given_stream (if x then replies.BiReady k else replies.SendReady k) ≡ Some k
         reported true = refl
@@ -92,7 +92,7 @@ module _ (side : Side) (turn : Turn) (by_call : is_call turn ≡ true) where
         ready false y = (record { polls = p; opening = i; still_open = o; session = s; offset = offset; is_established = d; covers = c }, y)
     caused-header o f false c x y = leaf side turn by_call log (send_of k (bytes_within_credit log k left)) Polled replies.Pending (own-send side turn by_call log k (bytes_within_credit log k left) o (unrefused side turn by_call (stop_of (events_of log) k) left (credit_left log k) f) (OfHeader s offset p d i refl)) by_call refl (o, HeadUnsent k (stream_header k s) (OfTheStream s offset p i d refl) c (not-stopped side turn by_call (stop_of (events_of log) k) left (credit_left log k) f c))
 
-    caused-opening : Caused side turn log (continue_opening side log k left)
+    caused-opening : Caused side turn log (continue_opening side log k s left)
     unfolding left
     caused-opening =
         either side turn by_call (not (is_open log)) _ _ (λ o. leaf side turn by_call log [] (OpeningFailed k) (replies.OpeningFailed openings.NotConnected) tt (AtEnd p i (not-true _ o)) refl (not-true _ o, k, p, i)) (λ o.

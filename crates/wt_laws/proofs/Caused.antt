@@ -13,7 +13,7 @@ use Rattle.wt_seam_spec.specs.Outgoing.{bytes_within_credit, credit_left, may_op
 use Rattle.wt_seam_spec.specs.Reports.{datagrams_of, end_of, is_acknowledged, is_connected, stop_of}
 use Rattle.wt_seam_spec.specs.Sent.{is_finished, sent_on}
 use Rattle.wt_seam_spec.specs.Streams.{contents, local_bi, local_count, local_uni, one_more_if, peer_count, stream_count}
-use Rattle.wt_turn.specs.Log.{CallRecord, ConnectStarted, DatagramPassed, DatagramReceived, HandshakeOver, Log, Polled, RequestDelivered, ResponseStarted, Sent, SessionEstablished, StreamAccepted, StreamPassed, actions_of, calls_of, events_of, is_open, with_actions}
+use Rattle.wt_turn.specs.Log.{AcceptanceFailed, CallRecord, ConnectStarted, DatagramPassed, DatagramReceived, HandshakeOver, Log, Polled, RequestDelivered, RequestRejected, ResponseStarted, Sent, SessionEstablished, StreamAccepted, StreamPassed, actions_of, calls_of, events_of, is_open, with_actions}
 use Rattle.wt_turn.specs.declared.action.Action.{Action}
 use Rattle.wt_turn.specs.declared.connecting_error.ConnectingError.{ConnectingError}
 use Rattle.wt_turn.specs.declared.connection_error.ConnectionError.{ConnectionError}
@@ -30,7 +30,7 @@ use Rattle.wt_laws.proofs.Classified.{next-is-due}
 use Rattle.wt_laws.proofs.Looks.{at-first, events-logged, left_to_release, next-within, pass-drops}
 use Rattle.wt_laws.proofs.Steps.{ByCall, Nothing, Steps, blind-actions, calls-logged, calls-with}
 use Rattle.wt_laws.specs.Causes.{ActionCause, ByAccept, ByAnswer, ByResponse, ConnectTo, Declines, DialCause, EndsStream, EstablishedBy, FoundDatagram, FoundStream, FromBefore, HandshakeCode, OfHandshake, OfPass, OfRejection, OfRequest, OfResponse, OwnCauses, Plain, Rejects, Reserves, ResponseFrom, ResponseIs, SendCause, StoppedEarly, Stops, accepted_kind, is_accept, is_receive, is_under_way, name_in}
-use Rattle.wt_laws.specs.RecordCauses.{AcceptanceEnded, AcceptanceStopped, CallCause, ConnectEnded, NoMoreRequests, OverBy, OverCause, RejectionEnded}
+use Rattle.wt_laws.specs.RecordCauses.{AcceptanceCause, AcceptanceEnded, AcceptanceStopped, CallCause, ConnectEnded, NoMoreRequests, OverBy, OverCause, RejectionCause}
 use Rattle.wt_laws.specs.ReplyCauses.{AfterSuccess, AsDriver, AtResponse, BeforeConnection, BeforeRequest, BeforeResponse, BeforeSettings, BeforeStream, ByRefusal, ByReserved, ByResponseFault, ByStatus, ByStop, ByStreamEnd, ConnectFailedCause, ConnectionEnded, Dialling, Finishing, HeadUnsent, NoAddress, NoConnection, NoDatagramLeft, NoRequest, NoResponse, NoSessionStream, NoSettings, NoStreamLeft, NoUrl, NotHttps, NotProceeding, OfTheRequest, OfTheResponse, PendingCause, RejectedCause, RejectionOver, RejectionRefused, ReplyCause, Unacknowledged, is_incoming}
 use Rattle.wt_turn.specs.Turns.{is_call}
 use Rattle.wt_laws.specs.ReplyTells.{Logged, NonePassed, OnePassed, OneRecord, HasPassed, TellsOf, ThenPolled, given_stream, is_pass, is_quiet}
@@ -39,7 +39,7 @@ use Rattle.wt_spec.specs.Connect.{address_of, authority_of, connect_to, outcome_
 use Rattle.wt_spec.specs.Connection.{accept_due, accept_first, accept_stream, give_or_pass, is_for_session, next_datagram, next_due, pass_stream, receive_first, receive_next, receive_or_pass}
 use Rattle.wt_spec.specs.Driver.{established_session, settings_came, released_datagrams, stream_table}
 use Rattle.wt_spec.specs.Effect.{Effect, close_when_open, driver_error, head_left, is_covered, is_empty, log_call, pending_or_failed, poll_only, reply_with, transport_error}
-use Rattle.wt_spec.specs.Handshake.{AwaitingRequest, Connecting, HandshakeState, Requested, Responding, accept_response, await_or_fail, await_response, continue_by, continue_connect, deliver, fail_handshake, finish_rejection, handshake_state, has_success, is_continuable, is_refused, open_request, queued_requests, read_response, reject_response, request_end, request_fields_of, requested_stream, respond, send_request, start_response, unless_reserved}
+use Rattle.wt_spec.specs.Handshake.{AwaitingRequest, Connecting, HandshakeState, Requested, Responding, accept_response, await_or_fail, await_response, continue_by, continue_connect, deliver, end_rejection, fail_acceptance, fail_handshake, finish_rejection, handshake_state, has_success, is_continuable, is_refused, open_request, queued_requests, read_response, reject_response, request_end, request_fields_of, requested_stream, respond, send_request, start_response, unless_reserved}
 use Rattle.wt_spec.specs.StreamTable.{Classified, verdict_of}
 use Rattle.wt_turn.specs.declared.action.Action.TheVariants as actions
 use Rattle.wt_turn.specs.declared.call.Call.TheVariants as calls
@@ -152,23 +152,27 @@ module _ (side : Side) (turn : Turn) (by_call : is_call turn ≡ true) where
       (own-if (with_actions own log) (actions.Close code []) (is_open log) (λ b. (s ∙ b, OfHandshake (ap (λ cs. is_under_way (handshake_state cs)) (calls-with own log) ∙ u) h refl)))
 
   -- the record of a handshake that is over
-  abbrev over-by : (log : Log) (own : List Action) → is_under_way (handshake_state (calls_of log)) ≡ true → OverCause side turn log → OverBy side turn (with_actions own log)
-  over-by log own u x = record { before = log; own = own; is = refl; under_way = u; why = x }
+  abbrev over-by : (Cause : Log → Type 0) (log : Log) (own : List Action) → is_under_way (handshake_state (calls_of log)) ≡ true → Cause log → OverBy (with_actions own log) Cause
+  over-by Cause log own u x = record { before = log; own = own; is = refl; under_way = u; why = x }
 
   -- the handshake fails, and closes an open connection
   failed : (log : Log) (own : List Action) (code : ℕ) (reply : Reply) → HandshakeCode side turn (with_actions own log) code → is_open (with_actions own log) ≡ is_open log → is_under_way (handshake_state (calls_of log)) ≡ true → OwnCauses side turn log own → OverCause side turn log → is_quiet reply ≡ true
       → ReplyCause side turn log reply → Caused side turn log (fail_handshake side log (own ++ close_when_open log code) reply)
-  failed log own code reply h s u o x q w = leaf log (own ++ close_when_open log code) HandshakeOver reply (own-closing log own code h s u o) (over-by log (own ++ close_when_open log code) u x) q w
+  failed log own code reply h s u o x q w = leaf log (own ++ close_when_open log code) HandshakeOver reply (own-closing log own code h s u o) (over-by (OverCause side turn) log (own ++ close_when_open log code) u x) q w
 
   failed-so : (log : Log) (own : List Action) (reply : Reply) → is_under_way (handshake_state (calls_of log)) ≡ true → OwnCauses side turn log own → OverCause side turn log → is_quiet reply ≡ true → ReplyCause side turn log reply → Caused side turn log (fail_handshake side log own reply)
-  failed-so log own reply u o x q w = leaf log own HandshakeOver reply o (over-by log own u x) q w
+  failed-so log own reply u o x q w = leaf log own HandshakeOver reply o (over-by (OverCause side turn) log own u x) q w
+
+  -- an acceptance fails
+  unaccepted : (log : Log) (own : List Action) (e : ConnectionError) → is_under_way (handshake_state (calls_of log)) ≡ true → OwnCauses side turn log own → AcceptanceCause turn log → ReplyCause side turn log (replies.Failed e) → Caused side turn log (fail_acceptance side log own e)
+  unaccepted log own e u o x w = leaf log own AcceptanceFailed (replies.Failed e) o (over-by (AcceptanceCause turn) log own u x) refl w
 
   -- a rejection is over
-  rejected : (log : Log) (code : ℕ) → HandshakeCode side turn log code → is_under_way (handshake_state (calls_of log)) ≡ true → RejectedCause side turn log → Caused side turn log (fail_handshake side log (close_when_open log code) replies.Rejected)
-  rejected log code h u v = failed log [] code replies.Rejected h refl u tt (RejectionEnded v) refl v
+  rejected-so : (log : Log) (id : ℕ) (own : List Action) → id ≡ requested_stream (calls_of log) → is_under_way (handshake_state (calls_of log)) ≡ true → OwnCauses side turn log own → RejectedCause side turn log → Caused side turn log (end_rejection side log id own)
+  rejected-so log id own i u o v = leaf log own (RequestRejected id) replies.Rejected o (over-by (RejectionCause side turn id) log own u (record { same = i; why = v })) refl v
 
-  rejected-so : (log : Log) → is_under_way (handshake_state (calls_of log)) ≡ true → RejectedCause side turn log → Caused side turn log (fail_handshake side log [] replies.Rejected)
-  rejected-so log u v = failed-so log [] replies.Rejected u tt (RejectionEnded v) refl v
+  rejected : (log : Log) (id code : ℕ) → id ≡ requested_stream (calls_of log) → HandshakeCode side turn log code → is_under_way (handshake_state (calls_of log)) ≡ true → RejectedCause side turn log → Caused side turn log (end_rejection side log id (close_when_open log code))
+  rejected log id code i h u v = rejected-so log id (close_when_open log code) i u (own-closing log [] code h refl u tt) v
 
   -- a connect fails
   connect-failed : (log : Log) (own : List Action) (code : ℕ) (e : ConnectingError) → HandshakeCode side turn (with_actions own log) code → is_open (with_actions own log) ≡ is_open log → is_under_way (handshake_state (calls_of log)) ≡ true → OwnCauses side turn log own → ConnectFailedCause side turn log e
@@ -206,8 +210,9 @@ module _ (side : Side) (turn : Turn) (by_call : is_call turn ≡ true) where
 
   module _ (a : is_accept turn ≡ true) (s offset : ℕ) (m : names (name_in turn) s ≡ true) (reply : ℕ → Reply) (t : (k : ℕ) → given_stream (reply k) ≡ Some k) (q : (log : Log) (k : ℕ) → FoundStream side turn log k true → ReplyCause side turn log (reply k)) where
     caused-give : (again : Log → Effect) (log : Log) (c : Classified) (b : Bool) → (b ≡ false → Caused side turn (pass_stream side log c.id) (again (pass_stream side log c.id))) → established_session (calls_of log) ≡ Some (s, offset)
-        → next_due side log (accepted_kind side turn) s ≡ Some c → is_for_session s c.verdict ≡ b → (b ≡ false → is_open log ≡ true) → Caused side turn log (give_or_pass b side reply again log c.id)
-    caused-give again log c true f d e n o = call-decided log [] (StreamAccepted c.id) (reply c.id) tt (ByAccept (found-it s offset log c true a m d e n)) (t c.id) (q log c.id (found-it s offset log c true a m d e n))
+        → next_due side log (accepted_kind side turn) s ≡ Some c → is_for_session s c.verdict ≡ b → (b ≡ false → is_open log ≡ true) → Caused side turn log (give_or_pass b side reply again s log c.id)
+    unfolding found-it
+    caused-give again log c true f d e n o = call-decided log [] (StreamAccepted c.id s) (reply c.id) tt (ByAccept (found-it s offset log c true a m d e n) refl) (t c.id) (q log c.id (found-it s offset log c true a m d e n))
     caused-give again log c false f d e n o =
         again-after log (stopping c.id) (StreamPassed c.id) (or_left (is_accept turn) (is_receive turn) a) refl ((o refl, OfPass (found-it s offset log c false a m d e n) refl), tt)
         (found-it s offset (Sent (actions.StopOut c.id (code_of h3.BufferedStreamRejected)) ∷ log) c false a m d (same-next s log c.id (code_of h3.BufferedStreamRejected) (accepted_kind side turn) ∙ e) n)
@@ -240,7 +245,7 @@ module _ (side : Side) (turn : Turn) (by_call : is_call turn ≡ true) where
 
     caused-take : (again : Log → Effect) (log : Log) (d : ℕ × List ℕ) (b : Bool) → Caused side turn (log_call side log [] DatagramPassed) (again (log_call side log [] DatagramPassed))
         → established_session (calls_of log) ≡ Some (s, offset) → next_datagram side log ≡ Some d → (4 * d.0 == s) ≡ b → Caused side turn log (receive_or_pass b side again log d.1)
-    caused-take again log d true f i e n = call-decided log [] DatagramReceived (replies.Datagram d.1) tt (found-one log d true i e n) (d.1, refl) (found-one log d true i e n, refl)
+    caused-take again log d true f i e n = call-decided log [] (DatagramReceived (released_datagrams (calls_of log))) (replies.Datagram d.1) tt (found-one log d true i e n, refl) (d.1, refl) (found-one log d true i e n, refl)
     caused-take again log d false f i e n = again-after log [] DatagramPassed (or_right (is_accept turn) (is_receive turn) a) refl tt (found-one log d false i e n) f
 
     caused-next : (again : Log → Effect) (log : Log) (o : Option (ℕ × List ℕ)) → ((d : ℕ × List ℕ) → next_datagram side log ≡ Some d → Caused side turn (log_call side log [] DatagramPassed) (again (log_call side log [] DatagramPassed)))
@@ -303,9 +308,9 @@ module _ (side : Side) (turn : Turn) (by_call : is_call turn ≡ true) where
   caused-accepted : (log : Log) (id : ℕ) (head : List ℕ) (waiting : CallRecord) → id ≡ requested_stream (calls_of log) → Responds log true head waiting → Caused side turn log (accept_response side log id (head_left log id head) waiting)
   caused-accepted log id head waiting i r =
       let left = head_left log id head in
-      either (not (is_open log)) _ _ (λ o. failed-so log [] _ r.under_way tt (AcceptanceEnded head r.from (not-true _ o)) refl (AtResponse head r.from (not-true _ o) refl)) (λ o.
+      either (not (is_open log)) _ _ (λ o. unaccepted log [] _ r.under_way tt (AcceptanceEnded head r.from (not-true _ o)) (AtResponse head r.from (not-true _ o) refl)) (λ o.
       either (is_refused log id left) _ _
-      (λ x. let y = subst (λ (n : ℕ). is_refused log n (head_left log n head) ≡ true) i x in failed log [] _ _ (StoppedEarly true head r.from y refl) refl r.under_way tt (AcceptanceStopped head r.from y) refl (ByStop head r.from y refl)) (λ x.
+      (λ x. let y = subst (λ (n : ℕ). is_refused log n (head_left log n head) ≡ true) i x in unaccepted log _ _ r.under_way (own-closing log [] _ (StoppedEarly true head r.from y refl) refl r.under_way tt) (AcceptanceStopped head r.from y) (ByStop head r.from y refl)) (λ x.
       either (is_covered log id left) _ _
       (λ c. let by : EstablishedBy side turn (with_actions (send_of id left) log) id (request_end (verdict_of id (stream_table side log).classified)) =
       record { before = log; own = send_of id left; is = refl; was_open = not-false _ o; under_way = r.under_way; how = ByAnswer head r.from i c refl refl } in
@@ -336,7 +341,7 @@ module _ (side : Side) (turn : Turn) (by_call : is_call turn ≡ true) where
       (o, Finishing head r.from (subst (λ (n : ℕ). is_covered log n (head_left log n head) ≡ true) i c) (subst (λ (n : ℕ). is_finished (actions_of log) n ≡ false) i (not-true _ f)))) (λ f.
       either (is_some (stop_of (events_of log) id) || is_acknowledged (events_of log) id) _ _
       (λ x. let y = subst (λ (n : ℕ). is_finished (actions_of log) n ≡ true) i (not-false _ f) in let z = subst (λ (n : ℕ). (is_some (stop_of (events_of log) n) || is_acknowledged (events_of log) n) ≡ true) i x in
-      rejected log 0 (Plain (Rejects head r.from y z) refl) r.under_way (RejectionOver head r.from y z))
+      rejected log id 0 i (Plain (Rejects head r.from y z) refl) r.under_way (RejectionOver head r.from y z))
       (λ x. let q = or_parts (is_some (stop_of (events_of log) id)) _ x in
       leaf log [] waiting replies.Pending tt (r.waits []) r.quiet (
         o,
@@ -347,8 +352,8 @@ module _ (side : Side) (turn : Turn) (by_call : is_call turn ≡ true) where
   caused-rejecting : (log : Log) (id : ℕ) (head : List ℕ) (waiting : CallRecord) → id ≡ requested_stream (calls_of log) → Responds log false head waiting → Caused side turn log (reject_response side log id (head_left log id head) waiting)
   caused-rejecting log id head waiting i r =
       let left = head_left log id head in
-      either (not (is_open log)) _ _ (λ o. rejected-so log r.under_way (ConnectionEnded head r.from (not-true _ o))) (λ o.
-      either (is_refused log id left) _ _ (λ x. let y = subst (λ (n : ℕ). is_refused log n (head_left log n head) ≡ true) i x in rejected log _ (StoppedEarly false head r.from y refl) r.under_way (RejectionRefused head r.from y)) (λ x.
+      either (not (is_open log)) _ _ (λ o. rejected-so log id [] i r.under_way tt (ConnectionEnded head r.from (not-true _ o))) (λ o.
+      either (is_refused log id left) _ _ (λ x. let y = subst (λ (n : ℕ). is_refused log n (head_left log n head) ≡ true) i x in rejected log id _ i (StoppedEarly false head r.from y refl) r.under_way (RejectionRefused head r.from y)) (λ x.
       either (is_covered log id left) _ _ (λ c. caused-rejected log id head waiting i r (not-false _ o) x c) (λ c. partly log id false head waiting i r (not-false _ o) x c)))
 
   caused-respond : (log : Log) (accepts : Bool) (head : List ℕ) (waiting : CallRecord) → Responds log accepts head waiting → Caused side turn log (respond side log accepts head waiting)

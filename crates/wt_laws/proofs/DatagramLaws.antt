@@ -95,7 +95,7 @@ received-grows xs ys (r ∷ cs) l =
     same-with (receives r) _ _ _ _ (λ e. ap payload_at (get-append xs ys (released_datagrams cs) (less r cs e l))) (received-grows xs ys cs (let m = released-more r cs in omega arith))
   where
     less : (r : CallRecord) (cs : List CallRecord) → receives r ≡ true → released_datagrams (r ∷ cs) ≤ length xs → released_datagrams cs < length xs
-    less DatagramReceived cs e l = omega arith
+    less (DatagramReceived index) cs e l = omega arith
     less _ cs e l = absurd (cc)
 
 -- ---- after every log
@@ -201,7 +201,7 @@ so-far-established side turn id offset log c h p =
     }
 
 so-far-record : (side : Side) (turn : Turn) (r : CallRecord) (log : Log) → RecordCause side turn log r → DatagramsSoFar side log → DatagramsSoFar side (Called r ∷ log)
-so-far-record side turn DatagramReceived log c p = so-far-released side turn DatagramReceived log true refl refl refl c (handshakes-record side turn log DatagramReceived c p.handshakes) p
+so-far-record side turn (DatagramReceived index) log c p = so-far-released side turn (DatagramReceived index) log true refl refl refl c.0 (handshakes-record side turn log (DatagramReceived index) c p.handshakes) p
 so-far-record side turn DatagramPassed log c p = so-far-released side turn DatagramPassed log false refl refl refl c (handshakes-record side turn log DatagramPassed c p.handshakes) p
 so-far-record side turn (SessionEstablished id offset) log c p = so-far-established side turn id offset log c (handshakes-record side turn log (SessionEstablished id offset) c p.handshakes) p
 so-far-record side turn _ log c p = so-far-other side _ log refl refl refl (handshakes-record side turn log _ c p.handshakes) p
@@ -284,7 +284,7 @@ record DatagramsHold (side : Side) (before : List Exchange) (log : Log) : Type 0
 by-record : (side : Side) (turn : Turn) (xs got : List (List ℕ)) (decided : Log) (reply : Reply) (r : CallRecord) (b : Bool) → receives r ≡ b → got ≡ received xs (calls_of decided) → ReplyCause side turn decided reply → TellsOf turn r reply
     → (event_of turn ≡ None → xs ≡ datagrams_of (events_of decided)) → more_received (datagram_reported reply) got ≡ received xs (r ∷ calls_of decided)
 by-record side turn xs got decided reply r false i g w t k = other-reported turn r reply got i t ∙ g ∙ ap (λ b. with_received b (payload_at (slice_get xs (released_datagrams (calls_of decided)))) (received xs (calls_of decided))) (sym i)
-by-record side turn xs got decided reply DatagramReceived true i g w t k =
+by-record side turn xs got decided reply (DatagramReceived index) true i g w t k =
     ap (λ o. more_received o got) t.1 ∙ ap (λ ys. ys ++ t.0 ∷ []) g ∙ ap (λ p. received xs (calls_of decided) ++ p ∷ []) (sym (found-payload side turn decided xs reply t.0 w t.1 k))
 by-record side turn xs got decided reply _ true i g w t k = absurd (cc)
 

@@ -72,7 +72,7 @@ record OneMore (before after : List CallRecord) : Type 0 where
 
 one-received : (turn : Turn) (r : CallRecord) (before : List CallRecord) (payload : List ℕ) → TellsOf turn r (replies.Datagram payload) → OneMore before (r ∷ before)
 one-received turn (BytesRead k n) before payload t = absurd (let z = t.1 in cc)
-one-received turn DatagramReceived before payload t = record { released_then = omega arith; received = refl }
+one-received turn (DatagramReceived index) before payload t = record { released_then = omega arith; received = refl }
 one-received turn _ before payload t = absurd (cc)
 
 one-more : (turn : Turn) (before after : List CallRecord) (reply : Reply) (payload : List ℕ) → reply ≡ replies.Datagram payload → Logged turn before after reply → OneMore before after
@@ -125,7 +125,7 @@ datagram-reported side log turn r l payload e =
 -- ---- what stays
 
 indices-more : (r : CallRecord) (cs : List CallRecord) → (more : List ℕ) × (received_indices (r ∷ cs) ≡ received_indices cs ++ more)
-indices-more DatagramReceived cs = (released_datagrams cs ∷ [], refl)
+indices-more (DatagramReceived index) cs = (released_datagrams cs ∷ [], refl)
 indices-more _ cs = ([], sym (append-nil (received_indices cs)))
 
 pub datagrams-same : (side : Side) (log : Log) → DatagramsStay side log log

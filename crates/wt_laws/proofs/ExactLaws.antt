@@ -93,7 +93,7 @@ module _ (side : Side) (log : Log) where
     opens-next : (kind : ℕ) → is_open log ≡ true → may_open side log kind ≡ true → Gives (replies.Opening (next_id side log kind)) (open_stream side log kind s)
     opens-next kind o m = no (not (is_open log)) _ _ (ap not o) (yes (may_open side log kind) _ _ m refl)
 
-    polled : (k : ℕ) (r : Reply) → is_opening log k ≡ true → Gives r (continue_opening side log k (head_left log k (stream_header k s))) → Gives r (poll_opening side log k s)
+    polled : (k : ℕ) (r : Reply) → is_opening log k ≡ true → Gives r (continue_opening side log k s (head_left log k (stream_header k s))) → Gives r (poll_opening side log k s)
     polled k r i p = yes (is_opening log k) _ _ i p
 
     reported : (payload : List ℕ) (o : Option DatagramFact) (r : Reply) → is_open log ≡ true → datagram_fact (events_of log) ≡ o → Gives r (datagram_allowed side log (datagram_bytes (s / 4) payload) o) → Gives r (send_datagram side log payload s)

@@ -156,8 +156,8 @@ new-opening side turn log k (OpeningStarted id session) c e = subst (λ (n : ℕ
 new-opening side turn log k _ c e = absurd (cc)
 
 new-accepted : (side : Side) (turn : Turn) (log : Log) (k : ℕ) (r : CallRecord) → Facts side log → RecordCause side turn log r → accepts_stream k r ≡ true → (is_local side k ≡ true) ⊎ IsSessions side log k
-new-accepted side turn log k (StreamAccepted id) f (ByAccept x) e = let s = found-sessions side turn log id x in inr (subst (IsSessions side log) (eqb-true id k e) (record { session = x.session; offset = s.0; verdict = s.1 }))
-new-accepted side turn log k (StreamAccepted id) f (ByOpening x) e = inl (subst (λ (n : ℕ). is_local side n ≡ true) (eqb-true id k e) (f.openings id (and_parts _ _ x.opening).0))
+new-accepted side turn log k (StreamAccepted id session) f (ByAccept x q) e = let s = found-sessions side turn log id x in inr (subst (IsSessions side log) (eqb-true id k e) (record { session = x.session; offset = s.0; verdict = s.1 }))
+new-accepted side turn log k (StreamAccepted id session) f (ByOpening x q) e = inl (subst (λ (n : ℕ). is_local side n ≡ true) (eqb-true id k e) (f.openings id (and_parts _ _ x.opening).0))
 new-accepted side turn log k _ f c e = absurd (cc)
 
 facts-record : (side : Side) (turn : Turn) (log : Log) (r : CallRecord) → RecordCause side turn log r → Facts side log → Facts side (Called r ∷ log)

@@ -24,20 +24,20 @@ use Rattle.wt_turn.specs.declared.reply.Reply.TheVariants as replies
 -- ---- a reply that gives a stream leaves its record
 
 uni-reported : (turn : Turn) (j : ℕ) (r : CallRecord) → TellsOf turn r (replies.Uni j) → releases j r ≡ true
-uni-reported turn j (StreamAccepted i) q = let e : j ≡ i = cc in by e
+uni-reported turn j (StreamAccepted i s) q = let e : j ≡ i = cc in by e
   where
     by : j ≡ i → (i == j) ≡ true
     by e = subst (λ z. (z == j) ≡ true) e (eq-eqb j j refl)
 uni-reported turn j (BytesRead i n) (piece, e, count, rest) = absurd (cc)
-uni-reported turn j DatagramReceived (piece, e) = absurd (cc)
+uni-reported turn j (DatagramReceived index) (piece, e) = absurd (cc)
 uni-reported turn j (SessionEstablished i n) q = absurd (cc)
 uni-reported turn j (RequestDelivered i) q = absurd (cc)
 uni-reported turn j _ q = absurd (cc)
 
 bi-reported : (turn : Turn) (j : ℕ) (r : CallRecord) → TellsOf turn r (replies.Bi j) → releases j r ≡ true
-bi-reported turn j (StreamAccepted i) q = let e : j ≡ i = cc in subst (λ z. (z == j) ≡ true) e (eq-eqb j j refl)
+bi-reported turn j (StreamAccepted i s) q = let e : j ≡ i = cc in subst (λ z. (z == j) ≡ true) e (eq-eqb j j refl)
 bi-reported turn j (BytesRead i n) (piece, e, count, rest) = absurd (cc)
-bi-reported turn j DatagramReceived (piece, e) = absurd (cc)
+bi-reported turn j (DatagramReceived index) (piece, e) = absurd (cc)
 bi-reported turn j (SessionEstablished i n) q = absurd (cc)
 bi-reported turn j (RequestDelivered i) q = absurd (cc)
 bi-reported turn j _ q = absurd (cc)

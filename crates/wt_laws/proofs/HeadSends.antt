@@ -10,7 +10,7 @@ use Rattle.wt_seam_spec.specs.Outgoing.{bytes_within_credit, credit_left, may_op
 use Rattle.wt_seam_spec.specs.Reports.{credit, end_of, is_acknowledged, is_connected, stop_of}
 use Rattle.wt_seam_spec.specs.Sent.{is_finished, sent_on}
 use Rattle.wt_seam_spec.specs.Streams.{contents, local_bi, local_count, local_uni}
-use Rattle.wt_turn.specs.Log.{CallRecord, Called, HandshakeOver, Log, Polled, SessionEstablished, StreamAccepted, actions_of, all_events_of, calls_of, events_of, is_open, with_actions}
+use Rattle.wt_turn.specs.Log.{CallRecord, Called, HandshakeOver, Log, Polled, RequestRejected, SessionEstablished, StreamAccepted, actions_of, all_events_of, calls_of, events_of, is_open, with_actions}
 use Rattle.wt_turn.specs.declared.action.Action.{Action}
 use Rattle.wt_turn.specs.declared.call.Call.{Call}
 use Rattle.wt_wire.specs.Codes.{code_of}
@@ -95,7 +95,7 @@ module _ (side : Side) (log : Log) (k : ℕ) (c : (local_uni side == k) ≡ fals
       by false e z = yes (not (is_finished (actions_of log) id)) _ _ (ap not e) (leaf (send_of id left ++ actions.Finish id ∷ []) waiting (with-finish (send_of id left) (p z)))
       by true e z =
           no (not (is_finished (actions_of log) id)) _ _ (ap not e)
-          (whether (is_some (stop_of (events_of log) id) || is_acknowledged (events_of log) id) _ _ (λ x. leaf (close_when_open log 0) HandshakeOver (with-close [] 0 (sym (n e)))) (λ x. leaf [] waiting (sym (n e))))
+          (whether (is_some (stop_of (events_of log) id) || is_acknowledged (events_of log) id) _ _ (λ x. leaf (close_when_open log 0) (RequestRejected id) (with-close [] 0 (sym (n e)))) (λ x. leaf [] waiting (sym (n e))))
 
 -- ---- as far as credit goes
 
@@ -126,7 +126,7 @@ module _ (side : Side) (log : Log) (r : IsReachable side log) where
       (no side log k c (bytes_within_credit log k left) (not (is_open log)) _ _ (ap not o)
       (no side log k c (bytes_within_credit log k left) (is_refused log k left) _ _ f
       (whether side log k c (bytes_within_credit log k left) (is_covered log k left) _ _
-      (λ z. leaf side log k c (bytes_within_credit log k left) (send_of k left) (StreamAccepted k) (send-on k left ∙ sym (covered-whole log k left z)))
+      (λ z. leaf side log k c (bytes_within_credit log k left) (send_of k left) (StreamAccepted k s) (send-on k left ∙ sym (covered-whole log k left z)))
       (λ z. leaf side log k c (bytes_within_credit log k left) (send_of k (bytes_within_credit log k left)) Polled (send-on k (bytes_within_credit log k left)))))))
       ∙ as-far log k b.0 (stream_header k s) b.1 (within-all side log r o k)
 

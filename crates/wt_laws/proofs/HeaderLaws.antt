@@ -263,7 +263,7 @@ module _ (side : Side) (turn : Turn) (log : Log) (own : List Action) where
       by true e o = (0, subst (λ (j : ℕ). sent_on (actions_of then_) j ≡ []) (eqb-true id k e) (none-sent side log own id i p b c))
       by false e o = h.begun k s t o d
   new-begun (SessionEstablished id i) p b h c k s t o d = absurd (no-new-session side then_ c.own c.before c.is c.under_way h.given.handshakes (h.in_session k (and_parts (list_any (starts_opening k) (calls_of then_)) _ o).0))
-  new-begun (StreamAccepted id) p b h c k s t o d = h.begun k s t (still (list_any (starts_opening k) (calls_of then_)) (id == k) (list_any (ends_opening k) (calls_of then_)) o) d
+  new-begun (StreamAccepted id i) p b h c k s t o d = h.begun k s t (still (list_any (starts_opening k) (calls_of then_)) (id == k) (list_any (ends_opening k) (calls_of then_)) o) d
   new-begun (OpeningFailed id) p b h c k s t o d = h.begun k s t (still (list_any (starts_opening k) (calls_of then_)) (id == k) (list_any (ends_opening k) (calls_of then_)) o) d
   new-begun _ p b h c k s t o d = h.begun k s t o d
 
@@ -275,20 +275,20 @@ module _ (side : Side) (turn : Turn) (log : Log) (own : List Action) where
       by true e o = (0, subst (λ (j : ℕ). sent_on (actions_of then_) j ≡ []) (eqb-true id k e) (none-sent side log own id i p b c))
       by false e o = h.ungiven k s t o g d
   new-ungiven (SessionEstablished id i) p b h c k s t o g d = absurd (no-new-session side then_ c.own c.before c.is c.under_way h.given.handshakes (h.in_session k o))
-  new-ungiven (StreamAccepted id) p b h c k s t o g d = h.ungiven k s t o (or_parts (id == k) (is_accepted then_ k) g).1 d
+  new-ungiven (StreamAccepted id i) p b h c k s t o g d = h.ungiven k s t o (or_parts (id == k) (is_accepted then_ k) g).1 d
   new-ungiven _ p b h c k s t o g d = h.ungiven k s t o g d
 
   pub all-of-it : (n : ℕ) (xs sent : List ℕ) → sent ≡ take n xs → drop (length sent) xs ≡ [] → sent ≡ xs
   all-of-it n xs sent e d = e ∙ whole-covered n xs (ap is_empty (ap (λ ys. drop (length ys) xs) (sym e) ∙ d))
 
   new-whole : (r : CallRecord) → Heads side then_ → RecordCause side turn then_ r → (k s t : ℕ) → is_local side k ≡ true → is_accepted (Called r ∷ then_) k ≡ true → established_session (r ∷ calls_of then_) ≡ Some (s, t) → (rest : List ℕ) × (sent_on (actions_of then_) k ≡ stream_header k s ++ rest)
-  new-whole (StreamAccepted id) h c k s t l a d = by (id == k) refl a c
+  new-whole (StreamAccepted id session) h c k s t l a d = by (id == k) refl a c
     where
-      by : (x : Bool) → (id == k) ≡ x → (x || list_any (accepts_stream k) (calls_of then_)) ≡ true → AcceptCause side turn then_ id → (rest : List ℕ) × (sent_on (actions_of then_) k ≡ stream_header k s ++ rest)
+      by : (x : Bool) → (id == k) ≡ x → (x || list_any (accepts_stream k) (calls_of then_)) ≡ true → AcceptCause side turn then_ id session → (rest : List ℕ) × (sent_on (actions_of then_) k ≡ stream_header k s ++ rest)
       by false e a c = h.whole k s t l a d
-      by true e a (ByAccept f) =
+      by true e a (ByAccept f q) =
           absurd (let v = found-sessions side turn then_ id f in let n = local-unclassified side then_ k l in let x = ap (λ j. verdict_of j (stream_table side then_).classified) (eqb-true id k e) in let y = v.1 in cc)
-      by true e a (ByOpening f) =
+      by true e a (ByOpening f q) =
           let i = eqb-true id k e in
           let same : f.session ≡ s = ap session_id (sym f.is_established ∙ d) in
           let w = subst (λ (m : ℕ). head_left then_ k (stream_header k m) ≡ []) same (subst (λ (j : ℕ). head_left then_ j (stream_header j f.session) ≡ []) i f.whole) in
@@ -302,9 +302,9 @@ module _ (side : Side) (turn : Turn) (log : Log) (own : List Action) where
   new-count _ c k e = absurd (cc)
 
   new-local : (r : CallRecord) → RecordCause side turn then_ r → (k : ℕ) → is_local side k ≡ true → accepts_stream k r ≡ true → list_any (starts_opening k) (calls_of then_) ≡ true
-  new-local (StreamAccepted id) (ByAccept f) k l e =
+  new-local (StreamAccepted id session) (ByAccept f q) k l e =
       absurd (let v = found-sessions side turn then_ id f in let n = local-unclassified side then_ k l in let x = ap (λ j. verdict_of j (stream_table side then_).classified) (eqb-true id k e) in let y = v.1 in cc)
-  new-local (StreamAccepted id) (ByOpening f) k l e = subst (λ (j : ℕ). list_any (starts_opening j) (calls_of then_) ≡ true) (eqb-true id k e) (and_parts (list_any (starts_opening id) (calls_of then_)) _ f.opening).0
+  new-local (StreamAccepted id session) (ByOpening f q) k l e = subst (λ (j : ℕ). list_any (starts_opening j) (calls_of then_) ≡ true) (eqb-true id k e) (and_parts (list_any (starts_opening id) (calls_of then_)) _ f.opening).0
   new-local _ c k l e = absurd (cc)
 
   new-session : (r : CallRecord) → RecordCause side turn then_ r → (k : ℕ) → starts_opening k r ≡ true → is_some (established_session (calls_of then_)) ≡ true

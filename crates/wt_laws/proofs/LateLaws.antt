@@ -11,7 +11,7 @@ use Rattle.wt_seam_spec.specs.Outgoing.{if_open}
 use Rattle.wt_seam_spec.specs.Reports.{datagram_fact, datagrams_of, end_of, is_acknowledged, is_connected, loss_of, stop_of}
 use Rattle.wt_seam_spec.specs.Sent.{is_finished, is_reset, priority_of, resets, sent_on}
 use Rattle.wt_seam_spec.specs.Streams.{contents, local_bi, local_count, local_uni, peer_bi, peer_count, peer_uni}
-use Rattle.wt_turn.specs.Log.{BytesRead, CallRecord, Called, DatagramPassed, DatagramReceived, Event, HandshakeOver, Log, OpeningFailed, Polled, PrioritySet, ReportedLate, RequestDelivered, Reset, ResetUnsent, StreamAccepted, StreamGivenUp, actions_of, calls_of, events_of, is_open, with_actions}
+use Rattle.wt_turn.specs.Log.{AcceptanceFailed, BytesRead, CallRecord, Called, DatagramPassed, DatagramReceived, Event, HandshakeOver, Log, OpeningFailed, Polled, PrioritySet, ReportedLate, RequestDelivered, RequestRejected, Reset, ResetUnsent, StreamAccepted, StreamGivenUp, actions_of, calls_of, events_of, is_open, with_actions}
 use Rattle.wt_turn.specs.declared.action.Action.{Action}
 use Rattle.wt_turn.specs.declared.answer.Answer.{Answer}
 use Rattle.wt_turn.specs.declared.call.Call.{Call}
@@ -34,7 +34,7 @@ use Rattle.wt_spec.specs.Driver.{apply_if, call_view, delivers, established_sess
 use Rattle.wt_spec.specs.Scan.{scan_order}
 use Rattle.wt_spec.specs.Effect.{Effect, close_when_open, driver_error, error_of_ending, head_left, is_empty, log_call, loss_or_local, pending_or_failed, poll_only, reply_with, transport_error}
 use Rattle.wt_spec.specs.Halves.{all_written_reply, reply_at_end, body_start, exact_at_end, finish, finish_once, gives_up, has_receiving_half, has_sending_half, is_done, on_half, priority, read, read_exact, read_reply, reset, set_priority, stop_receiving, stopped, stopped_reply, total_read, unread_body, write, write_all, write_by, write_error, written_reply}
-use Rattle.wt_spec.specs.Handshake.{Connecting, HandshakeState, Responding, await_or_fail, await_response, continue_by, continue_connect, continue_handshake, deliver, fail_connect, handshake_state, has_success, incoming, loss_to_connect, open_request, queued_requests, read_response, respond, send_request, unless_reserved}
+use Rattle.wt_spec.specs.Handshake.{Connecting, HandshakeState, Responding, await_or_fail, await_response, continue_by, continue_connect, continue_handshake, deliver, fail_connect, handshake_state, has_success, incoming, loss_to_connect, open_request, queued_requests, read_response, requested_stream, respond, send_request, unless_reserved}
 use Rattle.wt_spec.specs.StreamTable.{ByFault, BySession, Classified, Ending, StreamTable, awaits_accept, awaits_delivery, only, verdict_of}
 use Rattle.wt_turn.specs.declared.action.Action.TheVariants as actions
 use Rattle.wt_turn.specs.declared.call.Call.TheVariants as calls
@@ -198,8 +198,8 @@ module _ (side : Side) (a b : Log) (p : EndedAlike side a b) where
   alike-due reply again too kind s None e = polled _ _ same-wait
   alike-due reply again too kind s (Some c) e = by (is_for_session s c.verdict) refl
     where
-      by : (m : Bool) → is_for_session s c.verdict ≡ m → Alike side a b (give_or_pass m side reply again a c.id) (give_or_pass m side reply too b c.id)
-      by true f = polls-alike (StreamAccepted c.id) (StreamAccepted c.id) (reply c.id) (reply c.id) refl refl
+      by : (m : Bool) → is_for_session s c.verdict ≡ m → Alike side a b (give_or_pass m side reply again s a c.id) (give_or_pass m side reply too s b c.id)
+      by true f = polls-alike (StreamAccepted c.id s) (StreamAccepted c.id s) (reply c.id) (reply c.id) refl refl
       by false f = absurd (let d = next-is-due side a kind s c e in let t = d.turn_has_come in let o = p.closed in due (is_open a) (is_for_session s c.verdict) t o f)
         where
           due : (x y : Bool) → (x || y) ≡ true → x ≡ false → y ≡ false → ⊥
@@ -312,8 +312,8 @@ module _ (side : Side) (a b : Log) (p : EndedAlike side a b) where
   alike-incoming = subst (λ cs. Alike side a b (deliver side a (queued_requests side a)) (deliver side b cs)) same-queued (alike-deliver (queued_requests side a))
 
   alike-respond : (accepts : Bool) (head : List ℕ) (waiting : CallRecord) → Alike side a b (respond side a accepts head waiting) (respond side b accepts head waiting)
-  alike-respond true head waiting = not-open side a b p (is_open a) (is_open b) _ _ _ _ p.closed p.closed_too (leaf side a b p [] [] HandshakeOver HandshakeOver _ _ refl refl refl (ap (λ e. replies.Failed e) same-transport))
-  alike-respond false head waiting = not-open side a b p (is_open a) (is_open b) _ _ _ _ p.closed p.closed_too (leaf side a b p [] [] HandshakeOver HandshakeOver _ _ refl refl refl refl)
+  alike-respond true head waiting = not-open side a b p (is_open a) (is_open b) _ _ _ _ p.closed p.closed_too (leaf side a b p [] [] AcceptanceFailed AcceptanceFailed _ _ refl refl refl (ap (λ e. replies.Failed e) same-transport))
+  alike-respond false head waiting = not-open side a b p (is_open a) (is_open b) _ _ _ _ p.closed p.closed_too (leaf side a b p [] [] (RequestRejected (requested_stream (calls_of a))) (RequestRejected (requested_stream (calls_of b))) _ _ refl refl (ap (λ (cs : List CallRecord). RequestRejected (requested_stream cs)) p.calls) refl)
 
   failing : (e f : ConnectingError) → e ≡ f → Alike side a b (fail_connect side a [] e) (fail_connect side b [] f)
   failing e f q = leaf side a b p [] [] HandshakeOver HandshakeOver _ _ refl refl refl (ap (λ x. replies.ConnectFailed x) q)
@@ -375,7 +375,7 @@ alike-next side again too s a b p f None = polled side a b p _ _ (same-wait side
 alike-next side again too s a b p f (Some d) = by (4 * d.0 == s)
   where
     by : (m : Bool) → Alike side a b (receive_or_pass m side again a d.1) (receive_or_pass m side too b d.1)
-    by true = polls-alike side a b p DatagramReceived DatagramReceived _ _ refl refl
+    by true = polls-alike side a b p (DatagramReceived (released_datagrams (calls_of a))) (DatagramReceived (released_datagrams (calls_of b))) _ _ (ap (λ (cs : List CallRecord). DatagramReceived (released_datagrams cs)) p.calls) refl
     by false =
         let x = leaf side a b p [] [] DatagramPassed DatagramPassed replies.Done replies.Done refl refl refl refl in
         let y = f x.after in

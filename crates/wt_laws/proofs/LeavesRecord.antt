@@ -18,7 +18,7 @@ use Rattle.wt_seam_spec.specs.Outgoing.{bytes_within_credit, if_open, may_open, 
 use Rattle.wt_seam_spec.specs.Reports.{end_of, is_acknowledged, is_connected, stop_of}
 use Rattle.wt_seam_spec.specs.Sent.{is_finished, is_reset, priority_of, priority_set, resets}
 use Rattle.wt_seam_spec.specs.Streams.{contents, local_bi, local_count, local_uni}
-use Rattle.wt_turn.specs.Log.{CallRecord, Called, ConnectStarted, HandshakeOver, Log, OpeningFailed, OpeningStarted, Polled, PrioritySet, ResetUnsent, ResponseStarted, Sent, StreamAccepted, StreamGivenUp, actions_of, calls_of, events_of, is_open, newest}
+use Rattle.wt_turn.specs.Log.{AcceptanceFailed, CallRecord, Called, ConnectStarted, HandshakeOver, Log, OpeningFailed, OpeningStarted, Polled, PrioritySet, RequestRejected, ResetUnsent, ResponseStarted, Sent, StreamAccepted, StreamGivenUp, actions_of, calls_of, events_of, is_open, newest}
 use Rattle.wt_turn.specs.declared.action.Action.{Action}
 use Rattle.wt_turn.specs.declared.call.Call.{Call}
 use Rattle.wt_turn.specs.declared.reply.Reply.{Reply}
@@ -41,7 +41,7 @@ use Rattle.wt_spec.specs.Connection.{continue_opening, ends_opening, is_opening,
 use Rattle.wt_spec.specs.Driver.{established_session, settings_came}
 use Rattle.wt_spec.specs.Effect.{Effect, close_when_open, driver_error, head_left, is_covered, is_empty, log_call, transport_error}
 use Rattle.wt_spec.specs.Halves.{gives_up, has_receiving_half, has_sending_half, is_accepted, is_done, on_half, reset, set_priority, stop_receiving}
-use Rattle.wt_spec.specs.Handshake.{Connecting, HandshakeState, Over, Responding, accept_response, await_or_fail, continue_by, continue_connect, deliver, fail_handshake, finish_rejection, handshake_state, has_success, is_refused, open_request, queued_requests, read_response, reject_response, requested_stream, respond, response_head, send_request, unless_reserved}
+use Rattle.wt_spec.specs.Handshake.{Connecting, HandshakeState, Over, Responding, accept_response, await_or_fail, continue_by, continue_connect, deliver, end_rejection, fail_acceptance, fail_handshake, finish_rejection, handshake_state, has_success, is_refused, open_request, queued_requests, read_response, reject_response, requested_stream, respond, response_head, send_request, unless_reserved}
 use Rattle.wt_spec.specs.StreamTable.{Classified}
 use Rattle.wt_turn.specs.declared.action.Action.TheVariants as actions
 use Rattle.wt_turn.specs.declared.call.Call.TheVariants as calls
@@ -78,16 +78,16 @@ module _ (side : Side) (log : Log) where
     failing-ready own r true x = absurd (cc)
     failing-ready own r false x = absurd (cc)
 
-    failing-header : (left : List ℕ) → Failing (send_header side log k left)
-    failing-header left = by-test Failing (is_covered log k left) _ _ (λ c. failing-ready (send_of k left) (StreamAccepted k) (is_bidirectional k)) (λ c x. absurd (cc))
+    failing-header : (s : ℕ) (left : List ℕ) → Failing (send_header side log k s left)
+    failing-header s left = by-test Failing (is_covered log k left) _ _ (λ c. failing-ready (send_of k left) (StreamAccepted k s) (is_bidirectional k)) (λ c x. absurd (cc))
 
-    failing-opening : (left : List ℕ) → Failing (continue_opening side log k left)
-    failing-opening left =
-        by-test Failing (not (is_open log)) _ _ (λ o x. none-opening []) (λ o. by-test Failing (is_refused log k left) _ _ (λ r x. none-opening []) (λ r. failing-header left))
+    failing-opening : (s : ℕ) (left : List ℕ) → Failing (continue_opening side log k s left)
+    failing-opening s left =
+        by-test Failing (not (is_open log)) _ _ (λ o x. none-opening []) (λ o. by-test Failing (is_refused log k left) _ _ (λ r x. none-opening []) (λ r. failing-header s left))
 
     failing-poll : (o : Option (ℕ × ℕ)) → Failing (in_session side log (poll_opening side log k) o)
     failing-poll None x = absurd (cc)
-    failing-poll (Some s) x = by-test Failing (is_opening log k) _ _ (λ i. failing-opening (head_left log k (stream_header k s.0))) (λ i y. absurd (cc)) x
+    failing-poll (Some s) x = by-test Failing (is_opening log k) _ _ (λ i. failing-opening s.0 (head_left log k (stream_header k s.0))) (λ i y. absurd (cc)) x
 
   -- ---- halves
 
@@ -195,6 +195,12 @@ module _ (side : Side) (log : Log) where
   ends : (own : List Action) (reply : Reply) → Ends (fail_handshake side log own reply)
   ends own reply = record { so = λ e. ap handshake_state (calls-logged side log own HandshakeOver) }
 
+  ends-acceptance : (own : List Action) (e : ConnectionError) → Ends (fail_acceptance side log own e)
+  ends-acceptance own e = record { so = λ s. ap handshake_state (calls-logged side log own AcceptanceFailed) }
+
+  ends-rejection : (id : ℕ) (own : List Action) → Ends (end_rejection side log id own)
+  ends-rejection id own = record { so = λ s. ap handshake_state (calls-logged side log own (RequestRejected id)) }
+
   goes-on : (x : Effect) → is_without_session x.reply ≡ false → Ends x
   goes-on x f = record { so = λ e. absurd (let z : true ≡ false = sym e ∙ f in cc) }
 
@@ -204,15 +210,15 @@ module _ (side : Side) (log : Log) where
 
   ends-accept : (id : ℕ) (left : List ℕ) (waiting : CallRecord) → Ends (accept_response side log id left waiting)
   ends-accept id left waiting =
-      by-test Ends (not (is_open log)) _ _ (λ o. ends [] _) (λ o. by-test Ends (is_refused log id left) _ _ (λ r. ends (close_when_open log (code_of h3.ClosedCriticalStream)) _) (λ r. by-test Ends (is_covered log id left) _ _ (λ c. goes-on _ refl) (λ c. goes-on _ refl)))
+      by-test Ends (not (is_open log)) _ _ (λ o. ends-acceptance [] _) (λ o. by-test Ends (is_refused log id left) _ _ (λ r. ends-acceptance (close_when_open log (code_of h3.ClosedCriticalStream)) _) (λ r. by-test Ends (is_covered log id left) _ _ (λ c. goes-on _ refl) (λ c. goes-on _ refl)))
 
   ends-finish : (id : ℕ) (left : List ℕ) (waiting : CallRecord) → Ends (finish_rejection side log id left waiting)
   ends-finish id left waiting =
-      by-test Ends (not (is_finished (actions_of log) id)) _ _ (λ f. goes-on _ refl) (λ f. by-test Ends (is_some (stop_of (events_of log) id) || is_acknowledged (events_of log) id) _ _ (λ s. ends (close_when_open log 0) _) (λ s. goes-on _ refl))
+      by-test Ends (not (is_finished (actions_of log) id)) _ _ (λ f. goes-on _ refl) (λ f. by-test Ends (is_some (stop_of (events_of log) id) || is_acknowledged (events_of log) id) _ _ (λ s. ends-rejection id (close_when_open log 0)) (λ s. goes-on _ refl))
 
   ends-reject : (id : ℕ) (left : List ℕ) (waiting : CallRecord) → Ends (reject_response side log id left waiting)
   ends-reject id left waiting =
-      by-test Ends (not (is_open log)) _ _ (λ o. ends [] _) (λ o. by-test Ends (is_refused log id left) _ _ (λ r. ends (close_when_open log (code_of h3.ClosedCriticalStream)) _) (λ r. by-test Ends (is_covered log id left) _ _ (λ c. ends-finish id left waiting) (λ c. goes-on _ refl)))
+      by-test Ends (not (is_open log)) _ _ (λ o. ends-rejection id []) (λ o. by-test Ends (is_refused log id left) _ _ (λ r. ends-rejection id (close_when_open log (code_of h3.ClosedCriticalStream))) (λ r. by-test Ends (is_covered log id left) _ _ (λ c. ends-finish id left waiting) (λ c. goes-on _ refl)))
 
   ends-respond : (b : Bool) (head : List ℕ) (waiting : CallRecord) → Ends (respond side log b head waiting)
   ends-respond true head waiting = ends-accept (requested_stream (calls_of log)) (head_left log (requested_stream (calls_of log)) head) waiting

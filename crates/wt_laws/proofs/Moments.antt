@@ -23,7 +23,7 @@ use Rattle.wt_spec.specs.StreamTable.{ByFault, BySession, CallView, Classified, 
 use Rattle.wt_wire.specs.declared.error.ErrorCode.TheVariants as h3
 use Rattle.wt_proto.specs.declared.session_walk.SessionWalk.TheVariants as walks
 
--- ---- the ways in which a moment writes the table
+-- ---- how a moment writes the table
 
 -- why a stream is classified, at the table so far, why one more datagram is dequeued, and, with these streams classified, why
 -- SETTINGS came (why the connection ends: `Endings`)

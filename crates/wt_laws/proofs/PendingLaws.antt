@@ -413,11 +413,11 @@ module _ (side : Side) (turn : Turn) where
     none-found log k d e f = absurd (let x = (same-found log k false None d e f).0 in cc)
 
     decides-given : (again : Log → Effect) (log : Log) (c : Classified) (b : Bool) → Decides side turn (pass_stream side log c.id) (again (pass_stream side log c.id))
-        → asked_session log (name_in turn) ≡ Some (s, offset) → next_due side log kind s ≡ Some c → is_for_session s c.verdict ≡ b → Decides side turn log (give_or_pass b side reply again log c.id)
+        → asked_session log (name_in turn) ≡ Some (s, offset) → next_due side log kind s ≡ Some c → is_for_session s c.verdict ≡ b → Decides side turn log (give_or_pass b side reply again s log c.id)
     decides-given again log c true r d e t = record {
       decided = log;
       passes = PassesNone;
-      reaches = extend (flush-extends side (Called (StreamAccepted c.id)) log) (flush-extends side (Called Polled) _);
+      reaches = extend (flush-extends side (Called (StreamAccepted c.id s)) log) (flush-extends side (Called Polled) _);
       no_stream = λ k f. no-other log k c d e t f;
       no_datagram = λ f. not-receiving log false n f;
       exactly = q c.id ∙ and-false (is_open log) ∙ ap (λ b. is_open log && b) (sym (nothing-so log (Some c) d e));
@@ -500,7 +500,7 @@ module _ (side : Side) (turn : Turn) where
     decides-taken again log x true r d e t = record {
       decided = log;
       passes = PassesNone;
-      reaches = extend (flush-extends side (Called DatagramReceived) log) (flush-extends side (Called Polled) _);
+      reaches = extend (flush-extends side (Called (DatagramReceived (released_datagrams (calls_of log)))) log) (flush-extends side (Called Polled) _);
       no_stream = λ k f. not-accepting log k false n f;
       no_datagram = λ f. no-other-datagram log x d e t f;
       exactly = and-false (is_open log) ∙ ap (λ b. is_open log && b) (sym (none-so log (Some x) d e));

@@ -287,14 +287,14 @@ by-record side turn k bytes log later reply (BytesRead j n) f p r w t e grow kee
     let i = same-read k j turn r t.3 in
     subst (λ (o : Option (List ℕ)). ReadSoFar side k (more_read o bytes) later) (sym t.1)
     (gave side k bytes t.0 log later f p (piece-of side turn log k reply t.0 r w t.1) (e ∙ rw (eq-eqb j k i, t.2) refl) grow keep)
-by-record side turn k bytes log later reply (StreamAccepted j) f p r w t e grow keep = subst (λ xs. ReadSoFar side k xs later) (sym (given-read reply j bytes t)) (idle side k bytes log later p (e ∙ let z = e in omega arith) grow keep)
+by-record side turn k bytes log later reply (StreamAccepted j s) f p r w t e grow keep = subst (λ xs. ReadSoFar side k xs later) (sym (given-read reply j bytes t)) (idle side k bytes log later p (e ∙ let z = e in omega arith) grow keep)
   where
     given-read : (reply : Reply) (j : ℕ) (bytes : List ℕ) → given_stream reply ≡ Some j → more_read (read_piece reply) bytes ≡ bytes
     given-read (replies.Read (Some p)) j bytes t = absurd (cc)
     given-read (replies.Exact p) j bytes t = absurd (cc)
     given-read (replies.ExactFailed e p) j bytes t = absurd (cc)
     given-read _ j bytes t = refl
-by-record side turn k bytes log later reply DatagramReceived f p r w t e grow keep = subst (λ xs. ReadSoFar side k xs later) (sym (given-read reply t.0 bytes t.1)) (idle side k bytes log later p (omega arith) grow keep)
+by-record side turn k bytes log later reply (DatagramReceived index) f p r w t e grow keep = subst (λ xs. ReadSoFar side k xs later) (sym (given-read reply t.0 bytes t.1)) (idle side k bytes log later p (omega arith) grow keep)
   where
     given-read : (reply : Reply) (d bytes : List ℕ) → datagram_reported reply ≡ Some d → more_read (read_piece reply) bytes ≡ bytes
     given-read (replies.Read (Some p)) d bytes t = absurd (cc)

@@ -9,7 +9,7 @@ use Rattle.wt_seam_spec.specs.Joined.{send_of}
 use Rattle.wt_seam_spec.specs.Outgoing.{may_open, streams_allowed}
 use Rattle.wt_seam_spec.specs.Reports.{bis_allowed, unis_allowed}
 use Rattle.wt_seam_spec.specs.Streams.{local_bi, local_count, local_uni, peer_bi, peer_uni, stream_count}
-use Rattle.wt_turn.specs.Log.{CallRecord, Called, ConnectStarted, Entry, HandshakeOver, Log, Received, Reported, ReportedLate, RequestDelivered, ResponseStarted, Sent, SessionEstablished, StreamPassed, actions_of, all_events_of, calls_of, events_of, is_open}
+use Rattle.wt_turn.specs.Log.{AcceptanceFailed, CallRecord, Called, ConnectStarted, Entry, HandshakeOver, Log, Received, Reported, ReportedLate, RequestDelivered, RequestRejected, ResponseStarted, Sent, SessionEstablished, StreamPassed, actions_of, all_events_of, calls_of, events_of, is_open}
 use Rattle.wt_turn.specs.declared.action.Action.{Action}
 use Rattle.wt_turn.specs.declared.turn.Turn.{Turn}
 use Rattle.wt_wire.specs.declared.side.Side.{Side}
@@ -166,6 +166,8 @@ new-goes-on side turn log (ConnectStarted o h) reserved head k g c e = ap (λ (c
 new-goes-on side turn log (RequestDelivered id) reserved head k g c e = absurd (cc)
 new-goes-on side turn log (ResponseStarted a h) reserved head k g c e = absurd (cc)
 new-goes-on side turn log (SessionEstablished id offset) reserved head k g c e = absurd (cc)
+new-goes-on side turn log (RequestRejected id) reserved head k g c e = absurd (cc)
+new-goes-on side turn log AcceptanceFailed reserved head k g c e = absurd (cc)
 new-goes-on side turn log HandshakeOver reserved head k g c e = absurd (cc)
 new-goes-on side turn log _ reserved head k g c e = g.still_going reserved head k e
 

@@ -10,7 +10,7 @@ use Rattle.wt_seam_spec.specs.Outgoing.{bytes_within_credit}
 use Rattle.wt_seam_spec.specs.Reports.{is_acknowledged, stop_of}
 use Rattle.wt_seam_spec.specs.Sent.{finishes, is_finished, sent_on}
 use Rattle.wt_seam_spec.specs.Streams.{local_uni}
-use Rattle.wt_turn.specs.Log.{CallRecord, Called, ConnectStarted, Entry, HandshakeOver, Log, Polled, Received, Reported, RequestDelivered, ResponseStarted, Sent, SessionEstablished, actions_of, calls_of, events_of, is_open, with_actions}
+use Rattle.wt_turn.specs.Log.{AcceptanceFailed, CallRecord, Called, ConnectStarted, Entry, HandshakeOver, Log, Polled, Received, Reported, RequestDelivered, RequestRejected, ResponseStarted, Sent, SessionEstablished, actions_of, calls_of, events_of, is_open, with_actions}
 use Rattle.wt_turn.specs.declared.action.Action.{Action}
 use Rattle.wt_turn.specs.declared.turn.Turn.{Turn}
 use Rattle.wt_wire.specs.Codes.{code_of}
@@ -123,6 +123,8 @@ module _ (side : Side) (turn : Turn) (never : (cs : List CallRecord) (accepts : 
   whole-record log (RequestDelivered id) c w = not-rejecting (Called (RequestDelivered id) ∷ log) refl
   whole-record log (ConnectStarted reserved head) c w = not-rejecting (Called (ConnectStarted reserved head) ∷ log) refl
   whole-record log (SessionEstablished id by) c w = not-rejecting (Called (SessionEstablished id by) ∷ log) refl
+  whole-record log (RequestRejected k) c w = not-rejecting (Called (RequestRejected k) ∷ log) refl
+  whole-record log AcceptanceFailed c w = not-rejecting (Called AcceptanceFailed ∷ log) refl
   whole-record log HandshakeOver c w = not-rejecting (Called HandshakeOver ∷ log) refl
   whole-record log _ c w = w
 
@@ -160,6 +162,8 @@ unanswering side log (ResponseStarted accepts head) c n = from c.0
 unanswering side log (RequestDelivered id) c n = refl
 unanswering side log (ConnectStarted reserved head) c n = refl
 unanswering side log (SessionEstablished id offset) c n = refl
+unanswering side log (RequestRejected k) c n = refl
+unanswering side log AcceptanceFailed c n = refl
 unanswering side log HandshakeOver c n = refl
 unanswering side log _ c n = n
 
@@ -214,8 +218,8 @@ module _ (side : Side) (log : Log) where
   whole-accept : (id : ℕ) (left : List ℕ) (waiting : CallRecord) → is_rejecting (handshake_state (waiting ∷ calls_of log)) ≡ false → IsWhole (accept_response side log id left waiting)
   whole-accept id left waiting n =
       let s = SessionEstablished id (request_end (verdict_of id (stream_table side log).classified)) in
-      whole-if (not (is_open log)) _ _ (λ x. whole-leaf [] HandshakeOver refl) (λ x.
-      whole-if (is_refused log id left) _ _ (λ y. whole-leaf (close_when_open log (code_of h3.ClosedCriticalStream)) HandshakeOver refl) (λ y.
+      whole-if (not (is_open log)) _ _ (λ x. whole-leaf [] AcceptanceFailed refl) (λ x.
+      whole-if (is_refused log id left) _ _ (λ y. whole-leaf (close_when_open log (code_of h3.ClosedCriticalStream)) AcceptanceFailed refl) (λ y.
       whole-if (is_covered log id left) _ _
       (λ z. not-rejecting (log_call side (log_call side log (send_of id left) s) [] Polled) (plain-leaf (log_call side log (send_of id left) s) [] Polled (plain-leaf log (send_of id left) s refl)))
       (λ z. whole-leaf (send_of id (bytes_within_credit log id left)) waiting n)))
@@ -248,7 +252,7 @@ module _ (side : Side) (log : Log) where
     whole-finish : (b : Bool) → is_finished (actions_of log) id ≡ b → IsWhole (finish_rejection side log id left waiting)
     whole-finish b f =
         whole-if (not (is_finished (actions_of log) id)) _ _ (λ x. finished-leaf (send_of id left ++ actions.Finish id ∷ []) (finished-last id (send_of id left) log)) (λ x.
-        whole-if (is_some (stop_of (events_of log) id) || is_acknowledged (events_of log) id) _ _ (λ y. whole-leaf (close_when_open log 0) HandshakeOver refl) (λ y. finished-leaf [] (was-so (is_finished (actions_of log) id) x)))
+        whole-if (is_some (stop_of (events_of log) id) || is_acknowledged (events_of log) id) _ _ (λ y. whole-leaf (close_when_open log 0) (RequestRejected id) refl) (λ y. finished-leaf [] (was-so (is_finished (actions_of log) id) x)))
       where
         was-so : (c : Bool) → not c ≡ false → c ≡ true
         was-so true e = refl
@@ -256,8 +260,8 @@ module _ (side : Side) (log : Log) where
 
     whole-reject : IsWhole (reject_response side log id left waiting)
     whole-reject =
-        whole-if (not (is_open log)) _ _ (λ x. whole-leaf [] HandshakeOver refl) (λ x.
-        whole-if (is_refused log id left) _ _ (λ y. whole-leaf (close_when_open log (code_of h3.ClosedCriticalStream)) HandshakeOver refl) (λ y.
+        whole-if (not (is_open log)) _ _ (λ x. whole-leaf [] (RequestRejected id) refl) (λ x.
+        whole-if (is_refused log id left) _ _ (λ y. whole-leaf (close_when_open log (code_of h3.ClosedCriticalStream)) (RequestRejected id) refl) (λ y.
         whole-if (is_covered log id left) _ _ (λ z. whole-finish (is_finished (actions_of log) id) refl) (λ z. unfinished-leaf z)))
 
   -- a response that goes on, with a record that leads to its state

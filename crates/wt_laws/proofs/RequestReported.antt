@@ -1,4 +1,4 @@
--- A reply that gives a request tells of one that was queued first, is delivered from then on, and is in the bytes of its stream.
+-- A reply that gives a request gives one that was queued first, is delivered from then on, and is in the bytes of its stream.
 use Rattle.std.specs.Prelude.{◌≡◌, Bool, List, Some, false, true, ℕ}
 use Rattle.std.proofs.Common.{◌∙◌, ap, refl, subst, sym}
 use Rattle.std.proofs.lemmas.Bool.{eq-eqb, or_left, or_right}
@@ -30,8 +30,8 @@ tells-request : (turn : Turn) (k : ℕ) (headers : Fields) (reply : Reply) → r
 tells-request turn k headers reply e (RequestDelivered id) t = let y = ap request_reported e in let x : id ≡ k = cc in eq-eqb id k x
 tells-request turn k headers reply e (SessionEstablished i a) t = absurd (let y = ap session_reported e in cc)
 tells-request turn k headers reply e (BytesRead j n) t = absurd (let y = ap read_piece e in let z = t.1 in cc)
-tells-request turn k headers reply e (StreamAccepted j) t = absurd (let y = ap given_stream e in cc)
-tells-request turn k headers reply e DatagramReceived t = absurd (let y = ap datagram_reported e in let z = t.1 in cc)
+tells-request turn k headers reply e (StreamAccepted j s) t = absurd (let y = ap given_stream e in cc)
+tells-request turn k headers reply e (DatagramReceived index) t = absurd (let y = ap datagram_reported e in let z = t.1 in cc)
 tells-request turn k headers reply e _ t = absurd (let y = ap is_quiet e in cc)
 
 delivered-by : (turn : Turn) (k : ℕ) (headers : Fields) (before after : List CallRecord) (reply : Reply) → reply ≡ replies.Request k headers → Logged turn before after reply → list_any (delivers k) after ≡ true

@@ -75,7 +75,7 @@ flush-other side e log k n = by (is_moment e && is_open (e ∷ log))
 pub accepted-ends : (k : ℕ) (cs : List CallRecord) → list_any (accepts_stream k) cs ≡ true → list_any (ends_opening k) cs ≡ true
 accepted-ends k [] e = absurd (cc)
 accepted-ends k (OpeningFailed id ∷ cs) e = or_right (id == k) _ (accepted-ends k cs e)
-accepted-ends k (StreamAccepted id ∷ cs) e = either-true (id == k) (list_any (accepts_stream k) cs) (id == k) (list_any (ends_opening k) cs) (λ x. x) (accepted-ends k cs) e
+accepted-ends k (StreamAccepted id session ∷ cs) e = either-true (id == k) (list_any (accepts_stream k) cs) (id == k) (list_any (ends_opening k) cs) (λ x. x) (accepted-ends k cs) e
 accepted-ends k (_ ∷ cs) e = accepted-ends k cs e
 
 -- a session is established where a stream was given
@@ -89,8 +89,8 @@ still-some None p e = e
 still-some (Some x) p e = refl
 
 accept-some : (side : Side) (turn : Turn) (log : Log) (k : ℕ) (r : CallRecord) → RecordCause side turn log r → accepts_stream k r ≡ true → is_some (established_session (calls_of log)) ≡ true
-accept-some side turn log k (StreamAccepted id) (ByAccept f) e = ap is_some f.is_established
-accept-some side turn log k (StreamAccepted id) (ByOpening f) e = ap is_some f.is_established
+accept-some side turn log k (StreamAccepted id session) (ByAccept f s) e = ap is_some f.is_established
+accept-some side turn log k (StreamAccepted id session) (ByOpening f s) e = ap is_some f.is_established
 accept-some side turn log k _ c e = absurd (cc)
 
 pub given-entries : (side : Side) (turn : Turn) → KeepsEntries side turn (GivenStreams side)

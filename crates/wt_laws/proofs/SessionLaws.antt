@@ -8,7 +8,7 @@ use Rattle.wt_proto.specs.declared.verdict.Verdict.{Verdict}
 use Rattle.wt_seam_spec.specs.Joined.{send_of}
 use Rattle.wt_seam_spec.specs.Reports.{end_of}
 use Rattle.wt_seam_spec.specs.Streams.{contents, peer_bi, peer_count}
-use Rattle.wt_turn.specs.Log.{BytesRead, CallRecord, Called, ConnectStarted, DatagramReceived, Entry, HandshakeOver, Log, Received, Reported, ReportedLate, RequestDelivered, ResponseStarted, Sent, SessionEstablished, StreamAccepted, calls_of, events_of, with_actions}
+use Rattle.wt_turn.specs.Log.{AcceptanceFailed, BytesRead, CallRecord, Called, ConnectStarted, DatagramReceived, Entry, HandshakeOver, Log, Received, Reported, ReportedLate, RequestDelivered, RequestRejected, ResponseStarted, Sent, SessionEstablished, StreamAccepted, calls_of, events_of, with_actions}
 use Rattle.wt_turn.specs.declared.action.Action.{Action}
 use Rattle.wt_turn.specs.declared.reply.Reply.{Reply}
 use Rattle.wt_turn.specs.declared.turn.Turn.{Turn}
@@ -104,6 +104,8 @@ accepted-head side turn log head f (FromBefore t s) = f.acceptance head s
 
 new-none : (side : Side) (turn : Turn) (log : Log) (r : CallRecord) → Handshakes side log → RecordCause side turn log r → is_under_way (handshake_state (r ∷ calls_of log)) ≡ true → established_session (r ∷ calls_of log) ≡ None
 new-none side turn log (SessionEstablished id offset) f c e = absurd (cc)
+new-none side turn log (RequestRejected k) f c e = absurd (cc)
+new-none side turn log AcceptanceFailed f c e = absurd (cc)
 new-none side turn log HandshakeOver f c e = absurd (cc)
 new-none side turn log (RequestDelivered k) f c e = f.none_yet (ap is_under_way c.under_way)
 new-none side turn log (ResponseStarted accepts head) f c e = f.none_yet (ap is_under_way c.2)
@@ -115,6 +117,8 @@ new-acceptance side turn log (ResponseStarted accepts h) head f c e =
     let i : accepts ≡ true = cc in let j : h ≡ head = cc in
     accepted-head side turn log head f (subst (λ z. ResponseFrom turn (calls_of log) true z) j (subst (λ b. ResponseFrom turn (calls_of log) b h) i c.0))
 new-acceptance side turn log (SessionEstablished id offset) head f c e = absurd (cc)
+new-acceptance side turn log (RequestRejected k) head f c e = absurd (cc)
+new-acceptance side turn log AcceptanceFailed head f c e = absurd (cc)
 new-acceptance side turn log HandshakeOver head f c e = absurd (cc)
 new-acceptance side turn log (RequestDelivered k) head f c e = absurd (cc)
 new-acceptance side turn log (ConnectStarted reserved h) head f c e = absurd (cc)
@@ -153,6 +157,8 @@ new-has-one : (side : Side) (turn : Turn) (log : Log) (r : CallRecord) → Hands
 new-has-one side turn log (RequestDelivered k) f c e = or_left (k == k) _ (eq-eqb k k refl)
 new-has-one side turn log (ResponseStarted accepts head) f c e = f.has_one (from-request turn (calls_of log) accepts head c.0)
 new-has-one side turn log (SessionEstablished id offset) f c e = absurd (cc)
+new-has-one side turn log (RequestRejected k) f c e = absurd (cc)
+new-has-one side turn log AcceptanceFailed f c e = absurd (cc)
 new-has-one side turn log HandshakeOver f c e = absurd (cc)
 new-has-one side turn log (ConnectStarted reserved head) f c e = absurd (cc)
 new-has-one side turn log _ f c e = f.has_one e
@@ -161,6 +167,8 @@ new-server : (side : Side) (turn : Turn) (log : Log) (r : CallRecord) → Handsh
 new-server side turn log (RequestDelivered k) f c e = c.by_server
 new-server side turn log (ResponseStarted accepts head) f c e = f.by_server (from-request turn (calls_of log) accepts head c.0)
 new-server side turn log (SessionEstablished id offset) f c e = absurd (cc)
+new-server side turn log (RequestRejected k) f c e = absurd (cc)
+new-server side turn log AcceptanceFailed f c e = absurd (cc)
 new-server side turn log HandshakeOver f c e = absurd (cc)
 new-server side turn log (ConnectStarted reserved head) f c e = absurd (cc)
 new-server side turn log _ f c e = f.by_server e
@@ -170,6 +178,8 @@ new-client side turn log (ConnectStarted o h) reserved head f c e = c.by_client
 new-client side turn log (RequestDelivered k) reserved head f c e = absurd (cc)
 new-client side turn log (ResponseStarted accepts h) reserved head f c e = absurd (cc)
 new-client side turn log (SessionEstablished id offset) reserved head f c e = absurd (cc)
+new-client side turn log (RequestRejected k) reserved head f c e = absurd (cc)
+new-client side turn log AcceptanceFailed reserved head f c e = absurd (cc)
 new-client side turn log HandshakeOver reserved head f c e = absurd (cc)
 new-client side turn log _ reserved head f c e = f.by_client reserved head e
 
@@ -328,8 +338,8 @@ one-session side log turn r l s offset e =
 tells-session : (turn : Turn) (s : ℕ) (reply : Reply) → reply ≡ replies.Session s → (r : CallRecord) → TellsOf turn r reply → (offset : ℕ) × ((cs : List CallRecord) → established_session (r ∷ cs) ≡ Some (s, offset))
 tells-session turn s reply e (SessionEstablished i a) t = let q = ap session_reported e in let x : i ≡ s = cc in (a, λ cs. ap (λ n. Some (n, a)) x)
 tells-session turn s reply e (BytesRead k n) t = absurd (let y = ap read_piece e in let z = t.1 in cc)
-tells-session turn s reply e (StreamAccepted k) t = absurd (let y = ap given_stream e in cc)
-tells-session turn s reply e DatagramReceived t = absurd (let y = ap datagram_reported e in let z = t.1 in cc)
+tells-session turn s reply e (StreamAccepted k session) t = absurd (let y = ap given_stream e in cc)
+tells-session turn s reply e (DatagramReceived index) t = absurd (let y = ap datagram_reported e in let z = t.1 in cc)
 tells-session turn s reply e (RequestDelivered k) t = absurd (let y = ap request_reported e in cc)
 tells-session turn s reply e _ t = absurd (let y = ap is_quiet e in cc)
 

@@ -11,7 +11,7 @@ use Rattle.wt_seam_spec.specs.Outgoing.{bytes_within_credit, credit_left}
 use Rattle.wt_seam_spec.specs.Reports.{credit, is_acknowledged, stop_of, unis_allowed}
 use Rattle.wt_seam_spec.specs.Sent.{finishes, is_finished, sent_on}
 use Rattle.wt_seam_spec.specs.Streams.{local_bi, local_count, local_uni, opens, peer_uni}
-use Rattle.wt_turn.specs.Log.{CallRecord, Called, ConnectStarted, Entry, HandshakeOver, Log, OpeningStarted, Polled, Received, Reported, ReportedLate, RequestDelivered, ResponseStarted, Sent, SessionEstablished, actions_of, calls_of, events_of, is_open, with_actions}
+use Rattle.wt_turn.specs.Log.{AcceptanceFailed, CallRecord, Called, ConnectStarted, Entry, HandshakeOver, Log, OpeningStarted, Polled, Received, Reported, ReportedLate, RequestDelivered, RequestRejected, ResponseStarted, Sent, SessionEstablished, actions_of, calls_of, events_of, is_open, with_actions}
 use Rattle.wt_turn.specs.declared.action.Action.{Action}
 use Rattle.wt_turn.specs.declared.turn.Turn.{Turn}
 use Rattle.wt_wire.specs.Codes.{code_of}
@@ -397,6 +397,8 @@ module _ (side : Side) (frame : Option (List ℕ)) where
     record-responding (ResponseStarted a hd) h c accepts head e =
         let x : hd ≡ head = cc in response-frame turn t then_ a hd h c.0 ∙ ap Some x
     record-responding (SessionEstablished id offset) h c accepts head e = absurd (cc)
+    record-responding (RequestRejected k) h c accepts head e = absurd (cc)
+    record-responding AcceptanceFailed h c accepts head e = absurd (cc)
     record-responding HandshakeOver h c accepts head e = absurd (cc)
     record-responding (RequestDelivered k) h c accepts head e = absurd (cc)
     record-responding (ConnectStarted reserved hd) h c accepts head e = absurd (cc)
@@ -405,6 +407,8 @@ module _ (side : Side) (frame : Option (List ℕ)) where
     record-connecting : (r : CallRecord) → FrameOut side frame then_ → RecordCause side turn then_ r → (reserved : Option (List ℕ)) (head : List ℕ) → handshake_state (r ∷ calls_of then_) ≡ Connecting reserved head → (frame ≡ Some head) × (is_client side ≡ true)
     record-connecting (ConnectStarted o hd) h c reserved head e = let x : hd ≡ head = cc in (t hd (ap head_frame_of c.dials.to.connects_to ∙ ap (request_to c.dials.to.headers) c.dials.to.parsed ∙ ap Some (sym c.request)) ∙ ap Some x, c.by_client)
     record-connecting (SessionEstablished id offset) h c reserved head e = absurd (cc)
+    record-connecting (RequestRejected k) h c reserved head e = absurd (cc)
+    record-connecting AcceptanceFailed h c reserved head e = absurd (cc)
     record-connecting HandshakeOver h c reserved head e = absurd (cc)
     record-connecting (RequestDelivered k) h c reserved head e = absurd (cc)
     record-connecting (ResponseStarted a hd) h c reserved head e = absurd (cc)
@@ -415,6 +419,8 @@ module _ (side : Side) (frame : Option (List ℕ)) where
     record-asked (ResponseStarted a hd) h c e = h.asked (from-request turn (calls_of then_) a hd c.0)
     record-asked (ConnectStarted o hd) h c e = absurd (cc)
     record-asked (SessionEstablished id offset) h c e = absurd (cc)
+    record-asked (RequestRejected k) h c e = absurd (cc)
+    record-asked AcceptanceFailed h c e = absurd (cc)
     record-asked HandshakeOver h c e = absurd (cc)
     record-asked _ h c e = h.asked e
 
@@ -566,6 +572,8 @@ answered-record side turn log (RequestDelivered id) c e = absurd (let x = ap is_
 answered-record side turn log (ResponseStarted accepts head) c e = refl
 answered-record side turn log (ConnectStarted reserved head) c e = refl
 answered-record side turn log (SessionEstablished id offset) c e = refl
+answered-record side turn log (RequestRejected k) c e = refl
+answered-record side turn log AcceptanceFailed c e = refl
 answered-record side turn log HandshakeOver c e = refl
 answered-record side turn log _ c e = e
 
@@ -595,19 +603,19 @@ module _ (side : Side) (log : Log) where
   answered-response true head =
       let id = requested_stream (calls_of log) in
       let left = head_left log id head in
-      answered-if (not (is_open log)) _ _ (answered-leaf log [] HandshakeOver refl)
-      (answered-if (is_refused log id left) _ _ (answered-leaf log (close_when_open log (code_of h3.ClosedCriticalStream)) HandshakeOver refl)
+      answered-if (not (is_open log)) _ _ (answered-leaf log [] AcceptanceFailed refl)
+      (answered-if (is_refused log id left) _ _ (answered-leaf log (close_when_open log (code_of h3.ClosedCriticalStream)) AcceptanceFailed refl)
       (answered-if (is_covered log id left) _ _
       (answered-leaf (log_call side log (send_of id left) (SessionEstablished id (request_end (verdict_of id (stream_table side log).classified)))) [] Polled (answered-leaf log (send_of id left) (SessionEstablished id (request_end (verdict_of id (stream_table side log).classified))) refl))
       (answered-leaf log (send_of id (bytes_within_credit log id left)) (ResponseStarted true head) refl)))
   answered-response false head =
       let id = requested_stream (calls_of log) in
       let left = head_left log id head in
-      answered-if (not (is_open log)) _ _ (answered-leaf log [] HandshakeOver refl)
-      (answered-if (is_refused log id left) _ _ (answered-leaf log (close_when_open log (code_of h3.ClosedCriticalStream)) HandshakeOver refl)
+      answered-if (not (is_open log)) _ _ (answered-leaf log [] (RequestRejected id) refl)
+      (answered-if (is_refused log id left) _ _ (answered-leaf log (close_when_open log (code_of h3.ClosedCriticalStream)) (RequestRejected id) refl)
       (answered-if (is_covered log id left) _ _
       (answered-if (not (is_finished (actions_of log) id)) _ _ (answered-leaf log (send_of id left ++ actions.Finish id ∷ []) (ResponseStarted false head) refl)
-      (answered-if (is_some (stop_of (events_of log) id) || is_acknowledged (events_of log) id) _ _ (answered-leaf log (close_when_open log 0) HandshakeOver refl) (answered-leaf log [] (ResponseStarted false head) refl)))
+      (answered-if (is_some (stop_of (events_of log) id) || is_acknowledged (events_of log) id) _ _ (answered-leaf log (close_when_open log 0) (RequestRejected id) refl) (answered-leaf log [] (ResponseStarted false head) refl)))
       (answered-leaf log (send_of id (bytes_within_credit log id left)) (ResponseStarted false head) refl)))
 
 -- what a turn with a frame is: a client's first, or a server's answer to a request

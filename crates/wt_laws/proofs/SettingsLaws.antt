@@ -46,7 +46,7 @@ pub record Untouched (side : Side) (log : Log) : Type 0 where
   pub opening : list_any (starts_opening (local_uni side)) (calls_of log) ≡ false
   pub accepted : list_any (accepts_stream (local_uni side)) (calls_of log) ≡ false
 
--- what the calls did tells that a call's own actions send nothing on it
+-- what the calls did shows that a call's own actions send nothing on it
 record Silent (side : Side) (calls_ : List CallRecord) : Type 0 where
   pub opening : list_any (starts_opening (local_uni side)) calls_ ≡ false
   pub accepted : list_any (accepts_stream (local_uni side)) calls_ ≡ false
@@ -367,14 +367,14 @@ new-opening-record side turn log own (OpeningStarted k s) p c = not-control side
 new-opening-record side turn log own _ p c = refl
 
 new-accept-record : (side : Side) (turn : Turn) (log : Log) (r : CallRecord) → list_any (starts_opening (local_uni side)) (calls_of log) ≡ false → RecordCause side turn log r → accepts_stream (local_uni side) r ≡ false
-new-accept-record side turn log (StreamAccepted k) n (ByAccept f) = by (k == local_uni side) refl
+new-accept-record side turn log (StreamAccepted k session) n (ByAccept f s) = by (k == local_uni side) refl
   where
     by : (b : Bool) → (k == local_uni side) ≡ b → b ≡ false
     by false e = refl
     by true e =
         let v = found-sessions side turn log k f in
         absurd (not-both side k _ _ (are-peers side log k _ v.1) (subst (λ (j : ℕ). is_local side j ≡ true) (sym (eqb-true k (local_uni side) e)) (or_left (local_uni side % 4 == local_uni side) _ (self-kind side))))
-new-accept-record side turn log (StreamAccepted k) n (ByOpening f) = by (k == local_uni side) refl
+new-accept-record side turn log (StreamAccepted k session) n (ByOpening f s) = by (k == local_uni side) refl
   where
     by : (b : Bool) → (k == local_uni side) ≡ b → b ≡ false
     by false e = refl

@@ -1,4 +1,4 @@
--- What the transport tells in a turn gets into the log.
+-- What the transport reports in a turn gets into the log.
 use Rattle.std.specs.Prelude.{[], ◌++◌, ◌∷◌, ◌≡◌, Bool, List, Some, false, if◌then◌else◌, true, ℕ}
 use Rattle.std.proofs.Common.{◌∙◌, ap, refl, subst, sym}
 use Rattle.std.proofs.lemmas.Bool.{eq-eqb}

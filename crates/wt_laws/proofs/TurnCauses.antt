@@ -128,7 +128,7 @@ actions-went-out side [] AtStart a earlier (m ∷ more, g) = absurd (cc)
 actions-went-out side log (AfterTurn {log = before} turn r l) a earlier g =
     found side turn before (log_after side before turn) r l refl ([], refl) (entries-have-causes side before turn l) (actions-went-out side before r) a earlier g
 
--- ---- what a reply tells
+-- ---- what a reply reports
 
 pub reply-is-recorded : (side : Side) (log : Log) (turn : Turn) → is_lawful side log turn ≡ true → ReplyIsRecorded side log turn
 reply-is-recorded side log turn l = let c = caused side turn log l in record { decided = c.decided; during = decided-during side log turn l; passed = c.passed; logged = c.logged }

@@ -21,7 +21,7 @@ use Rattle.wt_session_spec.specs.Plans.{plan_of}
 use Rattle.wt_session_spec.specs.SessionState.{session_state}
 use Rattle.wt_spec.specs.Answers.{is_lawful, log_after, receive}
 use Rattle.wt_spec.specs.Connection.{accept_due, accept_first, accepts_stream, give_or_pass, is_for_session, next_datagram, next_due, receive_first, receive_next, receive_or_pass}
-use Rattle.wt_spec.specs.Driver.{flush, log_and_flush, releases, stream_table}
+use Rattle.wt_spec.specs.Driver.{flush, log_and_flush, released_datagrams, releases, stream_table}
 use Rattle.wt_spec.specs.Effect.{Effect, log_call}
 use Rattle.wt_spec.specs.StreamTable.{Classified, is_webtransport}
 use Rattle.wt_turn.specs.Log.{CallRecord, Called, DatagramPassed, DatagramReceived, Entry, Event, Log, Polled, Received, Reported, ReportedLate, Sent, SessionEstablished, StreamAccepted, StreamPassed, calls_of, events_of, is_open, with_actions}
@@ -43,7 +43,7 @@ passes-releases k (StreamPassed id) e = e
 passes-releases k _ e = absurd (cc)
 
 accepts-releases : (k : ℕ) (r : CallRecord) → accepts_stream k r ≡ true → releases k r ≡ true
-accepts-releases k (StreamAccepted id) e = e
+accepts-releases k (StreamAccepted id session) e = e
 accepts-releases k _ e = absurd (cc)
 
 any-releases : (k : ℕ) (test : CallRecord → Bool) → ((r : CallRecord) → test r ≡ true → releases k r ≡ true) → (cs : List CallRecord) → list_any test cs ≡ true → list_any (releases k) cs ≡ true
@@ -74,7 +74,7 @@ module _ (side : Side) (log : Log) (kind s : ℕ) (c : Classified) (e : next_due
   with-verdict : verdict_in (classified_of c.id (stream_table side log).classified) ≡ Some c.verdict
   with-verdict = sym (found-verdict c.id (stream_table side log).classified) ∙ due.among
 
-  may-accept : MayUse side log (StreamAccepted c.id)
+  may-accept : MayUse side log (StreamAccepted c.id s)
   may-accept = (
     gives-classified (role_of side c.id) (classified_of c.id (stream_table side log).classified) c.verdict with-verdict due.webtransport,
     unreleased-so c.id (passes c.id) (passes-releases c.id) (calls_of log) due.unreleased,
@@ -104,8 +104,8 @@ module _ (side : Side) where
   uses-accepted (suc n) reply kind s log u = by (next_due side log kind s) refl (λ later v. uses-accepted n reply kind s later v)
     where
       given : (b : Bool) (c : Classified) → next_due side log kind s ≡ Some c → ((later : Log) → Uses side later → Uses side (accept_first n side reply kind s later).log)
-          → Uses side (give_or_pass b side reply (λ later. accept_first n side reply kind s later) log c.id).log
-      given true c e again = uses-called side (log_call side log [] (StreamAccepted c.id)) [] Polled tt (uses-called side log [] (StreamAccepted c.id) (may-accept side log kind s c e) u)
+          → Uses side (give_or_pass b side reply (λ later. accept_first n side reply kind s later) s log c.id).log
+      given true c e again = uses-called side (log_call side log [] (StreamAccepted c.id s)) [] Polled tt (uses-called side log [] (StreamAccepted c.id s) (may-accept side log kind s c e) u)
       given false c e again =
           let stop = actions.StopOut c.id (code_of h3.BufferedStreamRejected) in
           again _ (uses-called side log (stop ∷ []) (StreamPassed c.id) (may-pass side log kind s c e stop) u)
@@ -121,7 +121,9 @@ module _ (side : Side) where
     where
       given : (b : Bool) (d : ℕ × List ℕ) → next_datagram side log ≡ Some d → ((later : Log) → Uses side later → Uses side (receive_first n side s later).log)
           → Uses side (receive_or_pass b side (λ later. receive_first n side s later) log d.1).log
-      given true d e again = uses-called side (log_call side log [] DatagramReceived) [] Polled tt (uses-called side log [] DatagramReceived (next-within side log d e) u)
+      given true d e again =
+          let r = DatagramReceived (released_datagrams (calls_of log)) in
+          uses-called side (log_call side log [] r) [] Polled tt (uses-called side log [] r (next-within side log d e) u)
       given false d e again = again _ (uses-called side log [] DatagramPassed (next-within side log d e) u)
 
       by : (o : Option (ℕ × List ℕ)) → next_datagram side log ≡ o → ((later : Log) → Uses side later → Uses side (receive_first n side s later).log)
@@ -136,7 +138,7 @@ module _ (side : Side) where
   uses-performed log (AcceptBi s) m u = uses-accepted (suc (peer_count side (events_of log) (peer_bi side))) replies.Bi (peer_bi side) s log u
   uses-performed log (Receive s) m u = uses-received (suc (length (datagrams_of (events_of log)))) s log u
 
-  -- ---- what the transport tells
+  -- ---- what the transport reports
 
   uses-event : (log : Log) (e : Event) → Uses side log → Uses side (flush side (log_event log e))
   uses-event log e u = by (is_open log)

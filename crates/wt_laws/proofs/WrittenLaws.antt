@@ -57,13 +57,13 @@ module _ (side : Side) (frame : Option (List ℕ)) (turn : Turn) (t : (head : Li
         sent-with k own log ∙ ap (λ xs. sent_on (actions_of log) k ++ xs) (other-own side turn k own log n (alone side log k p.both.out.heads.given b) x) ∙ append-nil (sent_on (actions_of log) k) ∙ p.whole s offset b (ap established_session (sym q) ∙ d)
 
     -- a stream that is given now
-    new-one : (s offset : ℕ) → is_accepted later k ≡ false → AcceptCause side turn later k → established_session (calls_of later) ≡ Some (s, offset) → sent_on (actions_of later) k ≡ head_of side k s
-    new-one s offset a (ByAccept f) d =
+    new-one : (s offset session : ℕ) → is_accepted later k ≡ false → AcceptCause side turn later k session → established_session (calls_of later) ≡ Some (s, offset) → sent_on (actions_of later) k ≡ head_of side k s
+    new-one s offset session a (ByAccept f q) d =
         let v = found-sessions side turn later k f in
         let l = not-true-so (is_local side k) (λ l. absurd (let u = local-unclassified side later k l in let w = v.1 in cc)) in
         let m = not-true-so (list_any (delivers k) (calls_of later)) (λ m. absurd (let u = (out-later.heads.given.handshakes.delivered k m).verdict in let w = v.1 in cc)) in
         (out-later.untouched k l a m).0 ∙ sym (head-peers side k s l)
-    new-one s offset a (ByOpening f) d =
+    new-one s offset session a (ByOpening f i) d =
         let l = out-later.heads.given.facts_hold.openings k (and_parts (list_any (starts_opening k) (calls_of later)) _ f.opening).0 in
         let same : f.session ≡ s = ap session_id (sym f.is_established ∙ d) in
         let w = subst (λ (m : ℕ). head_left later k (stream_header k m) ≡ []) same f.whole in
@@ -71,14 +71,14 @@ module _ (side : Side) (frame : Option (List ℕ)) (turn : Turn) (t : (head : Li
         all-of-it side turn later [] q.0 (stream_header k s) (sent_on (actions_of later) k) q.1 w ∙ sym (head-local side k s l)
 
     recorded : (r : CallRecord) (s offset : ℕ) → RecordCause side turn later r → list_any (accepts_stream k) (r ∷ calls_of later) ≡ true → established_session (r ∷ calls_of later) ≡ Some (s, offset) → sent_on (actions_of later) k ≡ head_of side k s
-    recorded (StreamAccepted id) s offset y a d = known (is_accepted later k) refl
+    recorded (StreamAccepted id session) s offset y a d = known (is_accepted later k) refl
       where
         known : (b : Bool) → is_accepted later k ≡ b → sent_on (actions_of later) k ≡ head_of side k s
         known true e = older s offset e d
         known false e = found (id == k) refl a
           where
             found : (b : Bool) → (id == k) ≡ b → (b || list_any (accepts_stream k) (calls_of later)) ≡ true → sent_on (actions_of later) k ≡ head_of side k s
-            found true i a = new-one s offset e (subst (λ (j : ℕ). AcceptCause side turn later j) (eqb-true id k i) y) d
+            found true i a = new-one s offset session e (subst (λ (j : ℕ). AcceptCause side turn later j session) (eqb-true id k i) y) d
             found false i a = older s offset a d
     recorded (SessionEstablished id i) s offset y a d = absurd (no-new-session side later y.own y.before y.is y.under_way out-later.heads.given.handshakes (out-later.heads.given.in_session k a))
     recorded _ s offset y a d = older s offset a d
@@ -111,8 +111,8 @@ no-accept k (turns.Call _) bytes e = absurd (cc)
 no-accept k _ bytes e = absurd (cc)
 
 not-given-record : (side : Side) (turn : Turn) (k : ℕ) (log : Log) (r : CallRecord) → is_accept turn ≡ false → ((j : ℕ) → polls_opening j turn ≡ false) → RecordCause side turn log r → is_accepted log k ≡ false → list_any (accepts_stream k) (r ∷ calls_of log) ≡ false
-not-given-record side turn k log (StreamAccepted id) a b (ByAccept f) e = absurd (let x = f.accepts in cc)
-not-given-record side turn k log (StreamAccepted id) a b (ByOpening f) e = absurd (let x = f.polls in let y = b id in cc)
+not-given-record side turn k log (StreamAccepted id session) a b (ByAccept f s) e = absurd (let x = f.accepts in cc)
+not-given-record side turn k log (StreamAccepted id session) a b (ByOpening f s) e = absurd (let x = f.polls in let y = b id in cc)
 not-given-record side turn k log _ a b c e = e
 
 not-given-entries : (side : Side) (turn : Turn) (k : ℕ) → is_accept turn ≡ false → ((j : ℕ) → polls_opening j turn ≡ false) → KeepsEntries side turn (λ log. is_accepted log k ≡ false)

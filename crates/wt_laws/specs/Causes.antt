@@ -133,10 +133,10 @@ pub record OpenedStream (side : Side) (turn : Turn) (log : Log) (k : ℕ) : Type
   pub is_established : established_session (calls_of log) ≡ Some (session, offset)
   pub whole : head_left log k (stream_header k session) ≡ []
 
--- why an accept gives or passes this stream
-pub data AcceptCause (side : Side) (turn : Turn) (log : Log) (k : ℕ) : Type 0 where
-  ByAccept : FoundStream side turn log k true → AcceptCause side turn log k
-  ByOpening : OpenedStream side turn log k → AcceptCause side turn log k
+-- why an accept, or the poll of an opening, gives this stream of the session
+pub data AcceptCause (side : Side) (turn : Turn) (log : Log) (k session : ℕ) : Type 0 where
+  ByAccept : (found : FoundStream side turn log k true) → found.session ≡ session → AcceptCause side turn log k session
+  ByOpening : (opened : OpenedStream side turn log k) → opened.session ≡ session → AcceptCause side turn log k session
 
 -- the next datagram is of the session, or it isn't
 pub record FoundDatagram (side : Side) (turn : Turn) (log : Log) (for_session : Bool) : Type 0 where

@@ -16,7 +16,7 @@ use Rattle.wt_turn.specs.declared.reply.Reply.TheVariants as replies
 
 -- the call received a datagram
 abbrev pub receives : CallRecord → Bool
-receives DatagramReceived = true
+receives (DatagramReceived index) = true
 receives _ = false
 
 -- these indices, and one more where the test holds
@@ -38,7 +38,7 @@ pub record DatagramGiven (side : Side) (log : Log) (turn : Turn) (payload : List
   pub session : ℕ
   pub begins : ℕ
   pub is_established : established_session (calls_of log) ≡ Some (session, begins)
-  pub index : ℕ  -- so many came before it
+  pub index : ℕ  -- how many came before it
   pub piece : List ℕ
   pub arrived : slice_get (datagrams_of (events_of log)) index ≡ Some piece
   pub payload_is : payload_for session (well_formed piece) ≡ payload ∷ []

@@ -86,7 +86,7 @@ pub record TellsFirst (side : Side) (log : Log) (before after : StreamTable) : T
       → first_at decoder_start after.classified ≡ Some c → is_running (end_of (events_of log) c.0) ≡ false
       → after.progress.ending ≡ Some (ByFault h3.ClosedCriticalStream)
 
--- a moment that finds the connection open, which the driver hasn't ended, tells the first
+-- a moment that finds the connection open, which the driver hasn't ended, reports the first
 abbrev pub FirstIsReported : Side → Entry → Log → Type 0
 FirstIsReported side e log = is_moment e ≡ true → is_open (e ∷ log) ≡ true → (stream_table side log).progress.ending ≡ None
     → TellsFirst side (e ∷ log) (stream_table side log) (stream_table side (e ∷ log))

@@ -128,7 +128,7 @@ pub record EstablishedRightly (side : Side) (log : Log) (s offset : ℕ) : Type 
 abbrev pub SessionsRightly : Side → Log → Type 0
 SessionsRightly side log = (s offset : ℕ) → established_session (calls_of log) ≡ Some (s, offset) → EstablishedRightly side log s offset
 
--- a reply that tells of a session tells of the one that is established from then on
+-- a reply that reports a session reports the one that is established from then on
 abbrev pub SessionReported : Side → Log → Turn → Type 0
 SessionReported side log turn = (s : ℕ) → (answer_to side log turn).reply ≡ replies.Session s
     → (offset : ℕ) × (established_session (calls_of (log_after side log turn)) ≡ Some (s, offset))

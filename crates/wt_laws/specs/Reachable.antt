@@ -30,6 +30,6 @@ exchanges_from side log before (turn ∷ later) = exchanges_from side (log_after
 abbrev pub exchanges : Side → List Turn → List Exchange
 exchanges side all = exchanges_from side [] [] all
 
--- the stream is one of the first so many of the kind (RFC 9000, section 2.1)
+-- the stream is one of the first n of the kind (RFC 9000, section 2.1)
 abbrev pub is_among : ℕ → ℕ → ℕ → Bool
 is_among kind count k = k % 4 == kind && nat_lt (k / 4) count

@@ -1,7 +1,7 @@
 -- Why a call records what it does: each record has one of these causes, in the call that leaves it.
 use Rattle.std.specs.Prelude.{[], ◌%◌, ◌∷◌, ◌≡◌, ◌≤◌, List, Option, Some, false, length, nat_lt, true, ℕ}
 use Rattle.wt_seam_spec.specs.Outgoing.{may_open, next_id, actions_to_open}
-use Rattle.wt_turn.specs.Log.{BytesRead, CallRecord, ConnectStarted, DatagramPassed, DatagramReceived, HandshakeOver, Log, OpeningFailed, OpeningStarted, Polled, PrioritySet, RequestDelivered, ResetUnsent, ResponseStarted, Sent, SessionEstablished, StreamAccepted, StreamGivenUp, StreamPassed, calls_of, is_open, with_actions}
+use Rattle.wt_turn.specs.Log.{AcceptanceFailed, BytesRead, CallRecord, ConnectStarted, DatagramPassed, DatagramReceived, HandshakeOver, Log, OpeningFailed, OpeningStarted, Polled, PrioritySet, RequestDelivered, RequestRejected, ResetUnsent, ResponseStarted, Sent, SessionEstablished, StreamAccepted, StreamGivenUp, StreamPassed, calls_of, is_open, with_actions}
 use Rattle.wt_turn.specs.declared.action.Action.{Action}
 use Rattle.wt_turn.specs.declared.connecting_error.ConnectingError.{ConnectingError}
 use Rattle.wt_turn.specs.declared.turn.Turn.{Turn}
@@ -13,7 +13,7 @@ use Rattle.wt_turn.specs.Turns.{is_call}
 use Rattle.wt_spec.specs.Answers.{is_client, names}
 use Rattle.wt_spec.specs.Connect.{authority_of, path_of, request_head, reserved_name}
 use Rattle.wt_spec.specs.Connection.{is_opening, stream_header}
-use Rattle.wt_spec.specs.Driver.{established_session}
+use Rattle.wt_spec.specs.Driver.{established_session, released_datagrams}
 use Rattle.wt_spec.specs.Effect.{head_left}
 use Rattle.wt_spec.specs.Halves.{has_receiving_half, has_sending_half, is_done, unread_body}
 use Rattle.wt_spec.specs.Handshake.{AwaitingRequest, Requested, handshake_state, is_refused, queued_requests, requested_stream}
@@ -46,24 +46,30 @@ pub record ConnectCause (side : Side) (turn : Turn) (log : Log) (reserved : Opti
   pub request : head ≡ request_head (authority_of dials.to.url) (path_of dials.to.url) dials.to.headers
   pub reserves : reserved ≡ reserved_name dials.to.headers
 
--- why the call leaves no handshake and no session: no request comes any more; the connection ended, or the peer stopped the response,
--- before an acceptance was out; a rejection is over; or a connect failed
+-- why the call leaves no handshake and no session: no request comes any more, or a connect failed
 pub data OverCause (side : Side) (turn : Turn) (log : Log) : Type 0 where
   NoMoreRequests : turn ≡ turns.Call calls.Incoming → queued_requests side log ≡ [] → is_open log ≡ false → OverCause side turn log
-  AcceptanceEnded : (head : List ℕ) → ResponseFrom turn (calls_of log) true head → is_open log ≡ false → OverCause side turn log
-  AcceptanceStopped : (head : List ℕ) → ResponseFrom turn (calls_of log) true head
-      → is_refused log (requested_stream (calls_of log)) (head_left log (requested_stream (calls_of log)) head) ≡ true
-      → OverCause side turn log
-  RejectionEnded : RejectedCause side turn log → OverCause side turn log
   ConnectEnded : (e : ConnectingError) → ConnectFailedCause side turn log e → OverCause side turn log
 
--- a call ends the handshake that is under way, with its own actions before the record
-pub record OverBy (side : Side) (turn : Turn) (log : Log) : Type 0 where
+-- why the acceptance of a request failed: the connection ended, or the peer stopped the response, before all of it was out
+pub data AcceptanceCause (turn : Turn) (log : Log) : Type 0 where
+  AcceptanceEnded : (head : List ℕ) → ResponseFrom turn (calls_of log) true head → is_open log ≡ false → AcceptanceCause turn log
+  AcceptanceStopped : (head : List ℕ) → ResponseFrom turn (calls_of log) true head
+      → is_refused log (requested_stream (calls_of log)) (head_left log (requested_stream (calls_of log)) head) ≡ true
+      → AcceptanceCause turn log
+
+-- why the rejection of a request is over: it is that of the request that was delivered, whose reply is Rejected
+pub record RejectionCause (side : Side) (turn : Turn) (id : ℕ) (log : Log) : Type 0 where
+  pub same : id ≡ requested_stream (calls_of log)
+  pub why : RejectedCause side turn log
+
+-- a call ends the handshake that is under way for this cause, with its own actions before the record
+pub record OverBy (log : Log) (Cause : Log → Type 0) : Type 0 where
   pub before : Log
   pub own : List Action
   pub is : log ≡ with_actions own before
   pub under_way : is_under_way (handshake_state (calls_of before)) ≡ true
-  pub why : OverCause side turn before
+  pub why : Cause before
 
 -- ---- streams
 
@@ -86,7 +92,7 @@ pub data OpeningOver (side : Side) (turn : Turn) (log : Log) (k : ℕ) : Type 0 
       → established_session (calls_of log) ≡ Some (session, offset) → is_refused log k (head_left log k (stream_header k session)) ≡ true
       → OpeningOver side turn log k
 
--- why so many bytes of a stream count as read: the call reads it, asks for no fewer, and they came and weren't read before
+-- why this number of bytes of a stream counts as read: the call reads it, asks for no fewer, and they came and weren't read before
 pub record ReadCause (side : Side) (turn : Turn) (log : Log) (k count : ℕ) : Type 0 where
   pub reads : reads_from k turn ≡ true
   pub has_half : has_receiving_half side log k ≡ true
@@ -97,16 +103,18 @@ pub record ReadCause (side : Side) (turn : Turn) (log : Log) (k count : ℕ) : T
 
 -- why a call leaves this record
 abbrev pub RecordCause : Side → Turn → Log → CallRecord → Type 0
-RecordCause side turn log (StreamAccepted k) = AcceptCause side turn log k
+RecordCause side turn log (StreamAccepted k session) = AcceptCause side turn log k session
 RecordCause side turn log (StreamPassed k) = FoundStream side turn log k false
-RecordCause side turn log DatagramReceived = FoundDatagram side turn log true
+RecordCause side turn log (DatagramReceived index) = FoundDatagram side turn log true × (index ≡ released_datagrams (calls_of log))
 RecordCause side turn log DatagramPassed = FoundDatagram side turn log false
 RecordCause side turn log (RequestDelivered k) = DeliverCause side turn log k
 RecordCause side turn log (ResponseStarted accepts head) = ResponseFrom turn (calls_of log) accepts head × (id : ℕ)
     × (handshake_state (calls_of log) ≡ Requested id)
 RecordCause side turn log (ConnectStarted reserved head) = ConnectCause side turn log reserved head
 RecordCause side turn log (SessionEstablished id offset) = EstablishedBy side turn log id offset
-RecordCause side turn log HandshakeOver = OverBy side turn log
+RecordCause side turn log (RequestRejected id) = OverBy log (RejectionCause side turn id)
+RecordCause side turn log AcceptanceFailed = OverBy log (AcceptanceCause turn)
+RecordCause side turn log HandshakeOver = OverBy log (OverCause side turn)
 RecordCause side turn log (OpeningStarted k session) = OpeningCause side turn log k session
 RecordCause side turn log (OpeningFailed k) = OpeningOver side turn log k
 RecordCause side turn log (BytesRead k count) = ReadCause side turn log k count

@@ -203,7 +203,7 @@ pub record OpenedCause (side : Side) (turn : Turn) (log : Log) (k : ℕ) : Type 
   pub is_established : established_session (calls_of log) ≡ Some (session, offset)
   pub covers : is_covered log k (head_left log k (stream_header k session)) ≡ true
 
--- so many bytes of those handed in for a half that the application has went out, as far as credit went
+-- this number of the bytes handed in for a half that the application has went out, as far as credit went
 pub record WrittenCause (side : Side) (turn : Turn) (log : Log) (count : ℕ) : Type 0 where
   pub stream : ℕ
   pub bytes : List ℕ

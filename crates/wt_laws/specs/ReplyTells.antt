@@ -1,4 +1,4 @@
--- What replies tell of what calls did.
+-- What replies report of what calls did.
 use Rattle.std.specs.Prelude.{◌∷◌, ◌≡◌, Bool, List, None, Option, Some, false, length, true, ℕ}
 use Rattle.wt_turn.specs.Log.{BytesRead, CallRecord, DatagramPassed, DatagramReceived, Polled, RequestDelivered, SessionEstablished, StreamAccepted, StreamPassed}
 use Rattle.wt_turn.specs.declared.reply.Reply.{Reply}
@@ -37,7 +37,7 @@ abbrev pub request_reported : Reply → Option ℕ
 request_reported (replies.Request k headers) = Some k
 request_reported _ = None
 
--- it tells of no bytes, stream, datagram, session or request
+-- it reports no bytes, stream, datagram, session or request
 abbrev pub is_quiet : Reply → Bool
 is_quiet (replies.Read (Some (b ∷ piece))) = false
 is_quiet (replies.Exact (b ∷ piece)) = false
@@ -51,16 +51,16 @@ is_quiet (replies.Session s) = false
 is_quiet (replies.Request k headers) = false
 is_quiet _ = true
 
--- the reply tells of what was recorded
+-- the reply reports what was recorded
 abbrev pub TellsOf : Turn → CallRecord → Reply → Type 0
 TellsOf turn (BytesRead k count) reply = (piece : List ℕ) × (read_piece reply ≡ Some piece) × (count ≡ length piece) × (reads_from k turn ≡ true)
-TellsOf turn (StreamAccepted k) reply = given_stream reply ≡ Some k
-TellsOf turn DatagramReceived reply = (piece : List ℕ) × (datagram_reported reply ≡ Some piece)
+TellsOf turn (StreamAccepted k session) reply = given_stream reply ≡ Some k
+TellsOf turn (DatagramReceived index) reply = (piece : List ℕ) × (datagram_reported reply ≡ Some piece)
 TellsOf turn (SessionEstablished s offset) reply = session_reported reply ≡ Some s
 TellsOf turn (RequestDelivered k) reply = request_reported reply ≡ Some k
 TellsOf turn _ reply = is_quiet reply ≡ true
 
--- what a turn recorded, after what it passed, and what its reply tells of it
+-- what a turn recorded, after what it passed, and what its reply reports of it
 pub data Logged (turn : Turn) (before after : List CallRecord) (reply : Reply) : Type 0 where
   NoRecord : after ≡ before → is_quiet reply ≡ true → Logged turn before after reply
   OneRecord : (r : CallRecord) → after ≡ r ∷ before → TellsOf turn r reply → Logged turn before after reply

@@ -1,4 +1,4 @@
--- That what the transport tells in a turn gets into the log.
+-- That what the transport reports in a turn gets into the log.
 use Rattle.std.specs.Prelude.{[], ◌++◌, ◌≡◌, List, Some, true, ℕ}
 use Rattle.wt_seam_spec.specs.Arrivals.{event_entry}
 use Rattle.wt_seam_spec.specs.Streams.{contents}
@@ -19,7 +19,7 @@ pub record PieceArrives (before after : Log) (id : ℕ) (piece : List ℕ) : Typ
   pub is_in : contents after id ≡ contents before id ++ has_come
   pub whole : is_open after ≡ true → rest ≡ []
 
--- What the transport tells in a turn is in the log after it: an event once, and after it nothing but what the driver sends at it; of
+-- What the transport reports in a turn is in the log after it: an event once, and after it nothing but what the driver sends at it; of
 -- a piece every byte, up to the one at which the connection ends.
 pub record TellingArrives (side : Side) (log : Log) (turn : Turn) : Type 0 where
   pub event : (e : Event) → event_of turn ≡ Some e → log_after side log turn ≡ log_and_flush side log (event_entry (is_open log) e)

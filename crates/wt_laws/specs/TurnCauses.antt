@@ -28,7 +28,7 @@ pub data SentIn (side : Side) (turn : Turn) (start log : Log) (a : Action) : Typ
   ByDriver : (e : Entry) (earlier : Log) → GoesOnFrom start earlier → is_moment e ≡ true → is_open (e ∷ earlier) ≡ true
       → SinceMoment (e ∷ earlier) log → DriverCause side (e ∷ earlier) a → SentIn side turn start log a
 
--- the turn is the event of the transport that tells exactly this, and tells it first of all, while the connection is open or after its end
+-- the turn is the event of the transport that reports exactly this, and reports it first of all, while the connection is open or after its end
 abbrev pub IsReported : Turn → Log → Log → Bool → Event → Type 0
 IsReported turn start log was_open e = (event_of turn ≡ Some e) × (log ≡ start) × (is_open log ≡ was_open)
 
@@ -43,7 +43,7 @@ pub record IsNextByte (turn : Turn) (start log : Log) (id b : ℕ) : Type 0 wher
   pub has_come : contents log id ≡ contents start id ++ earlier
   pub was_open : is_open log ≡ true
 
--- why an entry comes in a turn, after this log: the transport tells it, or a call sends or records it, or the driver sends it
+-- why an entry comes in a turn, after this log: the transport reports it, or a call sends or records it, or the driver sends it
 abbrev pub EntryCause : Side → Turn → Log → Log → Entry → Type 0
 EntryCause side turn start log (Received id b) = IsNextByte turn start log id b
 EntryCause side turn start log (Reported e) = IsReported turn start log true e
@@ -73,7 +73,7 @@ pub record WentOut (side : Side) (earlier : Log) (a : Action) : Type 0 where
 abbrev pub ActionsWentOut : Side → Log → Type 0
 ActionsWentOut side log = (a : Action) (earlier : Log) → GoesOnFrom (Sent a ∷ earlier) log → WentOut side earlier a
 
--- what the turn records beside what it passes, and that its reply tells of it: a reply that gives a stream, a datagram, bytes, a
+-- what the turn records beside what it passes, and that its reply reports it: a reply that gives a stream, a datagram, bytes, a
 -- session or a request leaves its record, and a record of these comes with that reply
 pub record ReplyIsRecorded (side : Side) (log : Log) (turn : Turn) : Type 0 where
   pub decided : Log

@@ -27,7 +27,7 @@ pub fn lawful_turns_are_reachable()
 {}
 
 /// A session is established only after the peer's SETTINGS and a request or a response with
-/// success, on an open connection; there is at most one, and the reply tells of it. A request that
+/// success, on an open connection; there is at most one, and the reply reports it. A request that
 /// is given is in the bytes of its stream.
 #[tactic(auto, using(crate::proofs::Theorems::sessions_theorem, crate::proofs::Theorems::one_session_theorem, crate::proofs::Theorems::session_reported_theorem))]
 pub fn sessions_are_established_rightly()
@@ -54,8 +54,8 @@ pub fn reads_give_what_came()
     ensures reads { (side : Side) (all : List Turn) → AllLawful side [] all → ReadsInOrder side (exchanges side all) (log_from side [] all) }
 {}
 
-/// The datagrams received are those of the session among the first so many that were dequeued, which
-/// calls received or passed.
+/// The datagrams received are those of the session among the first n that were dequeued, which calls
+/// received or passed.
 #[tactic(auto, using(crate::proofs::Theorems::datagrams_theorem))]
 pub fn datagrams_come_in_order()
     ensures datagrams { (side : Side) (all : List Turn) → AllLawful side [] all → DatagramsInOrder side (exchanges side all) (log_from side [] all) }

@@ -27,7 +27,7 @@ pub fn turns_have_causes()
     ensures recorded { (side : Side) (log : Log) (turn : Turn) → is_lawful side log turn ≡ true → ReplyIsRecorded side log turn }
 {}
 
-/// What the transport tells in a turn is in the log after it: an event, and of a piece every byte up
+/// What the transport reports in a turn is in the log after it: an event, and of a piece every byte up
 /// to the one at which the connection ends.
 #[tactic(auto, using(crate::proofs::Telling::telling_theorem))]
 pub fn what_is_reported_arrives()

@@ -37,8 +37,8 @@ set-noted t u r id to s h q e o = record {
     by k true m = e ∙ ap (λ (j : ℕ). stream_use_after j r (use_as (use_now t j))) (eqb-true id k m)
     by k false m = sym (o k (use_as (use_now t k)) m)
 
-pub accepted_noted : (t u : TableValue) (id : ℕ) (to : table.StreamUse) → HasSet t u id to → use_as to ≡ record (use_as (use_now t id)) { giving = WasGiven } → HasNoted t u (StreamAccepted id)
-accepted_noted t u id to s e = set-noted t u (StreamAccepted id) id to s refl refl (rw (eq-eqb id id refl) e) (λ k v m. rw m refl)
+pub accepted_noted : (t u : TableValue) (id session : ℕ) (to : table.StreamUse) → HasSet t u id to → use_as to ≡ record (use_as (use_now t id)) { giving = WasGiven } → HasNoted t u (StreamAccepted id session)
+accepted_noted t u id session to s e = set-noted t u (StreamAccepted id session) id to s refl refl (rw (eq-eqb id id refl) e) (λ k v m. rw m refl)
 
 pub started_noted : (t u : TableValue) (id session : ℕ) (to : table.StreamUse) → HasSet t u id to → use_as to ≡ record (use_as (use_now t id)) { giving = giving_begun (use_as (use_now t id)).giving } → HasNoted t u (OpeningStarted id session)
 started_noted t u id session to s e = set-noted t u (OpeningStarted id session) id to s refl refl (rw (eq-eqb id id refl) e) (λ k v m. rw m refl)

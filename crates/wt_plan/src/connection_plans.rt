@@ -89,9 +89,15 @@ fn stream_header(alloc: Global, id: StreamId, session: SessionId) -> Result<Vec<
     Ok(out)
 }
 
-/// The header goes out as far as credit goes; once it is out, the stream is given.
-fn header_sent(alloc: Global, progress: HeadProgress, id: StreamId, own: Vec<Action>) -> Plan
-    ensures { defined_plan result ≡ header_sent (progress_as progress) id own.items }
+/// The header goes out as far as credit goes; once it is out, the stream of the session is given.
+fn header_sent(
+    alloc: Global,
+    progress: HeadProgress,
+    id: StreamId,
+    session: SessionId,
+    own: Vec<Action>,
+) -> Plan
+    ensures { defined_plan result ≡ header_sent (progress_as progress) id session own.items }
 {
     match progress {
         HeadProgress::Ended => Plan::only_record(
@@ -107,19 +113,25 @@ fn header_sent(alloc: Global, progress: HeadProgress, id: StreamId, own: Vec<Act
         HeadProgress::Short => Plan::send_and_reply(own, Reply::Pending),
         HeadProgress::AllOut => Plan::Step {
             own,
-            call: Record::StreamAccepted(id),
+            call: Record::StreamAccepted(id, session),
             reply: opened_reply(id),
         },
     }
 }
 
 /// What is left of a stream's header goes out.
-fn header_left(alloc: Global, t: &Transport, id: StreamId, left: &[u8]) -> Result<Plan, OutOfMemory>
-    ensures { (d : DriverAnswers) → IfOk result (λ p. defined_plan p ≡ header_left (facts_now t.now d) id left.now) }
+fn header_left(
+    alloc: Global,
+    t: &Transport,
+    id: StreamId,
+    session: SessionId,
+    left: &[u8],
+) -> Result<Plan, OutOfMemory>
+    ensures { (d : DriverAnswers) → IfOk result (λ p. defined_plan p ≡ header_left (facts_now t.now d) id session left.now) }
 {
     let progress = head_progress(t, id, left);
     let own = with_head(alloc, Vec::new(alloc), t, id, progress, left)?;
-    Ok(header_sent(alloc, progress, id, own))
+    Ok(header_sent(alloc, progress, id, session, own))
 }
 
 /// A stream that is being opened goes on.
@@ -130,10 +142,10 @@ pub fn poll_opening(
     session: SessionId,
 ) -> Result<Plan, OutOfMemory>
     ensures { (d : DriverAnswers)
-        → IfOk result (λ p. defined_plan p ≡ header_left (facts_now t.now d) id (left_of (facts_now t.now d) id (stream_header id session))) }
+        → IfOk result (λ p. defined_plan p ≡ header_left (facts_now t.now d) id session (left_of (facts_now t.now d) id (stream_header id session))) }
 {
     let head = stream_header(alloc, id, session)?;
-    header_left(alloc, t, id, left_of(t, id, head.as_slice()))
+    header_left(alloc, t, id, session, left_of(t, id, head.as_slice()))
 }
 
 // ---- datagrams

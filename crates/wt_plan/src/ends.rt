@@ -1,4 +1,4 @@
-//! How the connection ended, as the transport tells it.
+//! How the connection ended, as the transport reports it.
 ghost use Rattle.std.specs.Prelude.{◌≡◌, IfOk};
 ghost use Rattle.wt_spec.specs.Effect.{loss_or_local};
 
@@ -7,7 +7,7 @@ use wt_transport::Transport;
 use wt_turn::connection_error::ConnectionError;
 use wt_wire::error::OutOfMemory;
 
-/// How the connection ended, as the transport tells it: its loss, or a local close.
+/// How the connection ended, as the transport reports it: its loss, or a local close.
 pub fn transport_error(alloc: Global, t: &Transport) -> Result<ConnectionError, OutOfMemory>
     ensures { IfOk result (λ error. error ≡ loss_or_local t.now.loss) }
 {

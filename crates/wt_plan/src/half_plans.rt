@@ -188,7 +188,7 @@ pub fn reset(alloc: Global, t: &Transport, id: StreamId, code: VarInt) -> Result
     Ok(Plan::only_record(alloc, Record::ResetUnsent(id, code), Reply::Done))
 }
 
-/// The reply that tells a priority.
+/// The reply that returns a priority.
 fn priority_reply(answer: Result<i32, ClosedStream>) -> Reply
     ensures { result ≡ priority_reply answer }
 {

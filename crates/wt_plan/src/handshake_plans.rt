@@ -73,7 +73,7 @@ fn acceptance(
     match progress {
         HeadProgress::Ended => {
             let error = transport_error(alloc, t)?;
-            Ok(Plan::fail_with(Vec::new(alloc), Reply::Failed(error)))
+            Ok(Plan::fail_acceptance_with(Vec::new(alloc), error))
         }
         HeadProgress::Refused => {
             let error = ConnectionError::LocalH3Error(H3Error::new(
@@ -81,7 +81,7 @@ fn acceptance(
             ));
             let code = ErrorCode::ClosedCriticalStream.to_code();
             let own = with_close(alloc, Vec::new(alloc), t.is_open(), code)?;
-            Ok(Plan::fail_with(own, Reply::Failed(error)))
+            Ok(Plan::fail_acceptance_with(own, error))
         }
         HeadProgress::Short => Ok(Plan::Step {
             own,
@@ -102,13 +102,13 @@ fn finished_rejection(
     waiting: Record,
 ) -> Result<Plan, OutOfMemory>
     ensures { (d : DriverAnswers)
-        → IfOk result (λ p. defined_plan p ≡ finished_rejection (facts_now t.now d) (sending_now t.now id) (record_of waiting)) }
+        → IfOk result (λ p. defined_plan p ≡ finished_rejection (facts_now t.now d) id (sending_now t.now id) (record_of waiting)) }
 {
     // The close waits for the peer to have the response: it would lose what isn't acknowledged (RFC 9000,
     // section 10.2).
     if t.stop_code(id).is_some() || t.is_acknowledged(id) {
         let own = with_close(alloc, Vec::new(alloc), t.is_open(), VarInt::from_u32(0))?;
-        return Ok(Plan::fail_with(own, Reply::Rejected));
+        return Ok(Plan::reject_with(id, own));
     }
     Ok(Plan::only_record(alloc, waiting, Reply::Pending))
 }
@@ -148,11 +148,11 @@ fn rejection(
         → IfOk result (λ p. defined_plan p ≡ rejection (progress_as progress) (facts_now t.now d) id own.items (record_of waiting)) }
 {
     match progress {
-        HeadProgress::Ended => Ok(Plan::fail_with(Vec::new(alloc), Reply::Rejected)),
+        HeadProgress::Ended => Ok(Plan::reject_with(id, Vec::new(alloc))),
         HeadProgress::Refused => {
             let code = ErrorCode::ClosedCriticalStream.to_code();
             let own = with_close(alloc, Vec::new(alloc), t.is_open(), code)?;
-            Ok(Plan::fail_with(own, Reply::Rejected))
+            Ok(Plan::reject_with(id, own))
         }
         HeadProgress::Short => Ok(Plan::Step {
             own,

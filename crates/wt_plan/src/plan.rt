@@ -9,6 +9,7 @@ ghost use Rattle.wt_session_spec.specs.Plan as session;
 
 use std::alloc::Global;
 use wt_turn::action::Action;
+use wt_turn::connection_error::ConnectionError;
 use wt_turn::piece::Piece;
 use wt_turn::record::Record;
 use wt_turn::reply::Reply;
@@ -119,7 +120,29 @@ impl Plan {
         }
     }
 
-    /// The handshake is over, with no session.
+    /// There is no session of the request, and the acceptance is over.
+    pub fn fail_acceptance_with(own: Vec<Action>, error: ConnectionError) -> Plan
+        ensures { defined_plan result ≡ session.fail_acceptance_with own.items error }
+    {
+        Plan::Step {
+            own,
+            call: Record::AcceptanceFailed,
+            reply: Reply::Failed(error),
+        }
+    }
+
+    /// The rejection of the request is over, and there is no session.
+    pub fn reject_with(id: StreamId, own: Vec<Action>) -> Plan
+        ensures { defined_plan result ≡ session.reject_with id own.items }
+    {
+        Plan::Step {
+            own,
+            call: Record::RequestRejected(id),
+            reply: Reply::Rejected,
+        }
+    }
+
+    /// A connect failed, or no request comes any more: there is no session.
     pub fn fail_with(own: Vec<Action>, reply: Reply) -> Plan
         ensures { defined_plan result ≡ session.Step own.items HandshakeOver reply }
     {

@@ -276,7 +276,7 @@ impl SessionTable {
 
     #[tactic(auto, using(crate::proofs::Noted::accepted_noted))]
     fn accept(&mut self, id: StreamId) -> Result<(), OutOfMemory>
-        ensures { OnOk result (HasNoted self.old self.new (StreamAccepted id)) }
+        ensures { (session : ℕ) → OnOk result (HasNoted self.old self.new (StreamAccepted id session)) }
     {
         let to = self.stream_use(id).with(Giving::WasGiven);
         self.set_use(id, to)
@@ -321,8 +321,10 @@ impl SessionTable {
                 self.handshake = Handshake::Responding(accepts, head);
             }
             Record::SessionEstablished(id, _) => self.handshake = Handshake::Established(id),
-            Record::HandshakeOver => self.handshake = Handshake::Over,
-            Record::StreamAccepted(id) => return self.accept(id),
+            Record::RequestRejected(_) | Record::AcceptanceFailed | Record::HandshakeOver => {
+                self.handshake = Handshake::Over;
+            }
+            Record::StreamAccepted(id, _) => return self.accept(id),
             Record::OpeningStarted(id, _) => return self.begin_opening(id),
             Record::OpeningFailed(id) => return self.fail_opening(id),
             Record::StreamGivenUp(id) => return self.give_up(id),

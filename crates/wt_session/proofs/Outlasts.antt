@@ -7,7 +7,7 @@ use Rattle.wt_laws.proofs.Reached.{keeps-turn}
 use Rattle.wt_laws.proofs.Steps.{KeepsEntries, by-entries}
 use Rattle.wt_laws.specs.Causes.{ByAcceptance, ByAnswer, ByRejection, ByResponse, ConnectTo, EstablishCause, FromBefore, ResponseFrom, head_frame_of}
 use Rattle.wt_laws.specs.Reachable.{IsReachable}
-use Rattle.wt_laws.specs.RecordCauses.{AcceptanceEnded, AcceptanceStopped, ConnectEnded, NoMoreRequests, OverCause, RecordCause, RejectionEnded}
+use Rattle.wt_laws.specs.RecordCauses.{AcceptanceCause, AcceptanceEnded, AcceptanceStopped, ConnectEnded, NoMoreRequests, OverCause, RecordCause}
 use Rattle.wt_laws.specs.ReplyCauses.{AfterSuccess, BeforeConnection, BeforeRequest, BeforeResponse, BeforeSettings, BeforeStream, ByRefusal, ByReserved, ByResponseFault, ByStatus, ByStreamEnd, ConnectFailedCause, ConnectionEnded, NoAddress, NoUrl, NotHttps, NotProceeding, RejectedCause, RejectionOver, RejectionRefused}
 use Rattle.wt_plan.proofs.AnswersSame.{request_end_kept}
 use Rattle.wt_plan.specs.PlansAgree.{KeepsRequestEnd}
@@ -20,7 +20,7 @@ use Rattle.wt_spec.specs.Answers.{call_effect, is_client, is_first, may_call}
 use Rattle.wt_spec.specs.Handshake.{awaits_request, handshake_state, requested_stream}
 use Rattle.wt_agreement.proofs.Theorems.{call_first_theorem}
 use Rattle.wt_agreement.proofs.Turns.{goes-on}
-use Rattle.wt_turn.specs.Log.{CallRecord, ConnectStarted, HandshakeOver, Log, RequestDelivered, ResponseStarted, SessionEstablished, calls_of}
+use Rattle.wt_turn.specs.Log.{AcceptanceFailed, CallRecord, ConnectStarted, HandshakeOver, Log, RequestDelivered, RequestRejected, ResponseStarted, SessionEstablished, calls_of}
 use Rattle.wt_turn.specs.declared.action.Action.{Action}
 use Rattle.wt_turn.specs.declared.call.Call.{Call}
 use Rattle.wt_turn.specs.declared.call.Call.TheVariants as calls
@@ -79,10 +79,11 @@ module _ (side : Side) (call : Call) (p : is_past_handshake call ≡ true) where
 
   not-over : (log : Log) → OverCause side (turns.Call call) log → ⊥
   not-over log (NoMoreRequests t q o) = not-this calls.Incoming t refl
-  not-over log (AcceptanceEnded head from o) = no-response (calls_of log) true head from
-  not-over log (AcceptanceStopped head from r) = no-response (calls_of log) true head from
-  not-over log (RejectionEnded w) = not-rejected log w
   not-over log (ConnectEnded e w) = not-failed log e w
+
+  not-unaccepted : (log : Log) → AcceptanceCause (turns.Call call) log → ⊥
+  not-unaccepted log (AcceptanceEnded head from o) = no-response (calls_of log) true head from
+  not-unaccepted log (AcceptanceStopped head from r) = no-response (calls_of log) true head from
 
   -- its record leaves the handshake where it was
   record-as-before : (log : Log) (r : CallRecord) → RecordCause side (turns.Call call) log r → (cs : List CallRecord) → (handshake_state (r ∷ cs) ≡ handshake_state cs) × (requested_stream (r ∷ cs) ≡ requested_stream cs)
@@ -90,6 +91,8 @@ module _ (side : Side) (call : Call) (p : is_past_handshake call ≡ true) where
   record-as-before log (ResponseStarted accepts head) c cs = absurd (no-response (calls_of log) accepts head c.0)
   record-as-before log (ConnectStarted reserved head) c cs = absurd (not-to c.dials.to)
   record-as-before log (SessionEstablished id offset) c cs = absurd (not-established c.before c.own id offset c.how)
+  record-as-before log (RequestRejected id) c cs = absurd (not-rejected c.before c.why.why)
+  record-as-before log AcceptanceFailed c cs = absurd (not-unaccepted c.before c.why)
   record-as-before log HandshakeOver c cs = absurd (not-over c.before c.why)
   record-as-before log _ c cs = (refl, refl)
 

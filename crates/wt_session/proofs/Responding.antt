@@ -22,7 +22,7 @@ use Rattle.wt_calls.proofs.Ends.{step_delivers}
 use Rattle.wt_session_spec.proofs.Theorems.{planned_theorem}
 use Rattle.wt_session_spec.specs.CallFacts.{CallFacts, facts_of}
 use Rattle.wt_session_spec.specs.HandshakePlans.{AllOut, Ended, HeadProgress, Refused, Short, acceptance, actions_of_head, continued_by, finished_rejection, left_of, head_progress_of, rejection, response_left, response_plan}
-use Rattle.wt_session_spec.specs.Plan.{Establish, Plan, Step, closing_with, fail_with, perform}
+use Rattle.wt_session_spec.specs.Plan.{Establish, Plan, Step, closing_with, perform, reject_with}
 use Rattle.wt_session_spec.specs.Plans.{plan_of}
 use Rattle.wt_session_spec.specs.SessionState.{SessionState, is_answering, session_state}
 use Rattle.wt_spec.specs.Answers.{call_effect, is_client, is_first, may_call}
@@ -31,7 +31,7 @@ use Rattle.wt_spec.specs.Handshake.{HandshakeState, awaits_answer, handshake_sta
 use Rattle.wt_agreement.proofs.DriverTheorems.{drivers_tell_theorem}
 use Rattle.wt_agreement.proofs.Theorems.{logged_theorem, stays_theorem}
 use Rattle.wt_agreement.specs.Delivering.{delivers_request}
-use Rattle.wt_turn.specs.Log.{CallRecord, HandshakeOver, Log, ResponseStarted, calls_of}
+use Rattle.wt_turn.specs.Log.{AcceptanceFailed, CallRecord, Log, RequestRejected, ResponseStarted, calls_of}
 use Rattle.wt_turn.specs.declared.action.Action.{Action}
 use Rattle.wt_turn.specs.declared.call.Call.{Call}
 use Rattle.wt_turn.specs.declared.call.Call.TheVariants as calls
@@ -105,13 +105,13 @@ module _ (side : Side) (log : Log) where
 
 abbrev IsAcceptancePlan : CallRecord → Plan → Type 0
 IsAcceptancePlan waiting (Step own r replies.Pending) = r ≡ waiting
-IsAcceptancePlan waiting (Step own r (replies.Failed e)) = r ≡ HandshakeOver
+IsAcceptancePlan waiting (Step own r (replies.Failed e)) = r ≡ AcceptanceFailed
 IsAcceptancePlan waiting (Establish own id offset) = Unit {0}
 IsAcceptancePlan waiting _ = ⊥
 
 abbrev IsRejectionPlan : CallRecord → Plan → Type 0
 IsRejectionPlan waiting (Step own r replies.Pending) = r ≡ waiting
-IsRejectionPlan waiting (Step own r replies.Rejected) = r ≡ HandshakeOver
+IsRejectionPlan waiting (Step own r replies.Rejected) = (id : ℕ) × (r ≡ RequestRejected id)
 IsRejectionPlan waiting _ = ⊥
 
 abbrev IsResponsePlan : Bool → CallRecord → Plan → Type 0
@@ -130,10 +130,10 @@ module _ (f : CallFacts) (id : ℕ) (own : List Action) (waiting : CallRecord) w
 
   rejection-plan : (p : HeadProgress) → IsRejectionPlan waiting (rejection p f id own waiting)
   rejection-plan AllOut =
-      either (IsRejectionPlan waiting) (not (f.sending id).finished) _ (finished_rejection f (f.sending id) waiting) refl
-      (either (IsRejectionPlan waiting) _ (fail_with (closing_with f 0) replies.Rejected) (Step [] waiting replies.Pending) refl refl)
-  rejection-plan Ended = refl
-  rejection-plan Refused = refl
+      either (IsRejectionPlan waiting) (not (f.sending id).finished) _ (finished_rejection f id (f.sending id) waiting) refl
+      (either (IsRejectionPlan waiting) _ (reject_with id (closing_with f 0)) (Step [] waiting replies.Pending) (id, refl) refl)
+  rejection-plan Ended = (id, refl)
+  rejection-plan Refused = (id, refl)
   rejection-plan Short = refl
 
 response-planned : (f : CallFacts) (accepts : Bool) (id : ℕ) (left : List ℕ) (waiting : CallRecord) → IsResponsePlan accepts waiting (response_left accepts f id left waiting)
@@ -150,16 +150,19 @@ module _ (waiting : CallRecord) (w : is_some (requested_by waiting) ≡ false) w
   step-none : (own : List Action) (r : CallRecord) (reply : Reply) → r ≡ waiting → delivers_request (Step own r reply) ≡ false
   step-none own r reply e = step_delivers own r reply ∙ ap (λ (x : CallRecord). is_some (requested_by x)) e ∙ w
 
-  over-none : (own : List Action) (r : CallRecord) (reply : Reply) → r ≡ HandshakeOver → delivers_request (Step own r reply) ≡ false
-  over-none own r reply e = step_delivers own r reply ∙ ap (λ (x : CallRecord). is_some (requested_by x)) e
+  unaccepted-none : (own : List Action) (r : CallRecord) (reply : Reply) → r ≡ AcceptanceFailed → delivers_request (Step own r reply) ≡ false
+  unaccepted-none own r reply e = step_delivers own r reply ∙ ap (λ (x : CallRecord). is_some (requested_by x)) e
+
+  rejected-none : (own : List Action) (r : CallRecord) (reply : Reply) (id : ℕ) → r ≡ RequestRejected id → delivers_request (Step own r reply) ≡ false
+  rejected-none own r reply id e = step_delivers own r reply ∙ ap (λ (x : CallRecord). is_some (requested_by x)) e
 
   delivers-none : (accepts : Bool) (p : Plan) → IsResponsePlan accepts waiting p → delivers_request p ≡ false
   delivers-none true (Step own r replies.Pending) k = step-none own r replies.Pending k
-  delivers-none true (Step own r (replies.Failed e)) k = over-none own r (replies.Failed e) k
+  delivers-none true (Step own r (replies.Failed e)) k = unaccepted-none own r (replies.Failed e) k
   delivers-none true (Establish own id offset) k = refl
   delivers-none true _ k = absurd k
   delivers-none false (Step own r replies.Pending) k = step-none own r replies.Pending k
-  delivers-none false (Step own r replies.Rejected) k = over-none own r replies.Rejected k
+  delivers-none false (Step own r replies.Rejected) k = rejected-none own r replies.Rejected k.0 k.1
   delivers-none false _ k = absurd k
 
 -- a plan of a response replies as one does

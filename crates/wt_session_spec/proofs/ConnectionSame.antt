@@ -32,18 +32,18 @@ module _ (side : Side) (log : Log) where
       by true m = rw m refl
       by false m = rw m refl
 
-  same-header : (k : ℕ) (left : List ℕ) → continue_opening side log k left ≡ perform side log (header_left (facts_of side log) k left)
-  same-header k left = by (is_open log) refl (is_refused log k left) refl (nat_lt (credit_left log k) (length left)) refl
+  same-header : (k session : ℕ) (left : List ℕ) → continue_opening side log k session left ≡ perform side log (header_left (facts_of side log) k session left)
+  same-header k session left = by (is_open log) refl (is_refused log k left) refl (nat_lt (credit_left log k) (length left)) refl
     where
       by : (o : Bool) → is_open log ≡ o → (r : Bool) → is_refused log k left ≡ r → (s : Bool) → nat_lt (credit_left log k) (length left) ≡ s
-          → continue_opening side log k left ≡ perform side log (header_left (facts_of side log) k left)
+          → continue_opening side log k session left ≡ perform side log (header_left (facts_of side log) k session left)
       by false o r r' s s' = rw o refl
       by true o true r s s' = rw (o, r) refl
       by true o false r true s = rw (o, r, covered-test log k left, s) refl
       by true o false r false s = rw (o, r, covered-test log k left, s) refl
 
   pub same-poll : (k session : ℕ) → poll_opening side log k session ≡ perform side log (poll_plan (facts_of side log) (session_state log) k session)
-  same-poll k session = rw (same-opening log k) (split side log (is_opening log k) _ _ _ _ (same-header k (head_left log k (stream_header k session))) refl)
+  same-poll k session = rw (same-opening log k) (split side log (is_opening log k) _ _ _ _ (same-header k session (head_left log k (stream_header k session))) refl)
 
   -- ---- sending datagrams
 

@@ -56,7 +56,7 @@ use Rattle.wt_session_spec.specs.HandshakePlans.{abandon_plan, failed_connect, l
 use Rattle.wt_session_spec.specs.HalfPlans.{read_exact_plan, exact_plan}
 use Rattle.wt_session_spec.specs.Plans.{in_session_now, may_call_now, plan_of, with_half}
 use Rattle.wt_session_spec.specs.SessionState.{has_receiving_now, has_sending_now, is_opening_now}
-use Rattle.wt_session_spec.specs.Plan.{Establish, Plan, Step, closing_with, fail_with, only_reply, send_and_reply}
+use Rattle.wt_session_spec.specs.Plan.{Establish, Plan, Step, closing_with, fail_with, only_reply, reject_with, send_and_reply}
 use Rattle.wt_session_spec.specs.SessionState.{session_state}
 use Rattle.wt_spec.specs.Handshake.{Connecting, HandshakeState, Responding, awaits_answer, handshake_state, has_success, requested_stream, response_head}
 use Rattle.wt_turn.specs.declared.connecting_error.ConnectingError.TheVariants as connects
@@ -111,11 +111,11 @@ module _ (side : Side) (log : Log) where
   opening-may kind session k =
       plan-if (not (is_open log)) _ _ (λ e. tt) (λ e. plan-if (may_open side log kind) _ _ (λ m. (next-may kind k m, tt)) (λ m. tt))
 
-  header-may : (p : HeadProgress) (k : ℕ) (own : List Action) → MayActAll side log own → MayPlan side log (header_sent p k own)
-  header-may Ended k own m = tt
-  header-may Refused k own m = tt
-  header-may Short k own m = m
-  header-may AllOut k own m = m
+  header-may : (p : HeadProgress) (k session : ℕ) (own : List Action) → MayActAll side log own → MayPlan side log (header_sent p k session own)
+  header-may Ended k session own m = tt
+  header-may Refused k session own m = tt
+  header-may Short k session own m = m
+  header-may AllOut k session own m = m
 
   -- ---- a server's response
 
@@ -138,7 +138,7 @@ module _ (side : Side) (log : Log) where
         plan-if (not (is_finished (actions_of log) k)) _ _
         (λ e. may-both side (send_of k left) (actions.Finish k ∷ []) log m
         ((sends-may side k left log ∙ half-may side log k (all-out (is_open log) (sending_half log k) left p).0 there (flip (is_finished (actions_of log) k) e) unreset ((all-out (is_open log) (sending_half log k) left p).1 (λ n. true-false (finished n) (flip (is_finished (actions_of log) k) e)))), tt))
-        (λ e. plan-if (is_some (stop_of (events_of log) k) || (sending_half log k).acknowledged) (fail_with (closing_with (facts_of side log) 0) replies.Rejected) (Step [] waiting replies.Pending) (λ s. closing-may 0) (λ s. tt))
+        (λ e. plan-if (is_some (stop_of (events_of log) k) || (sending_half log k).acknowledged) (reject_with k (closing_with (facts_of side log) 0)) (Step [] waiting replies.Pending) (λ s. closing-may 0) (λ s. tt))
       where
         flip : (b : Bool) → not b ≡ true → b ≡ false
         flip true e = absurd cc
@@ -280,8 +280,8 @@ module _ (side : Side) (log : Log) where
   poll-may : (h : HalfFacts side log) (k session : ℕ) → MayPlan side log (poll_plan (facts_of side log) (session_state log) k session)
   poll-may h k session =
       let left = left_of (facts_of side log) k (stream_header k session) in
-      plan-if (is_opening_now (session_state log) k) (header_left (facts_of side log) k left) (only_reply replies.NoStream)
-      (λ o. header-may (head_progress_of (facts_of side log) k left) k (actions_of_head (facts_of side log) k left) (head-may side log k left (λ n. h.opening k o))) (λ o. tt)
+      plan-if (is_opening_now (session_state log) k) (header_left (facts_of side log) k session left) (only_reply replies.NoStream)
+      (λ o. header-may (head_progress_of (facts_of side log) k left) k session (actions_of_head (facts_of side log) k left) (head-may side log k left (λ n. h.opening k o))) (λ o. tt)
 
   datagram-may : (payload : List ℕ) (session : ℕ) → MayPlan side log (datagram_plan (facts_of side log) payload session)
   datagram-may payload session =

@@ -19,7 +19,7 @@ use Rattle.wt_seam_spec.specs.Sent.{is_finished}
 use Rattle.wt_seam_spec.specs.Streams.{can_send, local_bi, local_count, local_uni, stream_count}
 use Rattle.wt_session_spec.proofs.OwnActionsKeep.{counted-both, more-counted}
 use Rattle.wt_session_spec.proofs.Classified.{queued-found}
-use Rattle.wt_session_spec.proofs.RecordsMay.{accepted-made, connect-made, connected-made, delivered-made, given-made, given-up-made, opening-made, over-made, polled-made, priority-made, read-made, reading-made, reset-made, started-made, unopened-made}
+use Rattle.wt_session_spec.proofs.RecordsMay.{accepted-made, connect-made, connected-made, delivered-made, given-made, given-up-made, opening-made, over-made, polled-made, priority-made, read-made, reading-made, rejected-made, reset-made, started-made, unaccepted-made, unopened-made}
 use Rattle.wt_session_spec.specs.OwnActions.{HalfFacts}
 use Rattle.wt_session_spec.specs.Performing.{MayBeMade, RecordMayBeMade}
 use Rattle.wt_session_spec.specs.RecordFacts.{AnswersRequest, Connects, RecordFacts}
@@ -29,7 +29,7 @@ use Rattle.wt_session_spec.specs.ConnectPlans.{dialled_at, dialled_to, dialled_u
 use Rattle.wt_session_spec.specs.ConnectionPlans.{close_plan, datagram_by, datagram_if, datagram_plan, header_left, header_sent, opening_plan, poll_plan}
 use Rattle.wt_session_spec.specs.HalfPlans.{exact_plan, finish_actions, finish_plan, priority_plan, read_exact_plan, read_plan, reset_plan, set_priority_plan, stop_plan, stopped_plan, write_actions, write_all_plan, write_plan}
 use Rattle.wt_session_spec.specs.HandshakePlans.{AllOut, Ended, HeadProgress, Refused, Short, abandon_plan, acceptance, actions_of_head, wait_plan, continued_by, continued_connect, delivery, failed_connect, handshake_plan, left_of, lost_connect, head_progress_of, refusal_code, rejection, request_left, request_plan, request_sent, request_unless, response_left, response_read, start_plan}
-use Rattle.wt_session_spec.specs.Plan.{AcceptBi, AcceptUni, Establish, Plan, Receive, Step, closing_with, fail_with, only_reply, send_and_reply, while_open}
+use Rattle.wt_session_spec.specs.Plan.{AcceptBi, AcceptUni, Establish, Plan, Receive, Step, closing_with, fail_with, only_reply, reject_with, send_and_reply, while_open}
 use Rattle.wt_session_spec.specs.Plans.{in_session_now, may_call_now, may_respond_now, plan_of, with_half}
 use Rattle.wt_session_spec.specs.SessionState.{has_receiving_now, has_sending_now, is_answering, is_opening_now, session_state}
 use Rattle.wt_spec.proofs.Named.{established-so}
@@ -42,7 +42,7 @@ use Rattle.wt_spec.specs.Halves.{unread_body}
 use Rattle.wt_spec.specs.Handshake.{Connecting, HandshakeState, Requested, Responding, awaits_answer, handshake_state, has_success, queued_requests, requested_stream, response_head}
 use Rattle.wt_spec.specs.StreamTable.{Classified, dispatched_streams}
 use Rattle.wt_streams.specs.HalfRules.{is_closed, read_count, too_few}
-use Rattle.wt_turn.specs.Log.{BytesRead, CallRecord, HandshakeOver, Log, Polled, PrioritySet, ResponseStarted, Sent, StreamAccepted, actions_of, calls_of, events_of, is_open, with_actions}
+use Rattle.wt_turn.specs.Log.{AcceptanceFailed, BytesRead, CallRecord, HandshakeOver, Log, Polled, PrioritySet, RequestRejected, ResponseStarted, Sent, StreamAccepted, actions_of, calls_of, events_of, is_open, with_actions}
 use Rattle.wt_turn.specs.declared.action.Action.{Action}
 use Rattle.wt_turn.specs.declared.action.Action.TheVariants as actions
 use Rattle.wt_turn.specs.declared.call.Call.{Call}
@@ -78,6 +78,12 @@ module _ (side : Side) (log : Log) where
   fails : (own : List Action) → MayBeMade side (with_actions own log) HandshakeOver
   fails own = over-made side (with_actions own log)
 
+  unaccepted : (own : List Action) → MayBeMade side (with_actions own log) AcceptanceFailed
+  unaccepted own = unaccepted-made side (with_actions own log)
+
+  rejects : (id : ℕ) (own : List Action) → MayBeMade side (with_actions own log) (RequestRejected id)
+  rejects id own = rejected-made side (with_actions own log) id
+
   -- ---- a server's request
 
   module _ (r : RecordFacts side log) where
@@ -96,18 +102,18 @@ module _ (side : Side) (log : Log) where
 
   module _ (waiting : CallRecord) (w : (own : List Action) → MayBeMade side (with_actions own log) waiting) (a : AnswersRequest side log) where
     acceptance-made : (p : HeadProgress) (own : List Action) → RecordMayBeMade side log (acceptance p (facts_of side log) (requested_stream (calls_of log)) own waiting)
-    acceptance-made Ended own = fails []
-    acceptance-made Refused own = fails (closing_with (facts_of side log) refusal_code)
+    acceptance-made Ended own = unaccepted []
+    acceptance-made Refused own = unaccepted (closing_with (facts_of side log) refusal_code)
     acceptance-made Short own = w own
     acceptance-made AllOut own = accepted-made side log own (requested_stream (calls_of log)) (facts_of side log).request_end a.server a.queued
 
     rejection-made : (p : HeadProgress) (k : ℕ) (own : List Action) → RecordMayBeMade side log (rejection p (facts_of side log) k own waiting)
-    rejection-made Ended k own = fails []
-    rejection-made Refused k own = fails (closing_with (facts_of side log) refusal_code)
+    rejection-made Ended k own = rejects k []
+    rejection-made Refused k own = rejects k (closing_with (facts_of side log) refusal_code)
     rejection-made Short k own = w own
     rejection-made AllOut k own =
         plan-if (not (is_finished (actions_of log) k)) _ _ (λ e. w (own ++ actions.Finish k ∷ []))
-        (λ e. plan-if (is_some (stop_of (events_of log) k) || (sending_half log k).acknowledged) (fail_with (closing_with (facts_of side log) 0) replies.Rejected) (Step [] waiting replies.Pending) (λ s. fails (closing_with (facts_of side log) 0)) (λ s. w []))
+        (λ e. plan-if (is_some (stop_of (events_of log) k) || (sending_half log k).acknowledged) (reject_with k (closing_with (facts_of side log) 0)) (Step [] waiting replies.Pending) (λ s. rejects k (closing_with (facts_of side log) 0)) (λ s. w []))
 
     response-made : (accepts : Bool) (left : List ℕ) → RecordMayBeMade side log (response_left accepts (facts_of side log) (requested_stream (calls_of log)) left waiting)
     response-made true left = acceptance-made (head_progress_of (facts_of side log) (requested_stream (calls_of log)) left) (actions_of_head (facts_of side log) (requested_stream (calls_of log)) left)
@@ -222,17 +228,17 @@ module _ (side : Side) (log : Log) where
       plan-if (not (is_open log)) _ _ (λ e. polls [])
       (λ e. plan-if (may_open side log kind) _ _ (λ m. opening-made side log (Sent (actions.Opened (next_id side log kind)) ∷ log) kind session o is) (λ m. polls []))
 
-  header-made : (p : HeadProgress) (k : ℕ) (own : List Action) → MayBeMade side (with_actions own log) (StreamAccepted k) → RecordMayBeMade side log (header_sent p k own)
-  header-made Ended k own g = unopened-made side log k
-  header-made Refused k own g = unopened-made side log k
-  header-made Short k own g = polls own
-  header-made AllOut k own g = g
+  header-made : (p : HeadProgress) (k session : ℕ) (own : List Action) → MayBeMade side (with_actions own log) (StreamAccepted k session) → RecordMayBeMade side log (header_sent p k session own)
+  header-made Ended k session own g = unopened-made side log k
+  header-made Refused k session own g = unopened-made side log k
+  header-made Short k session own g = polls own
+  header-made AllOut k session own g = g
 
   poll-made : RecordFacts side log → (k session : ℕ) → RecordMayBeMade side log (poll_plan (facts_of side log) (session_state log) k session)
   poll-made r k session =
       let left = left_of (facts_of side log) k (stream_header k session) in
-      plan-if (is_opening_now (session_state log) k) (header_left (facts_of side log) k left) (only_reply replies.NoStream)
-      (λ o. header-made (head_progress_of (facts_of side log) k left) k (actions_of_head (facts_of side log) k left) (given-made side log (actions_of_head (facts_of side log) k left) k (r.opening k o))) (λ o. polls [])
+      plan-if (is_opening_now (session_state log) k) (header_left (facts_of side log) k session left) (only_reply replies.NoStream)
+      (λ o. header-made (head_progress_of (facts_of side log) k left) k session (actions_of_head (facts_of side log) k left) (given-made side log (actions_of_head (facts_of side log) k left) k session (r.opening k o))) (λ o. polls [])
 
   datagram-made : (payload : List ℕ) (session : ℕ) → RecordMayBeMade side log (datagram_plan (facts_of side log) payload session)
   datagram-made payload session =

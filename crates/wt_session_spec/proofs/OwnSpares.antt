@@ -25,7 +25,7 @@ use Rattle.wt_session_spec.specs.ConnectPlans.{dialled_at, dialled_to, dialled_u
 use Rattle.wt_session_spec.specs.ConnectionPlans.{close_plan, datagram_by, datagram_if, datagram_plan, header_left, header_sent, opening_plan, poll_plan}
 use Rattle.wt_session_spec.specs.HalfPlans.{bytes_out, exact_plan, finish_actions, finish_plan, priority_plan, read_exact_plan, read_plan, reset_plan, set_priority_plan, stop_plan, stopped_plan, write_actions, write_all_plan, write_plan}
 use Rattle.wt_session_spec.specs.HandshakePlans.{AllOut, Ended, HeadProgress, Refused, Short, abandon_plan, acceptance, actions_of_head, wait_plan, continued_by, continued_connect, delivery, failed_connect, handshake_plan, head_actions, left_of, lost_connect, head_progress_of, rejection, request_left, request_plan, request_sent, request_unless, response_left, response_read, start_plan}
-use Rattle.wt_session_spec.specs.Plan.{AcceptBi, AcceptUni, Establish, Plan, Receive, Step, closing_with, fail_with, only_reply, send_and_reply}
+use Rattle.wt_session_spec.specs.Plan.{AcceptBi, AcceptUni, Establish, Plan, Receive, Step, closing_with, fail_with, only_reply, reject_with, send_and_reply}
 use Rattle.wt_session_spec.specs.Plans.{in_session_now, may_call_now, may_respond_now, plan_of, with_half}
 use Rattle.wt_session_spec.specs.SessionState.{has_receiving_now, has_sending_now, is_answering, is_opening_now, session_state}
 use Rattle.wt_spec.specs.Answers.{is_client, named_session}
@@ -141,7 +141,7 @@ module _ (side : Side) (log : Log) where
   rejection-apart Short id own waiting e a = a
   rejection-apart AllOut id own waiting e a =
       plan-if (not (is_finished (actions_of log) id)) _ _ (λ n. apart-both (local_uni side) own (actions.Finish id ∷ []) a ((refl, refl, e, refl), tt))
-      (λ n. plan-if (is_some (stop_of (events_of log) id) || (sending_half log id).acknowledged) (fail_with (closing_with (facts_of side log) 0) replies.Rejected) (Step [] waiting replies.Pending) (λ s. closing-apart 0) (λ s. tt))
+      (λ n. plan-if (is_some (stop_of (events_of log) id) || (sending_half log id).acknowledged) (reject_with id (closing_with (facts_of side log) 0)) (Step [] waiting replies.Pending) (λ s. closing-apart 0) (λ s. tt))
 
   response-apart : (accepts : Bool) (id : ℕ) (left : List ℕ) (waiting : CallRecord) → (id == local_uni side) ≡ false → Apart (response_left accepts (facts_of side log) id left waiting)
   response-apart true id left waiting e =
@@ -238,17 +238,17 @@ module _ (side : Side) (log : Log) where
 
   -- ---- the session
 
-  header-apart : (p : HeadProgress) (k : ℕ) (own : List Action) → AllApart (local_uni side) own → Apart (header_sent p k own)
-  header-apart Ended k own a = tt
-  header-apart Refused k own a = tt
-  header-apart Short k own a = a
-  header-apart AllOut k own a = a
+  header-apart : (p : HeadProgress) (k session : ℕ) (own : List Action) → AllApart (local_uni side) own → Apart (header_sent p k session own)
+  header-apart Ended k session own a = tt
+  header-apart Refused k session own a = tt
+  header-apart Short k session own a = a
+  header-apart AllOut k session own a = a
 
   poll-apart : RecordFacts side log → (k session : ℕ) → Apart (poll_plan (facts_of side log) (session_state log) k session)
   poll-apart r k session =
       let left = left_of (facts_of side log) k (stream_header k session) in
-      plan-if (is_opening_now (session_state log) k) (header_left (facts_of side log) k left) (only_reply replies.NoStream)
-      (λ o. header-apart (head_progress_of (facts_of side log) k left) k (actions_of_head (facts_of side log) k left) (head-apart (local_uni side) k (head_progress_of (facts_of side log) k left) (sending_half log k) left (r.opening k o).apart))
+      plan-if (is_opening_now (session_state log) k) (header_left (facts_of side log) k session left) (only_reply replies.NoStream)
+      (λ o. header-apart (head_progress_of (facts_of side log) k left) k session (actions_of_head (facts_of side log) k left) (head-apart (local_uni side) k (head_progress_of (facts_of side log) k left) (sending_half log k) left (r.opening k o).apart))
       (λ o. tt)
 
   datagram-apart : (payload : List ℕ) (session : ℕ) → Apart (datagram_plan (facts_of side log) payload session)

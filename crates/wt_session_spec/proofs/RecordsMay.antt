@@ -20,7 +20,7 @@ use Rattle.wt_spec.specs.Driver.{established_session, stream_table}
 use Rattle.wt_spec.specs.Halves.{has_receiving_half, unread_body}
 use Rattle.wt_spec.specs.Handshake.{awaits_answer, handshake_state}
 use Rattle.wt_spec.specs.StreamTable.{StreamTable, verdict_of}
-use Rattle.wt_turn.specs.Log.{BytesRead, CallRecord, ConnectStarted, HandshakeOver, Log, OpeningFailed, OpeningStarted, Polled, PrioritySet, RequestDelivered, ResetUnsent, ResponseStarted, Sent, SessionEstablished, StreamAccepted, StreamGivenUp, actions_of, calls_of, events_of, is_open, with_actions}
+use Rattle.wt_turn.specs.Log.{AcceptanceFailed, BytesRead, CallRecord, ConnectStarted, HandshakeOver, Log, OpeningFailed, OpeningStarted, Polled, PrioritySet, RequestDelivered, RequestRejected, ResetUnsent, ResponseStarted, Sent, SessionEstablished, StreamAccepted, StreamGivenUp, actions_of, calls_of, events_of, is_open, with_actions}
 use Rattle.wt_turn.specs.declared.action.Action.{Action}
 use Rattle.wt_wire.specs.declared.side.Side.{Side}
 use Rattle.wt_wire.specs.declared.side.Side.TheVariants.{Client, Server}
@@ -32,6 +32,12 @@ polled-made side log = record { may = tt; can = tt; half = tt }
 
 pub over-made : (side : Side) (log : Log) → MayBeMade side log HandshakeOver
 over-made side log = record { may = tt; can = tt; half = tt }
+
+pub unaccepted-made : (side : Side) (log : Log) → MayBeMade side log AcceptanceFailed
+unaccepted-made side log = record { may = tt; can = tt; half = tt }
+
+pub rejected-made : (side : Side) (log : Log) (id : ℕ) → MayBeMade side log (RequestRejected id)
+rejected-made side log id = record { may = tt; can = tt; half = tt }
 
 pub unopened-made : (side : Side) (log : Log) (k : ℕ) → MayBeMade side log (OpeningFailed k)
 unopened-made side log k = record { may = tt; can = tt; half = tt }
@@ -103,8 +109,8 @@ opening-made side log later kind session opened is =
     record { may = given-local side (next_id side log kind) given; can = given; half = tt }
 
 -- an opening that is through gives its stream
-pub given-made : (side : Side) (log : Log) (own : List Action) (k : ℕ) → OpensForSession side log k → MayBeMade side (with_actions own log) (StreamAccepted k)
-given-made side log own k o = record {
+pub given-made : (side : Side) (log : Log) (own : List Action) (k session : ℕ) → OpensForSession side log k → MayBeMade side (with_actions own log) (StreamAccepted k session)
+given-made side log own k session o = record {
   may = or_left (has_local_kind side k) (names_session (verdict_of k (stream_table side (with_actions own log)).classified)) (given-local side k o.given);
   can = (
     ap (λ (t : StreamTable). may_give (role_of side k) (classified_of k t.classified)) (table-after side own log) ∙ ap (may_give (role_of side k)) o.unclassified ∙ o.given,

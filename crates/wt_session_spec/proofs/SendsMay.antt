@@ -74,7 +74,7 @@ module _ (side : Side) (log : Log) (k : ℕ) where
   pub half-may : is_open log ≡ true → can_send side log k ≡ true → is_finished (actions_of log) k ≡ false → is_reset log k ≡ false → is_some (stop_of (events_of log) k) ≡ false → may_send side log k ≡ true
   half-may o c f r s = λ i. o i && c i && not (f i) && not (r i) && not (s i)
 
-  -- so many bytes go out whole
+  -- bytes within credit go out whole
   pub bytes-may : (bytes : List ℕ) → ((bytes ≡ [] → ⊥) → may_send side log k ≡ true) → length bytes ≤ credit_left log k → MayActAll side log (send_of k bytes)
   bytes-may [] m l = tt
   bytes-may (b ∷ bytes) m l = ((m (λ e. absurd cc), ap (send_of k) (take_all (credit_left log k) (b ∷ bytes) l)), tt)

@@ -1,4 +1,4 @@
--- What a session keeps of each stream tells what the application has of it, and each call changes it step by step.
+-- What a session keeps of each stream says what the application has of it, and each call changes it step by step.
 use Rattle.std.specs.Prelude.{[], ◌&&◌, ◌==◌, ◌||◌, ◌∷◌, ◌≡◌, Bool, List, None, false, not, true, ℕ}
 use Rattle.std.specs.List.{list_any}
 use Rattle.std.proofs.Common.{◌∙◌, ap, refl}
@@ -47,7 +47,7 @@ giving-after : (k : ℕ) (r : CallRecord) (cs : List CallRecord) → giving_afte
 unfolding did
 giving-after k (OpeningStarted id session) cs = giving-begun (id == k) (list_any (starts_opening k) cs) (list_any (ends_opening k) cs) (list_any (accepts_stream k) cs)
 giving-after k (OpeningFailed id) cs = giving-failed (id == k) (list_any (starts_opening k) cs) (list_any (ends_opening k) cs) (list_any (accepts_stream k) cs)
-giving-after k (StreamAccepted id) cs = giving-given (id == k) (list_any (starts_opening k) cs) (list_any (ends_opening k) cs) (list_any (accepts_stream k) cs)
+giving-after k (StreamAccepted id session) cs = giving-given (id == k) (list_any (starts_opening k) cs) (list_any (ends_opening k) cs) (list_any (accepts_stream k) cs)
 giving-after k _ cs = refl
 
 giving-did : (k : ℕ) (cs : List CallRecord) → giving_of k cs ≡ did k cs

@@ -27,8 +27,8 @@ pub record CallFacts : Type 0 where
   -- the connection
   pub is_open : Bool
   pub is_connected : Bool  -- while it was open
-  pub transport_error : ConnectionError  -- how it ended, as the transport tells it
-  pub driver_error : ConnectionError  -- and as the driver tells it
+  pub transport_error : ConnectionError  -- how it ended, as the transport reports it
+  pub driver_error : ConnectionError  -- and as the driver reports it
   pub datagram_fact : Option DatagramFact
   -- the handshake
   pub settings_came : Bool
@@ -41,7 +41,7 @@ pub record CallFacts : Type 0 where
   pub may_open : ℕ → Bool  -- of each kind
   pub next_id : ℕ → ℕ
   pub sending : ℕ → SendingHalf  -- of each stream
-  pub sent : ℕ → ℕ  -- so many bytes went out on it
+  pub sent : ℕ → ℕ  -- how many bytes went out on it
   pub unread : ℕ → List ℕ  -- what came after its header and wasn't read
   pub end : ℕ → StreamEnd
 

@@ -25,21 +25,21 @@ opening_plan f kind session =
     then Step (actions.Opened (f.next_id kind) ∷ []) (OpeningStarted (f.next_id kind) session) (replies.Opening (f.next_id kind))
     else only_reply replies.Pending)
 
--- the header goes out as far as credit goes; once it is out, the stream is given
-abbrev pub header_sent : HeadProgress → ℕ → List Action → Plan
-header_sent Ended k own = Step [] (OpeningFailed k) (replies.OpeningFailed openings.NotConnected)
-header_sent Refused k own = Step [] (OpeningFailed k) (replies.OpeningFailed openings.Refused)
-header_sent Short k own = send_and_reply own replies.Pending
-header_sent AllOut k own = Step own (StreamAccepted k) (opened_reply k)
+-- the header goes out as far as credit goes; once it is out, the stream of the session is given
+abbrev pub header_sent : HeadProgress → ℕ → ℕ → List Action → Plan
+header_sent Ended k session own = Step [] (OpeningFailed k) (replies.OpeningFailed openings.NotConnected)
+header_sent Refused k session own = Step [] (OpeningFailed k) (replies.OpeningFailed openings.Refused)
+header_sent Short k session own = send_and_reply own replies.Pending
+header_sent AllOut k session own = Step own (StreamAccepted k session) (opened_reply k)
 
 -- what is left of a stream's header goes out
-abbrev pub header_left : CallFacts → ℕ → List ℕ → Plan
-header_left f k left = header_sent (head_progress_of f k left) k (actions_of_head f k left)
+abbrev pub header_left : CallFacts → ℕ → ℕ → List ℕ → Plan
+header_left f k session left = header_sent (head_progress_of f k left) k session (actions_of_head f k left)
 
 -- a poll of a stream that is being opened
 abbrev pub poll_plan : CallFacts → SessionState → ℕ → ℕ → Plan
 poll_plan f s k session =
-    if is_opening_now s k then header_left f k (left_of f k (stream_header k session)) else only_reply replies.NoStream
+    if is_opening_now s k then header_left f k session (left_of f k (stream_header k session)) else only_reply replies.NoStream
 
 -- ---- sending datagrams
 

@@ -82,7 +82,7 @@ reset_plan f k code =
     if is_closed (f.sending k) then only_reply replies.ClosedStream else
     (if f.is_open then send_and_reply (actions.ResetOut k code ∷ []) replies.Done else Step [] (ResetUnsent k code) replies.Done)
 
--- the reply that tells a priority
+-- the reply that returns a priority
 abbrev pub priority_reply : Result ℤ ClosedStream → Reply
 priority_reply (Ok priority) = replies.Priority priority
 priority_reply (Err e) = replies.ClosedStream
@@ -97,7 +97,7 @@ set_priority_plan f k priority = if is_closed (f.sending k) then only_reply repl
 
 -- ---- reading
 
--- the record of a read of so many bytes
+-- the record of a read of n bytes
 abbrev pub read_record : ℕ → ℕ → CallRecord
 read_record k zero = Polled
 read_record k (suc n) = BytesRead k (suc n)
@@ -109,18 +109,18 @@ reply_of_read bytes (Ready (Ok None)) = replies.Read None
 reply_of_read bytes (Ready (Ok (Some count))) = replies.Read (Some (take count bytes))
 reply_of_read bytes (Ready (Err e)) = replies.ReadFailed e
 
--- at most so many of the unread bytes
+-- the unread bytes, at most this size of them
 abbrev pub read_plan : CallFacts → ℕ → ℕ → Plan
 read_plan f k size = Step [] (read_record k (read_count (receiving_facts f k) size)) (reply_of_read (f.unread k) (read_answer f.is_open (receiving_facts f k) size))
 
--- a read of exactly so many bytes, with what is unread: too few bytes are taken only where no more can come
+-- a read of exactly this size, with what is unread: too few bytes are taken only where no more can come
 abbrev pub exact_plan : ℕ → ℕ → List ℕ → Poll (Result (Unit {0}) StreamReadExactError) → Plan
 exact_plan k size bytes Pending = only_reply replies.Pending
 exact_plan k size bytes (Ready (Ok u)) = Step [] (BytesRead k size) (replies.Exact (take size bytes))
 exact_plan k size bytes (Ready (Err (exacts.FinishedEarly count))) = Step [] (BytesRead k count) (replies.ExactFailed (exacts.FinishedEarly count) bytes)
 exact_plan k size bytes (Ready (Err (exacts.Read e))) = only_reply (replies.ExactFailed (exacts.Read e) [])
 
--- exactly so many of the unread bytes
+-- as many of the unread bytes as the size says
 abbrev pub read_exact_plan : CallFacts → ℕ → ℕ → Plan
 read_exact_plan f k size = exact_plan k size (f.unread k) (read_exact_answer f.is_open (receiving_facts f k) size)
 

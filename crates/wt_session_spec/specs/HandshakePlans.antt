@@ -14,7 +14,7 @@ use Rattle.wt_spec.specs.Effect.{is_empty}
 use Rattle.wt_spec.specs.Handshake.{Connecting, HandshakeState, Responding, has_success, request_fields_of}
 use Rattle.wt_spec.specs.StreamTable.{Classified}
 use Rattle.wt_session_spec.specs.CallFacts.{CallFacts}
-use Rattle.wt_session_spec.specs.Plan.{Establish, Plan, Step, closing_with, fail_with, only_reply, send_and_reply}
+use Rattle.wt_session_spec.specs.Plan.{Establish, Plan, Step, closing_with, fail_acceptance_with, fail_with, only_reply, reject_with, send_and_reply}
 use Rattle.wt_session_spec.specs.SessionState.{SessionState}
 use Rattle.wt_turn.specs.declared.action.Action.TheVariants as actions
 use Rattle.wt_turn.specs.declared.connecting_error.ConnectingError.TheVariants as connects
@@ -77,26 +77,26 @@ refusal_code = code_of h3.ClosedCriticalStream
 
 -- an acceptance: refused by the peer it is a fault, all of it out it establishes the session
 abbrev pub acceptance : HeadProgress → CallFacts → ℕ → List Action → CallRecord → Plan
-acceptance Ended f id own waiting = fail_with [] (replies.Failed f.transport_error)
-acceptance Refused f id own waiting = fail_with (closing_with f refusal_code) (replies.Failed (errors.LocalH3Error h3.ClosedCriticalStream))
+acceptance Ended f id own waiting = fail_acceptance_with [] f.transport_error
+acceptance Refused f id own waiting = fail_acceptance_with (closing_with f refusal_code) (errors.LocalH3Error h3.ClosedCriticalStream)
 acceptance Short f id own waiting = Step own waiting replies.Pending
 acceptance AllOut f id own waiting = Establish own id f.request_end
 
 -- a rejection whose response is out and finished is over as soon as the peer has it, or doesn't want it
-abbrev pub finished_rejection : CallFacts → SendingHalf → CallRecord → Plan
-finished_rejection f half waiting =
-    if is_some half.stop || half.acknowledged then fail_with (closing_with f 0) replies.Rejected else Step [] waiting replies.Pending
+abbrev pub finished_rejection : CallFacts → ℕ → SendingHalf → CallRecord → Plan
+finished_rejection f id half waiting =
+    if is_some half.stop || half.acknowledged then reject_with id (closing_with f 0) else Step [] waiting replies.Pending
 
 -- a rejection whose response is out is finished once
 abbrev pub rejection_out : CallFacts → ℕ → List Action → CallRecord → Plan
 rejection_out f id own waiting =
     if not (f.sending id).finished then Step (own ++ actions.Finish id ∷ []) waiting replies.Pending
-    else finished_rejection f (f.sending id) waiting
+    else finished_rejection f id (f.sending id) waiting
 
 -- a rejection: its response goes out as far as credit goes, and then the stream is finished
 abbrev pub rejection : HeadProgress → CallFacts → ℕ → List Action → CallRecord → Plan
-rejection Ended f id own waiting = fail_with [] replies.Rejected
-rejection Refused f id own waiting = fail_with (closing_with f refusal_code) replies.Rejected
+rejection Ended f id own waiting = reject_with id []
+rejection Refused f id own waiting = reject_with id (closing_with f refusal_code)
 rejection Short f id own waiting = Step own waiting replies.Pending
 rejection AllOut f id own waiting = rejection_out f id own waiting
 

@@ -1,8 +1,9 @@
 -- What a call does, as data: its own actions, what it records, and its reply.
 use Rattle.std.specs.Prelude.{[], ◌∷◌, List, if◌then◌else◌, ℕ}
 use Rattle.wt_seam_spec.specs.Streams.{peer_bi, peer_uni}
-use Rattle.wt_turn.specs.Log.{CallRecord, HandshakeOver, Log, Polled, SessionEstablished}
+use Rattle.wt_turn.specs.Log.{AcceptanceFailed, CallRecord, HandshakeOver, Log, Polled, RequestRejected, SessionEstablished}
 use Rattle.wt_turn.specs.declared.action.Action.{Action}
+use Rattle.wt_turn.specs.declared.connection_error.ConnectionError.{ConnectionError}
 use Rattle.wt_turn.specs.declared.reply.Reply.{Reply}
 use Rattle.wt_wire.specs.declared.side.Side.{Side}
 use Rattle.wt_spec.specs.Connection.{accept_stream, receive_datagram}
@@ -35,9 +36,17 @@ send_and_reply own reply = Step own Polled reply
 abbrev pub only_reply : Reply → Plan
 only_reply reply = send_and_reply [] reply
 
--- the handshake is over, with no session
+-- a connect failed, or no request comes any more
 abbrev pub fail_with : List Action → Reply → Plan
 fail_with own reply = Step own HandshakeOver reply
+
+-- there is no session of the request, and the acceptance is over
+abbrev pub fail_acceptance_with : List Action → ConnectionError → Plan
+fail_acceptance_with own e = Step own AcceptanceFailed (replies.Failed e)
+
+-- the rejection of the request is over, and there is no session
+abbrev pub reject_with : ℕ → List Action → Plan
+reject_with id own = Step own (RequestRejected id) replies.Rejected
 
 -- the action, where the connection is open
 abbrev pub while_open : CallFacts → Action → List Action

@@ -40,7 +40,7 @@ changed_if false f g = g
 abbrev pub giving_after : ℕ → CallRecord → Giving → Giving
 giving_after k (OpeningStarted id session) g = changed_if (id == k) giving_begun g
 giving_after k (OpeningFailed id) g = changed_if (id == k) giving_failed g
-giving_after k (StreamAccepted id) g = changed_if (id == k) (λ before. WasGiven) g
+giving_after k (StreamAccepted id session) g = changed_if (id == k) (λ before. WasGiven) g
 giving_after k _ g = g
 
 -- whether stream k was given

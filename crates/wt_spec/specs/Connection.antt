@@ -53,16 +53,16 @@ abbrev pub pass_stream : Side → Log → ℕ → Log
 pass_stream side log k = log_call side log (actions.StopOut k (code_of h3.BufferedStreamRejected) ∷ []) (StreamPassed k)
 
 -- a stream of the session is given, another one passed
-abbrev pub give_or_pass : Bool → Side → (ℕ → Reply) → (Log → Effect) → Log → ℕ → Effect
-give_or_pass true side reply again log k = poll_only side (log_call side log [] (StreamAccepted k)) (reply k)
-give_or_pass false side reply again log k = again (pass_stream side log k)
+abbrev pub give_or_pass : Bool → Side → (ℕ → Reply) → (Log → Effect) → ℕ → Log → ℕ → Effect
+give_or_pass true side reply again s log k = poll_only side (log_call side log [] (StreamAccepted k s)) (reply k)
+give_or_pass false side reply again s log k = again (pass_stream side log k)
 
 -- the stream that is due is given or passed; without one the call waits or fails
 abbrev pub accept_due : Side → (ℕ → Reply) → (Log → Effect) → ℕ → Log → Option Classified → Effect
 accept_due side reply again s log None = poll_only side log (pending_or_failed side log)
-accept_due side reply again s log (Some c) = give_or_pass (is_for_session s c.verdict) side reply again log c.id
+accept_due side reply again s log (Some c) = give_or_pass (is_for_session s c.verdict) side reply again s log c.id
 
--- the first stream of the session; it looks again after each that it passes, at most so many times
+-- the first stream of the session; it looks again after each that it passes, at most n times
 abbrev pub accept_first : ℕ → Side → (ℕ → Reply) → ℕ → ℕ → Log → Effect
 accept_first zero side reply kind s log = poll_only side log (pending_or_failed side log)
 accept_first (suc n) side reply kind s log = accept_due side reply (λ later. accept_first n side reply kind s later) s log (next_due side log kind s)
@@ -88,9 +88,9 @@ next_datagram side log =
     if nat_lt (released_datagrams (calls_of log)) (stream_table side log).progress.datagrams
     then read_datagram (slice_get (datagrams_of (events_of log)) (released_datagrams (calls_of log))) else None
 
--- a datagram of the session is given, another one passed
+-- a datagram of the session is given, another one passed; those that came before it are the released ones
 abbrev pub receive_or_pass : Bool → Side → (Log → Effect) → Log → List ℕ → Effect
-receive_or_pass true side again log payload = poll_only side (log_call side log [] DatagramReceived) (replies.Datagram payload)
+receive_or_pass true side again log payload = poll_only side (log_call side log [] (DatagramReceived (released_datagrams (calls_of log)))) (replies.Datagram payload)
 receive_or_pass false side again log payload = again (log_call side log [] DatagramPassed)
 
 -- the datagram that is due is given or passed; without one the call waits or fails
@@ -98,7 +98,7 @@ abbrev pub receive_next : Side → (Log → Effect) → ℕ → Log → Option (
 receive_next side again s log None = poll_only side log (pending_or_failed side log)
 receive_next side again s log (Some d) = receive_or_pass (4 * d.0 == s) side again log d.1
 
--- the first datagram of the session; it looks again after each that it passes, at most so many times
+-- the first datagram of the session; it looks again after each that it passes, at most n times
 abbrev pub receive_first : ℕ → Side → ℕ → Log → Effect
 receive_first zero side s log = poll_only side log (pending_or_failed side log)
 receive_first (suc n) side s log = receive_next side (λ later. receive_first n side s later) s log (next_datagram side log)
@@ -124,7 +124,7 @@ starts_opening k _ = false
 
 -- the call gave this stream to the application
 abbrev pub accepts_stream : ℕ → CallRecord → Bool
-accepts_stream k (StreamAccepted id) = id == k
+accepts_stream k (StreamAccepted id session) = id == k
 accepts_stream k _ = false
 
 -- the call ended the opening of this stream
@@ -144,23 +144,23 @@ stream_header k s = varint_bytes (if is_bidirectional k then 0x41 else 0x54) ++ 
 abbrev pub opened_reply : ℕ → Reply
 opened_reply k = if is_bidirectional k then replies.BiReady k else replies.SendReady k
 
--- the header goes out as far as credit goes; once it is out, the stream is given
-abbrev pub send_header : Side → Log → ℕ → List ℕ → Effect
-send_header side log k left =
-    if is_covered log k left then reply_with (log_call side log (send_of k left) (StreamAccepted k)) (opened_reply k)
+-- the header goes out as far as credit goes; once it is out, the stream of the session is given
+abbrev pub send_header : Side → Log → ℕ → ℕ → List ℕ → Effect
+send_header side log k s left =
+    if is_covered log k left then reply_with (log_call side log (send_of k left) (StreamAccepted k s)) (opened_reply k)
     else poll_sending side log (send_of k (bytes_within_credit log k left)) replies.Pending
 
 -- an opening goes on, unless the connection ended or the peer stopped the stream
-abbrev pub continue_opening : Side → Log → ℕ → List ℕ → Effect
-continue_opening side log k left =
+abbrev pub continue_opening : Side → Log → ℕ → ℕ → List ℕ → Effect
+continue_opening side log k s left =
     if not (is_open log) then reply_with (log_call side log [] (OpeningFailed k)) (replies.OpeningFailed openings.NotConnected) else
     (if is_refused log k left then reply_with (log_call side log [] (OpeningFailed k)) (replies.OpeningFailed openings.Refused)
-    else send_header side log k left)
+    else send_header side log k s left)
 
 -- a poll of a stream that is being opened
 abbrev pub poll_opening : Side → Log → ℕ → ℕ → Effect
 poll_opening side log k s =
-    if is_opening log k then continue_opening side log k (head_left log k (stream_header k s)) else poll_only side log replies.NoStream
+    if is_opening log k then continue_opening side log k s (head_left log k (stream_header k s)) else poll_only side log replies.NoStream
 
 -- ---- sending datagrams
 

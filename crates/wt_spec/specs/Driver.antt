@@ -43,7 +43,7 @@ transport_view side log = record {
 
 -- an accept gave the stream, or passed it
 abbrev pub releases : ℕ → CallRecord → Bool
-releases k (StreamAccepted id) = id == k
+releases k (StreamAccepted id session) = id == k
 releases k (StreamPassed id) = id == k
 releases k _ = false
 
@@ -54,7 +54,7 @@ delivers k _ = false
 
 -- the call received a datagram, or passed one
 abbrev pub releases_datagram : CallRecord → Bool
-releases_datagram DatagramReceived = true
+releases_datagram (DatagramReceived index) = true
 releases_datagram DatagramPassed = true
 releases_datagram _ = false
 

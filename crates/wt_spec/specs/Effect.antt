@@ -44,7 +44,7 @@ abbrev pub loss_or_local : Option LossReason → ConnectionError
 loss_or_local None = errors.LocallyClosed
 loss_or_local (Some reason) = error_of_loss reason
 
--- the end as the transport tells it: its loss, or a local close
+-- the end as the transport reports it: its loss, or a local close
 abbrev pub transport_error : Log → ConnectionError
 transport_error log = loss_or_local (loss_of (events_of log))
 
@@ -54,7 +54,7 @@ error_of_ending log None = transport_error log
 error_of_ending log (Some (ByFault code)) = errors.LocalH3Error code
 error_of_ending log (Some (BySession code reason by_capsule)) = errors.ApplicationClosed (record { code = code; reason = reason })
 
--- the end as the driver tells it: its own fault, or the session's end, where one of these closed the connection
+-- the end as the driver reports it: its own fault, or the session's end, where one of these closed the connection
 abbrev pub driver_error : Side → Log → ConnectionError
 driver_error side log = error_of_ending log (stream_table side log).progress.ending
 

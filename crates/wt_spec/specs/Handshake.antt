@@ -11,7 +11,7 @@ use Rattle.wt_seam_spec.specs.Outgoing.{bytes_within_credit, may_open, actions_t
 use Rattle.wt_seam_spec.specs.Reports.{end_of, is_acknowledged, is_connected, stop_of}
 use Rattle.wt_seam_spec.specs.Sent.{is_finished}
 use Rattle.wt_seam_spec.specs.Streams.{contents, local_bi, local_count}
-use Rattle.wt_turn.specs.Log.{CallRecord, ConnectStarted, HandshakeOver, Log, Polled, RequestDelivered, ResponseStarted, SessionEstablished, actions_of, calls_of, events_of, is_open}
+use Rattle.wt_turn.specs.Log.{AcceptanceFailed, CallRecord, ConnectStarted, HandshakeOver, Log, Polled, RequestDelivered, RequestRejected, ResponseStarted, SessionEstablished, actions_of, calls_of, events_of, is_open}
 use Rattle.wt_turn.specs.declared.action.Action.{Action}
 use Rattle.wt_turn.specs.declared.connecting_error.ConnectingError.{ConnectingError}
 use Rattle.wt_turn.specs.declared.connection_error.ConnectionError.{ConnectionError}
@@ -48,6 +48,8 @@ after_record (RequestDelivered id) = Some (Requested id)
 after_record (ResponseStarted accepts head) = Some (Responding accepts head)
 after_record (ConnectStarted reserved head) = Some (Connecting reserved head)
 after_record (SessionEstablished id offset) = Some (Established id)
+after_record (RequestRejected id) = Some Over
+after_record AcceptanceFailed = Some Over
 after_record HandshakeOver = Some Over
 after_record _ = None
 
@@ -56,7 +58,7 @@ abbrev pub handshake_state : List CallRecord → HandshakeState
 handshake_state [] = AwaitingRequest
 handshake_state (r ∷ earlier) = elim (after_record r) [ Some s ↦ s | None ↦ handshake_state earlier ]
 
--- the handshake is over, with no session
+-- a connect failed, or no request comes any more
 abbrev pub fail_handshake : Side → Log → List Action → Reply → Effect
 fail_handshake side log own reply = reply_with (log_call side log own HandshakeOver) reply
 
@@ -110,29 +112,37 @@ response_head digits headers = headers_frame_bytes (with_field (codes ":status")
 abbrev pub is_refused : Log → ℕ → List ℕ → Bool
 is_refused log k left = is_some (stop_of (events_of log) k) && not (is_empty left)
 
+-- there is no session of the request, and the acceptance is over
+abbrev pub fail_acceptance : Side → Log → List Action → ConnectionError → Effect
+fail_acceptance side log own e = reply_with (log_call side log own AcceptanceFailed) (replies.Failed e)
+
 -- an acceptance: refused by the peer it is a fault, all of it out it establishes the session
 abbrev pub accept_response : Side → Log → ℕ → List ℕ → CallRecord → Effect
 accept_response side log id left waiting =
-    if not (is_open log) then fail_handshake side log [] (replies.Failed (transport_error log)) else
+    if not (is_open log) then fail_acceptance side log [] (transport_error log) else
     (if is_refused log id left
-    then fail_handshake side log (close_when_open log (code_of h3.ClosedCriticalStream)) (replies.Failed (errors.LocalH3Error h3.ClosedCriticalStream)) else
+    then fail_acceptance side log (close_when_open log (code_of h3.ClosedCriticalStream)) (errors.LocalH3Error h3.ClosedCriticalStream) else
     (if is_covered log id left
     then establish side log (send_of id left) id (request_end (verdict_of id (stream_table side log).classified))
     else reply_with (log_call side log (send_of id (bytes_within_credit log id left)) waiting) replies.Pending))
+
+-- the rejection of the request is over, and there is no session
+abbrev pub end_rejection : Side → Log → ℕ → List Action → Effect
+end_rejection side log id own = reply_with (log_call side log own (RequestRejected id)) replies.Rejected
 
 -- a rejection whose response is out waits until the peer has it or doesn't want it
 abbrev pub finish_rejection : Side → Log → ℕ → List ℕ → CallRecord → Effect
 finish_rejection side log id left waiting =
     if not (is_finished (actions_of log) id) then reply_with (log_call side log (send_of id left ++ actions.Finish id ∷ []) waiting) replies.Pending else
     (if is_some (stop_of (events_of log) id) || is_acknowledged (events_of log) id
-    then fail_handshake side log (close_when_open log 0) replies.Rejected
+    then end_rejection side log id (close_when_open log 0)
     else reply_with (log_call side log [] waiting) replies.Pending)
 
 -- a rejection: its response goes out as far as credit goes, and then the stream is finished
 abbrev pub reject_response : Side → Log → ℕ → List ℕ → CallRecord → Effect
 reject_response side log id left waiting =
-    if not (is_open log) then fail_handshake side log [] replies.Rejected else
-    (if is_refused log id left then fail_handshake side log (close_when_open log (code_of h3.ClosedCriticalStream)) replies.Rejected else
+    if not (is_open log) then end_rejection side log id [] else
+    (if is_refused log id left then end_rejection side log id (close_when_open log (code_of h3.ClosedCriticalStream)) else
     (if is_covered log id left then finish_rejection side log id left waiting
     else reply_with (log_call side log (send_of id (bytes_within_credit log id left)) waiting) replies.Pending))
 

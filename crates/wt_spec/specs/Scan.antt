@@ -21,7 +21,7 @@ use Rattle.wt_proto.specs.declared.session_walk.SessionWalk.TheVariants as walks
 
 -- ---- the scan of one kind of streams
 
--- how streams of a kind get a slot: so many slots, the verdict of a stream, and what classifying it leads to
+-- how streams of a kind get a slot: how many slots there are, the verdict of a stream, and what classifying it leads to
 pub record SlotRule : Type 0 where
   pub slots : ℕ
   pub verdict : ℕ → Verdict

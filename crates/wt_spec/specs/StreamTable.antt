@@ -19,20 +19,20 @@ use Rattle.wt_proto.specs.declared.verdict.Verdict.TheVariants as verdicts
 pub record TransportView : Type 0 where
   pub side : Side
   pub ready : Bool  -- this end's SETTINGS are out, or may go out now
-  pub unis : ℕ  -- so many streams of each kind the peer opened
+  pub unis : ℕ  -- how many streams of each kind the peer opened
   pub bis : ℕ
   pub contents : ℕ → List ℕ  -- of each stream, the bytes that came
   pub end : ℕ → StreamEnd
   pub datagram : ℕ → Option (List ℕ)  -- the nth that came
   pub control_stopped : Bool  -- the peer stopped this end's control stream
   pub may_open : Bool  -- this end may open a unidirectional stream
-  pub credit : ℕ  -- so many bytes this end's control stream may send
+  pub credit : ℕ  -- how many bytes this end's control stream may send
 
 -- what the application's calls did so far
 pub record CallView : Type 0 where
   pub released : ℕ → Bool  -- an accept gave the stream or passed it
   pub delivered : ℕ → Bool  -- the request of the stream was delivered
-  pub datagrams : ℕ  -- so many datagrams were received or passed
+  pub datagrams : ℕ  -- how many datagrams were received or passed
   pub session : Option (ℕ × ℕ)  -- the session that is established, and where its part of the stream begins
 
 -- ---- what is kept from moment to moment
@@ -55,7 +55,7 @@ pub record Stopped : Type 0 where
 
 -- what a moment knows beside the streams
 pub record DriverProgress : Type 0 where
-  pub datagrams : ℕ  -- so many are dequeued
+  pub datagrams : ℕ  -- how many are dequeued
   pub settings : Bool  -- the peer's SETTINGS came
   pub stops : List Stopped  -- of the streams that were classified at this moment
   pub ending : Option Ending

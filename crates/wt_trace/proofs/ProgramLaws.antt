@@ -25,7 +25,7 @@ of-script command left_before left_now took_before took_now input false (Ok scri
   laws = laws script.side script.turns;
 }
 
--- a status that tells of a run tells of the input of a command
+-- a status of a run is one of the input of a command
 pub of-run : (command : Option Command) (left_before left_now took_before took_now : Option (List ℕ)) (status : ℕ) → IfSome command (λ c. AnswersInput c left_before left_now took_before took_now status)
     → IsTrue (is_run_status status) → IfSome command (λ c. AnswersKeepLaws c left_before left_now took_before took_now)
 of-run None left_before left_now took_before took_now status answers reported = tt

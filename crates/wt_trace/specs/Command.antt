@@ -27,7 +27,7 @@ command_of (word ∷ []) = if is_word word (codes "trace") then Some Trace else 
 command_of (word ∷ streams ∷ []) = if is_word word (codes "large") then option_map Large (streams_of streams) else None
 command_of (word ∷ streams ∷ other ∷ more) = None
 
--- the turns that lines spell, none of which tells a side, as a server's script; the first line that spells none refuses it
+-- the turns that lines spell, none of which says a side, as a server's script; the first line that spells none refuses it
 abbrev pub server_turns : List ℕ → Result Script ScriptRefused
 server_turns input = with_lines (record { side = Server; turns = [] }) input
 

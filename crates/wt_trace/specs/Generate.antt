@@ -31,7 +31,7 @@ session_turns =
 abbrev pub client_stream_id : ℕ → ℕ
 client_stream_id number = 6 + 4 * number
 
--- so many bytes, of which the one of index j, from 0, is (number + j) mod 256
+-- n bytes, of which the one of index j, from 0, is (number + j) mod 256
 abbrev pub counted_bytes : ℕ → ℕ → List ℕ
 counted_bytes number count = map (λ index. (number + index) % 256) (range_with_len 0 count)
 
@@ -54,11 +54,11 @@ stream_turns number =
     ∷ turns.Call (calls.Read (client_stream_id number) 200)
     ∷ []
 
--- the turns of so many streams, one after another
+-- the turns of n streams, one after another
 abbrev pub all_stream_turns : ℕ → List Turn
 all_stream_turns zero = []
 all_stream_turns (suc number) = all_stream_turns number ++ stream_turns number
 
--- the whole run with so many streams
+-- the whole run with n streams
 abbrev pub generated_turns : ℕ → List Turn
 generated_turns streams = session_turns ++ all_stream_turns streams

@@ -61,10 +61,10 @@ script_outcome command (Ok script) = run_outcome command (run script.side script
 abbrev pub input_outcome : Command → List ℕ → Outcome
 input_outcome command input = if nat_lt script_limit (length input) then too_long else script_outcome command (command_script command input)
 
--- a status that tells of a script that was read to its end
+-- a status of a script that was read to its end
 abbrev pub is_script_status : ℕ → Bool
 is_script_status status = status == 0 || status == 2 || status == 3
 
--- a status that tells of an input
+-- a status of an input
 abbrev pub is_input_status : ℕ → Bool
 is_input_status status = is_script_status status || status == 7

@@ -19,7 +19,7 @@ pub record Passes (old new : Option (List ℕ)) (text waiting : List ℕ) : Type
   pub whole : written ++ waiting ≡ text
   pub appends : Appends old new written
 
--- the bytes that a reader has left or that a writer holds, where it tells them, and how often it failed
+-- the bytes that a reader has left or that a writer holds, where it reports them, and how often it failed
 pub record Outside : Type 0 where
   pub bytes : Option (List ℕ)
   pub faults : ℕ

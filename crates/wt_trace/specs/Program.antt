@@ -19,7 +19,7 @@ abbrev pub outcome : List (List ℕ) → List ℕ → Outcome
 outcome words input = asked_outcome (command_of words) input
 
 -- bytes were read from a source, at most one more than the greatest script has, and the status and the text are those of
--- the command for them; where the source tells its bytes and was read to its end, they are all of them
+-- the command for them; where the source reports its bytes and was read to its end, they are all of them
 pub record AnswersInput (command : Command) (left_before left_now took_before took_now : Option (List ℕ)) (status : ℕ) : Type 0 where
   pub input : List ℕ
   pub few : length input ≤ script_limit + 1
@@ -31,7 +31,7 @@ pub record AnswersInput (command : Command) (left_before left_now took_before to
 abbrev pub is_cut_short : ℕ → Bool
 is_cut_short status = status == 4 || status == 5 || status == 6
 
--- a status that tells of a run of turns
+-- a status of a run of turns
 abbrev pub is_run_status : ℕ → Bool
 is_run_status status = status == 0 || status == 3
 

@@ -52,7 +52,7 @@ impl StreamCount {
 pub enum Command {
     /// To answer the turns of a script, with a line for each answer.
     Trace,
-    /// To answer a generated run with so many streams and the turns of the input after it, and to sum
+    /// To answer a generated run with n streams and the turns of the input after it, and to sum
     /// up the answers.
     Large(StreamCount),
 }

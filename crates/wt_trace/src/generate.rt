@@ -31,7 +31,7 @@ const REQUEST: [u8; 83] = [
     0x27, 0x00, 0x3a, 0x73, 0x63, 0x68, 0x65, 0x6d, 0x65, 0x05, 0x68, 0x74, 0x74, 0x70, 0x73, // :scheme
 ];
 
-/// The turns of a server's connection: a session, and after it so many streams of the peer, each
+/// The turns of a server's connection: a session, and after it this number of streams of the peer, each
 /// accepted and read to its end.
 ///
 /// # Errors
@@ -131,7 +131,7 @@ fn stream_piece(alloc: Global, number: u32) -> Result<Piece, OutOfMemory>
     Ok(Piece::from_vec(bytes))
 }
 
-/// A run with so many streams has seven turns, and six more for each stream.
+/// A run with n streams has seven turns, and six more for each stream.
 #[tactic(auto, using(crate::proofs::GenerateLaws::length_of_generated))]
 pub fn length_of_a_run()
     ensures { (streams : ℕ) → length (generated_turns streams) ≡ 7 + 6 * streams }

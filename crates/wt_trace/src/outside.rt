@@ -14,7 +14,7 @@ pub struct Failed;
 
 /// Where bytes come from.
 pub trait Source {
-    // The bytes that it has left, where it tells them.
+    // The bytes that it has left, where it reports them.
     ghost left: { Self → Option (List ℕ) };
 
     // How often it failed.
@@ -32,7 +32,7 @@ pub trait Source {
 
 /// Where text goes.
 pub trait Sink {
-    // The bytes that it took, where it tells them.
+    // The bytes that it took, where it reports them.
     ghost took: { Self → Option (List ℕ) };
 
     // How often it failed.

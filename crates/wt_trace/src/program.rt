@@ -21,7 +21,7 @@ pub const OUT_OF_MEMORY: u8 = 6;
 
 /// Runs the program. With the word `trace` it reads a script to its end, runs its turns, and writes a line
 /// for each answer. With `large` and a number from 1 to 10,000 it reads lines of turns to their end, runs
-/// a generated run with so many streams and then these turns, as a server, and writes one line that sums
+/// a generated run with n streams and then these turns, as a server, and writes one line that sums
 /// up the answers. All text goes to the sink. It reads at most 16,777,217 bytes, whatever the status: a
 /// byte more than the greatest script has.
 ///
@@ -125,7 +125,7 @@ fn answer<S: Source, K: Sink>(
     }
 }
 
-/// Tells how the program is asked.
+/// Says how the program is asked.
 fn answer_usage<K: Sink>(sink: &mut K) -> Result<u8, CutShort>
     ensures status { IfOk result (λ status. status ≡ 1) }
     ensures text { OnOk result (Appends (K.took sink.old) (K.took sink.new) usage.text) }

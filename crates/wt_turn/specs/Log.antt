@@ -1,4 +1,4 @@
--- What happened to one connection: a flat list of entries, the newest first. The events are what a QUIC transport tells
+-- What happened to one connection: a flat list of entries, the newest first. The events are what a QUIC transport reports
 -- (RFC 9000, sections 2, 4 and 10), the calls are those of the application (draft-ietf-webtrans-http3, section 4).
 use Rattle.std.specs.Prelude.{ℕ, ℤ, List, [], ◌∷◌, Bool, true, false, not, Option, Some, None}
 use Rattle.std.specs.List.{list_any, filter_map}
@@ -8,7 +8,7 @@ use Rattle.wt_turn.specs.declared.action.Action.TheVariants as actions
 use Rattle.wt_turn.specs.declared.datagram_fact.DatagramFact.{DatagramFact}
 use Rattle.wt_turn.specs.declared.loss.LossReason.{LossReason}
 
--- what the transport tells, but for the bytes of a stream
+-- what the transport reports, but for the bytes of a stream
 pub data Event : Type 0 where
   Connected : (uni bi credit : ℕ) (datagrams : DatagramFact) → Event
   PeerUni : Event
@@ -30,10 +30,12 @@ pub data CallRecord : Type 0 where
   ConnectStarted : (reserved : Option (List ℕ)) (head : List ℕ) → CallRecord  -- it dialled; once SETTINGS came it fails for a reserved name or sends this request
   RequestDelivered : (id : ℕ) → CallRecord  -- the request of this stream was given
   ResponseStarted : (accepts : Bool) (head : List ℕ) → CallRecord  -- this response is to be sent
+  RequestRejected : (id : ℕ) → CallRecord  -- the rejection of this stream's request is over: there is no session
+  AcceptanceFailed : CallRecord  -- the acceptance of the request failed: there is no session
+  HandshakeOver : CallRecord  -- a connect failed, or no request comes any more: there is no session
   SessionEstablished : (id offset : ℕ) → CallRecord  -- the session's part of its stream begins at this offset
-  HandshakeOver : CallRecord  -- it failed or was rejected: there is no session
   -- streams
-  StreamAccepted : (id : ℕ) → CallRecord  -- by an accept, or by an opening that is through
+  StreamAccepted : (id session : ℕ) → CallRecord  -- by an accept, or by an opening that is through
   StreamPassed : (id : ℕ) → CallRecord  -- an accept met this stream of another session
   OpeningStarted : (id session : ℕ) → CallRecord
   OpeningFailed : (id : ℕ) → CallRecord
@@ -42,7 +44,7 @@ pub data CallRecord : Type 0 where
   ResetUnsent : (id code : ℕ) → CallRecord  -- a reset after the end: it counts, and nothing goes out
   PrioritySet : (id : ℕ) (priority : ℤ) → CallRecord
   -- datagrams
-  DatagramReceived : CallRecord  -- the application took the next one of its session
+  DatagramReceived : (index : ℕ) → CallRecord  -- the application took the next one of its session: this index among all that came
   DatagramPassed : CallRecord  -- a receive met one of another session
   -- every other call
   Polled : CallRecord
@@ -60,12 +62,12 @@ pub data Entry : Type 0 where
 abbrev pub Log : Type 0
 Log = List Entry
 
--- the event that an entry tells while the connection is open
+-- the event that an entry reports while the connection is open
 abbrev pub event_in : Entry → Option Event
 event_in (Reported e) = Some e
 event_in _ = None
 
--- the event that an entry tells, also after the end
+-- the event that an entry reports, also after the end
 abbrev pub event_ever_in : Entry → Option Event
 event_ever_in (Reported e) = Some e
 event_ever_in (ReportedLate e) = Some e
@@ -97,7 +99,7 @@ actions_of log = filter_map action_in log
 abbrev pub calls_of : Log → List CallRecord
 calls_of log = filter_map record_in log
 
--- the newest that tells something, and what it tells
+-- the newest value that is there
 abbrev pub newest : {S T : Type 0} → (S → Option T) → List S → Option T
 newest says [] = None
 newest says (x ∷ xs) = option_or (says x) (newest says xs)

@@ -1,5 +1,5 @@
 //! The words of a WebTransport session: what happens to a connection, what the application calls,
-//! what goes out and what is answered, and what a caller is told of each failure.
+//! what goes out and what is answered, and what is reported to a caller of each failure.
 //!
 //! A [`turn::Turn`] is one event of the QUIC transport or one [`call::Call`] of the application, an
 //! [`action::Action`] is what the transport is to do, and an [`answer::Answer`] is the [`reply::Reply`] to

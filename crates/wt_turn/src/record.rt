@@ -14,19 +14,23 @@ pub enum Record {
     RequestDelivered(StreamId),
     /// This response is to be sent; whether it accepts.
     ResponseStarted(bool, Piece),
+    /// The rejection of this stream's request is over: there is no session.
+    RequestRejected(StreamId),
+    /// The acceptance of the request failed: there is no session.
+    AcceptanceFailed,
+    /// A connect failed, or no request comes any more: there is no session.
+    HandshakeOver,
     /// The session's part of its stream begins at this offset.
     SessionEstablished(StreamId, usize),
-    /// The handshake failed or was rejected: there is no session.
-    HandshakeOver,
-    /// An accept gave the stream, or an opening that is through.
-    StreamAccepted(StreamId),
+    /// An accept gave this stream of the session, or an opening that is through.
+    StreamAccepted(StreamId, SessionId),
     /// An accept met this stream of another session.
     StreamPassed(StreamId),
     /// A stream is being opened for a session.
     OpeningStarted(StreamId, SessionId),
     /// An opening failed.
     OpeningFailed(StreamId),
-    /// So many bytes of a stream were read.
+    /// This number of bytes of a stream was read.
     BytesRead(StreamId, usize),
     /// The application stopped the receiving half of this stream.
     StreamGivenUp(StreamId),
@@ -34,8 +38,8 @@ pub enum Record {
     ResetUnsent(StreamId, VarInt),
     /// The priority of a sending half.
     PrioritySet(StreamId, i32),
-    /// The application took the next datagram of its session.
-    DatagramReceived,
+    /// The application took the next datagram of its session: its index among all that came, from 0.
+    DatagramReceived(u64),
     /// A receive met a datagram of another session.
     DatagramPassed,
     /// Every other call.

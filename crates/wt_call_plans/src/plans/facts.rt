@@ -17,7 +17,7 @@ use wt_wire::error::OutOfMemory;
 use wt_wire::header_list::HeaderList;
 use wt_wire::ids::SessionId;
 
-/// How the connection ended, as the driver tells it, and without its own ending the transport.
+/// How the connection ended, as the driver reports it, and without its own ending the transport.
 pub fn driver_error(
     alloc: Global,
     t: &Transport,

@@ -17,7 +17,7 @@ use wt_wire::error::OutOfMemory;
 use wt_wire::ids::StreamId;
 use wt_wire::varint::VarInt;
 
-/// At most so many of the unread bytes.
+/// At most `size` of the unread bytes.
 #[tactic(auto, unfolding(wt_session_spec::specs::Plans::plan_of))]
 pub fn read(
     alloc: Global,
@@ -34,7 +34,7 @@ pub fn read(
     read_plans::read(alloc, t, id, size)
 }
 
-/// Exactly so many of the unread bytes.
+/// Exactly `size` of the unread bytes.
 #[tactic(auto, unfolding(wt_session_spec::specs::Plans::plan_of))]
 pub fn read_exact(
     alloc: Global,

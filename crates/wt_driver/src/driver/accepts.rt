@@ -120,8 +120,8 @@ impl Driver {
 
     /// A stream of the session is given, and the work of that moment is done.
     fn give_stream(&mut self, id: StreamId) -> Result<(), OutOfMemory>
-        ensures log { OfEachLog self.old (λ side log collected. MayBeCalled side log (StreamAccepted id)
-            → OnOk result (Follows side self.new (log_and_flush side log (Called (StreamAccepted id))) collected)) }
+        ensures log { OfEachLog self.old (λ side log collected. (session : ℕ) → MayBeCalled side log (StreamAccepted id session)
+            → OnOk result (Follows side self.new (log_and_flush side log (Called (StreamAccepted id session))) collected)) }
         ensures has_given { OnOk result (self.new.has_given_settings ≡ self.old.has_given_settings) }
     {
         self.release(id);

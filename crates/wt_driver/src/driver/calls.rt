@@ -138,9 +138,9 @@ impl Driver {
         match call {
             Record::RequestDelivered(id) => self.deliver(*id),
             Record::SessionEstablished(id, offset) => self.establish(*id, *offset)?,
-            Record::StreamAccepted(id) => self.release(*id),
+            Record::StreamAccepted(id, _) => self.release(*id),
             Record::StreamPassed(id) => self.pass(*id),
-            Record::DatagramReceived => self.release_datagram()?,
+            Record::DatagramReceived(_) => self.release_datagram()?,
             Record::DatagramPassed => self.release_datagram()?,
             Record::StreamGivenUp(id) => self.give_up(*id),
             Record::ResetUnsent(id, code) => self.reset_unsent(*id, *code)?,

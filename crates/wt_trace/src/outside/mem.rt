@@ -34,7 +34,7 @@ impl FailingCalls {
         self.faults = self.faults.saturating_add(1);
     }
 
-    /// Counts a call, and tells whether it fails.
+    /// Counts a call, and returns whether it fails.
     fn next_fails(&mut self) -> bool
         ensures later { self.old.faults ≤ self.new.faults }
         ensures cause { MatchBool result (Rose self.old.faults self.new.faults) (self.new.faults ≡ self.old.faults) }

@@ -11,7 +11,7 @@ pub type StdSource = ReaderSource<Stdin>;
 /// Standard output.
 pub type StdSink = WriterSink<Stdout>;
 
-/// A reader, and how often it failed. Contracts see the bytes that it has left, where it tells them,
+/// A reader, and how often it failed. Contracts see the bytes that it has left, where it reports them,
 /// and that count.
 #[derive(Drop)]
 pub struct ReaderSource<R: Read> {
@@ -52,7 +52,7 @@ impl<R: Read> Source for ReaderSource<R> {
     }
 }
 
-/// A writer, and how often it failed. Contracts see the bytes that it holds, where it tells them, and
+/// A writer, and how often it failed. Contracts see the bytes that it holds, where it reports them, and
 /// that count.
 #[derive(Drop)]
 pub struct WriterSink<W: Write> {

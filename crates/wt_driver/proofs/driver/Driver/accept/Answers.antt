@@ -19,7 +19,7 @@ returns-then-is_own c = record {
   log = λ side log collected f.
       let s = c.loop-due.invariant.looks side log collected f in
       stream-follows side collected c.args.kind c.args.session c.loop-due.left _ c.loop-due.self s c.next_due.result c.next_due.ensures c.in-Some.due.0 c.in-Some.due.1 c.in-Some.is c.give_stream.new.self c.if-is_own.true
-      (c.in_ok-give_stream.ensures.log side s.log_now collected s.follows
+      (c.in_ok-give_stream.ensures.log side s.log_now collected s.follows c.args.session
       (stream-may side collected c.args.kind c.args.session c.loop-due.left _ c.loop-due.self s c.next_due.result c.next_due.ensures c.in-Some.due.0 c.in-Some.due.1 c.in-Some.is c.if-is_own.true));
   given = λ side log collected f.
       stream-given side collected c.args.kind c.args.session c.loop-due.left _ c.loop-due.self (c.loop-due.invariant.looks side log collected f) c.next_due.result c.next_due.ensures c.in-Some.due.0 c.in-Some.due.1 c.in-Some.is c.if-is_own.true;

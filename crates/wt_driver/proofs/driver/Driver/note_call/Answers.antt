@@ -18,8 +18,8 @@ returns-in_ok-establish-in-SessionEstablished-clause-log c = λ side log collect
 
 pub returns-in-StreamAccepted-clause-log : goal.returns-in-StreamAccepted-clause-log
 returns-in-StreamAccepted-clause-log c = λ side log collected f.
-    of-shape side log collected c.args.self.now f.refines.stage c.release.new.self c.args.call.now (records.StreamAccepted c.in-StreamAccepted.id) c.in-StreamAccepted.is
-    (λ a. accepted-noted side log collected c.args.self.now f c.release.new.self c.in-StreamAccepted.id c.release.ensures.release a)
+    of-shape side log collected c.args.self.now f.refines.stage c.release.new.self c.args.call.now (records.StreamAccepted c.in-StreamAccepted.id _) c.in-StreamAccepted.is
+    (λ a. accepted-noted side log collected c.args.self.now f c.release.new.self c.in-StreamAccepted.id _ c.release.ensures.release a)
 
 pub returns-in-StreamPassed-clause-log : goal.returns-in-StreamPassed-clause-log
 returns-in-StreamPassed-clause-log c = λ side log collected f.
@@ -38,8 +38,8 @@ returns-in_ok-reset_unsent-in-ResetUnsent-clause-log c = λ side log collected f
 
 pub returns-in_ok-release_datagram-in-DatagramReceived-clause-log : goal.returns-in_ok-release_datagram-in-DatagramReceived-clause-log
 returns-in_ok-release_datagram-in-DatagramReceived-clause-log c = λ side log collected f.
-    of-shape side log collected c.args.self.now f.refines.stage c.release_datagram.new.self c.args.call.now (records.DatagramReceived) c.in-DatagramReceived.is
-    (λ a. received-noted side log collected c.args.self.now f c.release_datagram.new.self c.in_ok-release_datagram-in-DatagramReceived.ensures a)
+    of-shape side log collected c.args.self.now f.refines.stage c.release_datagram.new.self c.args.call.now (records.DatagramReceived _) c.in-DatagramReceived.is
+    (λ a. received-noted side log collected c.args.self.now f c.release_datagram.new.self _ c.in_ok-release_datagram-in-DatagramReceived.ensures a)
 
 pub returns-in_ok-release_datagram-in-DatagramPassed-clause-log : goal.returns-in_ok-release_datagram-in-DatagramPassed-clause-log
 returns-in_ok-release_datagram-in-DatagramPassed-clause-log c = λ side log collected f.

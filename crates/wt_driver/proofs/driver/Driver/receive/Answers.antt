@@ -3,8 +3,8 @@ use Rattle.std.proofs.lemmas.Grind.{common_steps}
 use Rattle.wt_driver_state.proofs.AcceptSteps.{datagram-follows, datagram-given, datagram-may, datagram-passed, end-follows, end-given, front-own, front-paid, looks-again, none-paid, none-received, received-is}
 use Rattle.wt_driver_state.specs.DriverValue.{DriverValue}
 use Rattle.wt_driver_spec.specs.Due.{log_datagrams, receive_outcome}
-use Rattle.wt_spec.specs.Driver.{log_and_flush}
-use Rattle.wt_turn.specs.Log.{Called, DatagramPassed, DatagramReceived}
+use Rattle.wt_spec.specs.Driver.{log_and_flush, released_datagrams}
+use Rattle.wt_turn.specs.Log.{Called, DatagramPassed, DatagramReceived, calls_of}
 use Rattle.wt_driver.proofs.driver.Driver.receive.Goals as goal
 
 pub loop-is_own-init : goal.loop-is_own-init
@@ -28,9 +28,10 @@ pub returns-then-is_own : goal.returns-then-is_own
 returns-then-is_own c = record {
   log = λ side log collected f.
       let s = c.loop-is_own.invariant.looks side log collected f in
+      let r = DatagramReceived (released_datagrams (calls_of s.log_now)) in
       datagram-follows side collected c.args.session c.loop-is_own.left (receive_outcome side log c.args.session) c.loop-is_own.self s c.next_datagram.result c.next_datagram.ensures c.in-Some.is_own c.in-Some.is c.take_datagram.new.self c.if-is_own.true
-      (c.in_ok-piece.ensures.log side s.log_now collected DatagramReceived s.follows refl
-      (datagram-may side collected c.args.session c.loop-is_own.left (receive_outcome side log c.args.session) c.loop-is_own.self s c.next_datagram.result c.next_datagram.ensures c.in-Some.is_own c.in-Some.is DatagramReceived refl));
+      (c.in_ok-piece.ensures.log side s.log_now collected r s.follows refl
+      (datagram-may side collected c.args.session c.loop-is_own.left (receive_outcome side log c.args.session) c.loop-is_own.self s c.next_datagram.result c.next_datagram.ensures c.in-Some.is_own c.in-Some.is r refl));
   given = λ side log collected f.
       datagram-given side collected c.args.session c.loop-is_own.left (receive_outcome side log c.args.session) c.loop-is_own.self (c.loop-is_own.invariant.looks side log collected f) c.next_datagram.result c.next_datagram.ensures c.in-Some.is_own c.in-Some.is
       c.in_ok-piece.piece c.if-is_own.true c.in_ok-piece.ensures.piece;
