@@ -1,3 +1,4 @@
 pub mod Ends
 pub mod Gives
+pub mod Receiving
 pub mod SessionStreams

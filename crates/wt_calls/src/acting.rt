@@ -1,12 +1,13 @@
 //! What a call leads to over a driver alone: its actions, its record, and what an accept or a receive gives.
-ghost use Rattle.std.specs.Prelude.{◌≡◌, IfOk, OnOk, ℕ};
+ghost use Rattle.std.specs.Prelude.{◌≡◌, IfOk, IfSome, Ok, OnOk, ℕ};
 ghost use Rattle.wt_driver_state.specs.OfLog.{FollowsIfOk, OfEachLog, Tells};
-ghost use Rattle.wt_driver_state.specs.PollResults.{given_by, payload_by};
+ghost use Rattle.wt_driver_state.specs.PollResults.{given_by};
 ghost use Rattle.wt_driver_state.specs.Tie.{Follows};
 ghost use Rattle.wt_driver_spec.specs.Asking.{MayBeCalled};
 ghost use Rattle.wt_driver_spec.specs.Due.{accept_outcome, reply_or};
 ghost use Rattle.wt_plan.specs.Planned.{defined_plan};
 ghost use Rattle.wt_seam_spec.specs.Streams.{peer_bi, peer_uni};
+ghost use Rattle.wt_calls.specs.Datagrams.{datagram_in, payload_reply, session_datagram};
 ghost use Rattle.wt_calls.specs.GivingCalls.{given_in, poll_reply, wait_reply};
 ghost use Rattle.wt_session_spec.specs.Performing.{MayPerform, MaySendAll};
 ghost use Rattle.wt_session_spec.specs.Plan.{perform};
@@ -19,11 +20,11 @@ ghost use Rattle.wt_turn.specs.Records.{record_of};
 ghost use Rattle.wt_turn.specs.declared.reply.Reply.TheVariants as replies;
 ghost use Rattle.wt_wire.specs.declared.side.Side.{Side};
 
+use crate::datagram::Datagram;
 use std::alloc::Global;
 use wt_call_plans::plans::facts::driver_error;
 use wt_driver::driver::Driver;
 use wt_plan::plan::Plan;
-use wt_proto::datagram::H3Datagram;
 use wt_turn::action::Action;
 use wt_turn::connection_error::ConnectionError;
 use wt_turn::driver_error::DriverError;
@@ -180,33 +181,28 @@ pub fn accept_bi(
     Ok(answer)
 }
 
-/// The payload of the datagram that a poll gives.
-fn payload_by(
-    alloc: Global,
-    given: Poll<Result<Piece, DriverError>>,
-) -> Result<Option<Piece>, OutOfMemory>
-    ensures { IfOk result (λ payload. payload ≡ payload_by given) }
+/// The datagram in the piece that a poll gives, which keeps that piece.
+fn datagram_by(given: Poll<Result<Piece, DriverError>>) -> Option<Datagram>
+    ensures { result ≡ datagram_in (given_by given) }
 {
     match given {
-        Poll::Ready(Ok(piece)) => match H3Datagram::read(piece.as_slice()) {
-            Ok(datagram) => Ok(Some(Piece::from_slice(alloc, datagram.payload())?)),
-            Err(_) => Ok(None),
-        },
-        Poll::Ready(Err(_)) | Poll::Pending => Ok(None),
+        Poll::Ready(Ok(piece)) => Datagram::read(piece).ok(),
+        Poll::Ready(Err(_)) | Poll::Pending => None,
     }
 }
 
-/// The answer of a receive to which this payload was given.
+/// The answer of a receive to which this datagram was given.
 fn receive_answer(
     alloc: Global,
     d: &Driver,
-    payload: Option<Piece>,
-) -> Result<Poll<Result<Piece, ConnectionError>>, OutOfMemory>
-    ensures { Tells d.now (λ side log. IfOk result (λ p. poll_reply replies.Datagram p
-        ≡ reply_or replies.Datagram (pending_or_failed side log) payload)) }
+    given: Option<Datagram>,
+) -> Result<Poll<Result<Datagram, ConnectionError>>, OutOfMemory>
+    ensures reply { Tells d.now (λ side log. IfOk result (λ p. poll_reply payload_reply p
+        ≡ reply_or payload_reply (pending_or_failed side log) given)) }
+    ensures given { IfOk result (λ p. given_in p ≡ given) }
 {
-    match payload {
-        Some(payload) => Ok(Poll::Ready(Ok(payload))),
+    match given {
+        Some(datagram) => Ok(Poll::Ready(Ok(datagram))),
         None => match failure(alloc, d)? {
             Some(error) => Ok(Poll::Ready(Err(error))),
             None => Ok(Poll::Pending),
@@ -214,21 +210,23 @@ fn receive_answer(
     }
 }
 
-/// The payload of the session's next datagram is given.
+/// The session's next datagram is given, in the piece in which the driver keeps it: no byte is copied.
 ///
 /// # Errors
 ///
-/// `OutOfMemory` where a record, the payload, or the error found no memory.
+/// `OutOfMemory` where a record, what goes out, or the error found no memory.
 pub fn receive(
     alloc: Global,
     d: &mut Driver,
     session: SessionId,
-) -> Result<Poll<Result<Piece, ConnectionError>>, OutOfMemory>
-    ensures reply { Tells d.old (λ side log. IfOk result (λ p. poll_reply replies.Datagram p ≡ (receive_datagram side log session).reply)) }
+) -> Result<Poll<Result<Datagram, ConnectionError>>, OutOfMemory>
+    ensures reply { Tells d.old (λ side log. IfOk result (λ p. poll_reply payload_reply p ≡ (receive_datagram side log session).reply)) }
     ensures log { FollowsIfOk result d.old d.new (λ side log. (receive_datagram side log session).log) }
+    ensures session { IfOk result (λ p. IfSome (given_in p) (λ datagram. datagram.session ≡ session)) }
+    ensures carried { IfOk result (λ p. IfSome (given_in p) (λ datagram. session_datagram datagram.bytes ≡ Ok datagram)) }
 {
-    let payload = payload_by(alloc, d.receive_datagram_piece(session)?)?;
-    let answer = receive_answer(alloc, d, payload)?;
+    let given = datagram_by(d.receive_datagram_piece(session)?);
+    let answer = receive_answer(alloc, d, given)?;
     poll(d)?;
     Ok(answer)
 }
@@ -257,12 +255,12 @@ pub fn bi_reply(answer: Poll<Result<StreamId, ConnectionError>>) -> Reply
     }
 }
 
-/// The reply of a receive.
-pub fn datagram_reply(answer: Poll<Result<Piece, ConnectionError>>) -> Reply
-    ensures { result ≡ poll_reply replies.Datagram answer }
+/// The reply of a receive: the payload, as a part of the piece that came.
+pub fn datagram_reply(answer: Poll<Result<Datagram, ConnectionError>>) -> Reply
+    ensures { result ≡ poll_reply payload_reply answer }
 {
     match answer {
-        Poll::Ready(Ok(payload)) => Reply::Datagram(payload),
+        Poll::Ready(Ok(datagram)) => Reply::Datagram(datagram.into_payload()),
         Poll::Ready(Err(error)) => Reply::Failed(error),
         Poll::Pending => Reply::Pending,
     }

@@ -3,6 +3,7 @@
 #![tactic(auto)]
 
 pub mod acting;
+pub mod datagram;
 
 pub use wt_call_plans::plans;
 pub use wt_connect::connect_options;

@@ -1,4 +1,3 @@
-pub mod Datagrams
 pub mod Openings
 pub mod TypesInLog
 pub mod Staying

@@ -1,10 +1,10 @@
 //! A session that is established (draft-ietf-webtrans-http3, section 4).
 ghost use Rattle.std.specs.Prelude.{◌≡◌, IfOk, Ok, OnOk, false, true, ℕ};
-ghost use Rattle.wt_connection.specs.Datagrams.{session_datagram};
 ghost use Rattle.wt_connection.specs.Openings.{HasOpening, opening_in};
 ghost use Rattle.wt_connection.specs.TypesInLog.{Gives, HasSession, IfGiven, IsEstablished};
 ghost use Rattle.wt_halves.specs.Answering.{HasReceiving, HasSending, LeadsOn, RepliesTo};
 ghost use Rattle.wt_halves.specs.Replies.{IsOneStream, closed_in, closed_poll_reply, done_reply, sent_in, sent_reply};
+ghost use Rattle.wt_calls.specs.Datagrams.{session_datagram};
 ghost use Rattle.wt_calls.specs.GivingCalls.{poll_reply};
 ghost use Rattle.wt_spec.specs.Answers.{call_effect};
 ghost use Rattle.wt_turn.specs.Log.{Log};
@@ -12,11 +12,11 @@ ghost use Rattle.wt_turn.specs.declared.call.Call.TheVariants as calls;
 ghost use Rattle.wt_turn.specs.declared.reply.Reply.TheVariants as replies;
 ghost use Rattle.wt_wire.specs.declared.side.Side.{Side};
 
-use crate::datagram::Datagram;
 use crate::opening::{OpeningBiStream, OpeningUniStream};
 use std::alloc::Global;
 use std::marker::Model;
 use wt_calls::acting;
+use wt_calls::datagram::Datagram;
 use wt_driver::driver::Driver;
 use wt_halves::calling::{carry_out, perform, record, transport};
 use wt_halves::recv_stream::RecvStream;
@@ -74,26 +74,6 @@ fn both_halves(
         Poll::Ready(Ok(id)) => Poll::Ready(Ok((SendStream::new(id), RecvStream::new(id)))),
         Poll::Ready(Err(error)) => Poll::Ready(Err(error)),
         Poll::Pending => Poll::Pending,
-    }
-}
-
-/// The datagram of the session whose payload is given, and whose bytes carry both.
-fn datagram_of(
-    alloc: Global,
-    session: SessionId,
-    answer: Poll<Result<Piece, ConnectionError>>,
-) -> Result<Poll<Result<Datagram, ConnectionError>>, OutOfMemory>
-    ensures reply { IfOk result (λ a. poll_reply (λ datagram. replies.Datagram datagram.payload) a ≡ poll_reply replies.Datagram answer) }
-    ensures session { IfOk result (λ a. IfGiven a (λ datagram. datagram.session ≡ session)) }
-    ensures carried { IfOk result (λ a. IfGiven a (λ datagram. session_datagram datagram.bytes ≡ Ok datagram)) }
-{
-    match answer {
-        Poll::Ready(Ok(payload)) => {
-            let datagram = Datagram::write(alloc, session, payload.as_slice())?;
-            Ok(Poll::Ready(Ok(datagram)))
-        }
-        Poll::Ready(Err(error)) => Ok(Poll::Ready(Err(error))),
-        Poll::Pending => Ok(Poll::Pending),
     }
 }
 
@@ -232,7 +212,8 @@ impl Connection {
     ///
     /// # Errors
     ///
-    /// `OutOfMemory` where a record, the datagram, or the error found no memory.
+    /// `OutOfMemory` where a record, what goes out, or the error found no memory: the datagram keeps the piece
+    /// in which it came.
     pub fn receive_datagram(
         &mut self,
         alloc: Global,
@@ -244,8 +225,7 @@ impl Connection {
         ensures carried { IfOk result (λ a. IfGiven a (λ datagram. session_datagram datagram.bytes ≡ Ok datagram)) }
         ensures same { self.new ≡ self.old }
     {
-        let answer = acting::receive(alloc, d, self.session)?;
-        datagram_of(alloc, self.session, answer)
+        acting::receive(alloc, d, self.session)
     }
 
     // ---- what this end sends

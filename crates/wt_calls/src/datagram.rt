@@ -1,7 +1,7 @@
 //! The datagrams of a session (RFC 9297, section 2.1).
 ghost use Rattle.std.specs.Prelude.{◌≡◌, ◌/◌, IfErr, IfOk, Ok, length};
 ghost use Rattle.wt_message.specs.Datagram.{datagram_bytes, datagram_of};
-ghost use Rattle.wt_connection.specs.Datagrams.{session_datagram};
+ghost use Rattle.wt_calls.specs.Datagrams.{session_datagram};
 ghost use Rattle.wt_wire.specs.Varint.{varint_bytes};
 ghost use Rattle.wt_wire.specs.declared.error.ErrorCode.TheVariants as errors;
 
@@ -13,7 +13,8 @@ use wt_wire::error::{ErrorCode, OutOfMemory};
 use wt_wire::ids::{QStreamId, SessionId};
 use wt_wire::varint::read_varint;
 
-/// A datagram of a session. Contracts see the session, the payload, and the bytes that carry both.
+/// A datagram of a session, which keeps the bytes that came or were written. Contracts see the session, the
+/// payload, and the bytes that carry both.
 #[derive(Debug, Drop)]
 pub struct Datagram {
     piece: Piece,
@@ -22,17 +23,19 @@ pub struct Datagram {
 }
 
 impl Model for Datagram {
-    ghost use Rattle.std.specs.Prelude.{◌≡◌, Ok, drop};
-    ghost use Rattle.wt_connection.specs.Datagrams.{SessionDatagram, session_datagram};
+    ghost use Rattle.std.specs.Prelude.{◌≤◌, drop, length};
+    ghost use Rattle.wt_calls.specs.Datagrams.{SessionDatagram};
 
     ghost Value = { SessionDatagram };
 
     ghost view = { λ d. record { session = d.session; payload = drop d.start d.piece; bytes = d.piece } };
+
+    ghost invariant = { λ d. d.start ≤ length d.piece };
 }
 
 impl Datagram {
-    /// Reads a datagram. The error is `Datagram`, where the bytes end inside the quarter stream id or
-    /// it is above 2^60 - 1.
+    /// Reads a datagram, which keeps the piece. The error is `Datagram`, where the bytes end inside the
+    /// quarter stream id or it is above 2^60 - 1.
     #[tactic(auto, unfolding(wt_message::specs::Datagram::datagram_of))]
     pub fn read(piece: Piece) -> Result<Datagram, ErrorCode>
         ensures datagram { result ≡ session_datagram piece }
@@ -72,6 +75,21 @@ impl Datagram {
         })
     }
 
+    /// The same datagram, in a piece of its own.
+    ///
+    /// # Errors
+    ///
+    /// `OutOfMemory` where its bytes found no memory.
+    pub fn copy(&self) -> Result<Datagram, OutOfMemory>
+        ensures { IfOk result (λ d. d ≡ self.now) }
+    {
+        Ok(Datagram {
+            piece: self.piece.copy()?,
+            session: self.session,
+            start: self.start,
+        })
+    }
+
     /// How many bytes come before the payload.
     pub fn header_size(session: SessionId) -> usize
         ensures { result ≡ length (varint_bytes (session / 4)) }
@@ -83,13 +101,7 @@ impl Datagram {
     pub fn payload(&self) -> &[u8]
         ensures { result.now ≡ self.now.payload }
     {
-        let bytes = self.piece.as_slice();
-        // The payload may be empty: then the header is all of it.
-        if self.start < bytes.len() {
-            &bytes[self.start..]
-        } else {
-            &[]
-        }
+        &self.piece.as_slice()[self.start..]
     }
 
     /// The session.
@@ -97,6 +109,13 @@ impl Datagram {
         ensures { result ≡ self.now.session }
     {
         self.session
+    }
+
+    /// The payload, as a part of the piece that carries the datagram: no byte is copied.
+    pub fn into_payload(self) -> Piece
+        ensures { result ≡ self.payload }
+    {
+        self.piece.without_front(self.start)
     }
 
     /// The bytes that carry it.
