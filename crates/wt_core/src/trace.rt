@@ -19,18 +19,21 @@ ghost use Rattle.wt_core.specs.Trace.{EachAnswered, IfAnswered, IsTrace, StopsRi
 
 use crate::machine::Core;
 use std::alloc::Global;
+use thiserror::Error;
 use wt_turn::Turn;
 use wt_turn::answer::Answers;
 use wt_wire::error::OutOfMemory;
 use wt_wire::side::Side;
 
 /// Why a list of turns has no answer to each.
-#[derive(Debug, Drop)]
+#[derive(Debug, Drop, Error)]
 pub enum TraceError {
     /// The turn of this index, counted from 0, isn't lawful after those before it, which have these
     /// answers.
+    #[error("turn {at} unlawful")]
     Unlawful { at: u64, answers: Answers },
     /// Out of memory.
+    #[error("out of memory")]
     OutOfMemory,
 }
 

@@ -1,5 +1,5 @@
 //! The library as a user has it, by the names of the public crates alone: the README's example, a server's connection that
-//! takes its first turn, and every public name from where it is found ([`names`]).
+//! takes its first turn; a server that reads a stream ([`server`]); and every public name from where it is found ([`names`]).
 //!
 //! [`Core::turn`] requires that the turn is lawful, so the prover refuses a call of it where
 //! that isn't known.
@@ -12,6 +12,9 @@ use wt_seam::{DatagramFact, Turn};
 use wt_trace::{Answer, Core};
 
 pub mod names;
+pub mod server;
+#[cfg(test)]
+mod tests;
 
 /// The answer to a turn, where it may come.
 fn answer(core: &mut Core, turn: &Turn) -> Result<Option<Answer>, OutOfMemory> {

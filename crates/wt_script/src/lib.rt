@@ -8,3 +8,4 @@
 
 pub mod print;
 pub mod script;
+pub mod send;

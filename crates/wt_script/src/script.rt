@@ -17,6 +17,7 @@ use crate::script::lines::{read_side, read_turn};
 use memchr::memchr;
 use std::alloc::Global;
 use std::marker::Model;
+use thiserror::Error;
 use wt_turn::turn::Turns;
 use wt_wire::error::OutOfMemory;
 use wt_wire::side::Side;
@@ -32,7 +33,8 @@ pub struct Script {
 
 /// A script is refused for this line, counted from 1: the first that isn't in the grammar, or the one
 /// after the last where no line tells the side.
-#[derive(Clone, Copy, PartialEq, Eq, Debug)]
+#[derive(Clone, Copy, PartialEq, Eq, Debug, Error)]
+#[error("line {line} refused")]
 pub struct ScriptRefused {
     pub line: u64,
 }

@@ -5,6 +5,7 @@ use Rattle.wt_script.specs.declared.script.Script.{Script}
 use Rattle.wt_spec.specs.Answers.{run}
 use Rattle.wt_core.specs.Laws.{KeepsLaws}
 use Rattle.wt_trace.specs.Input.{script_limit}
+use Rattle.wt_trace.specs.Outside.{AppendsPart}
 use Rattle.wt_trace.specs.declared.command.Command.{Command}
 use Rattle.wt_trace.specs.Command.{command_of, command_script}
 use Rattle.wt_trace.specs.Outcome.{Outcome, input_outcome, run_outcome, usage}
@@ -26,6 +27,14 @@ pub record AnswersInput (command : Command) (left_before left_now took_before to
   pub consumed : Consumes left_before left_now input
   pub answered : status ≡ (input_outcome command input).status
   pub written : Appends took_before took_now (input_outcome command input).text
+
+-- bytes were read from a source, at most one more than the greatest script has, and what was written is a first part of
+-- the text for them
+pub record WritesPart (command : Option Command) (left_before left_now took_before took_now : Option (List ℕ)) : Type 0 where
+  pub input : List ℕ
+  pub few : length input ≤ script_limit + 1
+  pub consumed : Consumes left_before left_now input
+  pub part : AppendsPart took_before took_now (asked_outcome command input).text
 
 -- reading failed, writing failed, or the program ran out of memory
 abbrev pub is_cut_short : ℕ → Bool

@@ -1,14 +1,18 @@
 //! Why no whole answer was given.
+use thiserror::Error;
 use wt_wire::error::OutOfMemory;
 
 /// Why no whole answer was given.
-#[derive(Clone, Copy, PartialEq, Eq, Debug)]
+#[derive(Clone, Copy, PartialEq, Eq, Debug, Error)]
 pub enum CutShort {
     /// The source failed.
+    #[error("source failed")]
     SourceFailed,
     /// The sink failed.
+    #[error("sink failed")]
     SinkFailed,
     /// The program ran out of memory.
+    #[error("out of memory")]
     OutOfMemory,
 }
 

@@ -16,6 +16,7 @@ pub mod input;
 pub mod output;
 pub mod outside;
 pub mod program;
+pub mod send;
 pub mod summary;
 
 pub use outside::mem::{MemSink, MemSource};

@@ -8,8 +8,11 @@ pub mod mem;
 pub mod standard;
 pub mod sure;
 
+use thiserror::Error;
+
 /// A read or a write failed.
-#[derive(Clone, Copy, PartialEq, Eq, Debug)]
+#[derive(Clone, Copy, PartialEq, Eq, Debug, Error)]
+#[error("read or write failed")]
 pub struct Failed;
 
 /// Where bytes come from.

@@ -1,12 +1,12 @@
 //! The program: a script comes in, the lines of its answers go out, or one line that sums them up.
-ghost use Rattle.std.specs.Prelude.{◌≡◌, List, Option, map, string_bytes, ◌≢◌, ◌⊎◌, IfOk, IfErr, IsErr, IfSome, IsTrue, None, MatchResult, OnOk, Err, false};
+ghost use Rattle.std.specs.Prelude.{◌≡◌, List, Option, map, string_bytes, ◌≢◌, ◌⊎◌, IfOk, IfErr, IsErr, IfSome, IsTrue, None, Some, MatchResult, OnOk, Err, false};
 ghost use Rattle.std.specs.Io.KnownBytes.{Appends, IsAtEnd};
 ghost use Rattle.wt_trace.specs.Outside.{Rose, AppendsPart};
 ghost use Rattle.wt_trace.specs.Command.{command_of};
 ghost use Rattle.wt_trace.specs.Input.{ReadsFew};
 ghost use Rattle.wt_trace.specs.declared.cut_short.CutShort.TheVariants as cuts;
 ghost use Rattle.wt_trace.specs.Outcome.{input_outcome, is_input_status, is_script_status, usage};
-ghost use Rattle.wt_trace.specs.Program.{is_cut_short, is_run_status, asked_outcome, outcome, AnswersInput, AnswersKeepLaws};
+ghost use Rattle.wt_trace.specs.Program.{is_cut_short, is_run_status, asked_outcome, outcome, AnswersInput, AnswersKeepLaws, WritesPart};
 
 use crate::answer::answer_input;
 use crate::command::{Command, read_command};
@@ -49,6 +49,7 @@ pub fn run_program<S: Source, K: Sink>(
         → IfSome (command_of (map string_bytes words.now)) (λ command. AnswersInput command (S.left source.old) (S.left source.new) (K.took sink.old) (K.took sink.new) result) }
     ensures reads { ReadsFew (S.left source.old) (S.left source.new) }
     ensures part { IfSome (S.left source.old) (λ input. AppendsPart (K.took sink.old) (K.took sink.new) (outcome (map string_bytes words.now) input).text) }
+    ensures writes { WritesPart (command_of (map string_bytes words.now)) (S.left source.old) (S.left source.new) (K.took sink.old) (K.took sink.new) }
     ensures end { IsTrue (is_script_status result) → IsAtEnd (S.left source.new) }
     ensures usage { command_of (map string_bytes words.now) ≡ None → (result ≡ 1) ⊎ (result ≡ 5) }
     ensures usage_text { result ≡ 1 → Appends (K.took sink.old) (K.took sink.new) usage.text }
@@ -78,6 +79,7 @@ fn run_command<S: Source, K: Sink>(
         → IfSome command (λ command. AnswersInput command (S.left source.old) (S.left source.new) (K.took sink.old) (K.took sink.new) result) }
     ensures reads { ReadsFew (S.left source.old) (S.left source.new) }
     ensures part { IfSome (S.left source.old) (λ input. AppendsPart (K.took sink.old) (K.took sink.new) (asked_outcome command input).text) }
+    ensures writes { WritesPart command (S.left source.old) (S.left source.new) (K.took sink.old) (K.took sink.new) }
     ensures end { IsTrue (is_script_status result) → IsAtEnd (S.left source.new) }
     ensures usage { command ≡ None → (result ≡ 1) ⊎ (result ≡ 5) }
     ensures usage_text { result ≡ 1 → Appends (K.took sink.old) (K.took sink.new) usage.text }
@@ -109,6 +111,7 @@ fn answer<S: Source, K: Sink>(
     ensures input { IfSome command (λ command. IfOk result (AnswersInput command (S.left source.old) (S.left source.new) (K.took sink.old) (K.took sink.new))) }
     ensures reads { ReadsFew (S.left source.old) (S.left source.new) }
     ensures part { IfSome (S.left source.old) (λ input. AppendsPart (K.took sink.old) (K.took sink.new) (asked_outcome command input).text) }
+    ensures writes { WritesPart command (S.left source.old) (S.left source.new) (K.took sink.old) (K.took sink.new) }
     ensures end { IfOk result (λ status. IsTrue (is_script_status status) → IsAtEnd (S.left source.new)) }
     ensures usage { command ≡ None → MatchResult result (λ status. status ≡ 1) (λ failure. failure ≡ cuts.SinkFailed) }
     ensures usage_text { IfOk result (λ status. status ≡ 1 → Appends (K.took sink.old) (K.took sink.new) usage.text) }
@@ -150,6 +153,7 @@ fn answer_command<S: Source, K: Sink>(
     ensures input { IfOk result (AnswersInput command (S.left source.old) (S.left source.new) (K.took sink.old) (K.took sink.new)) }
     ensures reads { ReadsFew (S.left source.old) (S.left source.new) }
     ensures part { IfSome (S.left source.old) (λ input. AppendsPart (K.took sink.old) (K.took sink.new) (input_outcome command input).text) }
+    ensures writes { WritesPart (Some command) (S.left source.old) (S.left source.new) (K.took sink.old) (K.took sink.new) }
     ensures end { IfOk result (λ status. IsTrue (is_script_status status) → IsAtEnd (S.left source.new)) }
     ensures reported { IfOk result (λ status. IsTrue (is_input_status status)) }
     ensures source_same { result ≢ Err cuts.SourceFailed → S.faults source.new ≡ S.faults source.old }

@@ -214,6 +214,19 @@ fn the_pinned_check_answers_in_its_order(rt: HostRuntime) {
     }
 }
 
+/// A digest that is added later is pinned as one that was there from the beginning.
+#[test]
+fn a_pin_is_added(rt: HostRuntime) {
+    let alloc = rt.alloc();
+    let none = ServerHashVerification::new(alloc, Vec::new(alloc));
+    let mut pins = none.expect(&rt, "no memory");
+    let before = pins.verify_facts(b"abc", Some(&TWO_WEEKS), 1000);
+    shows(&rt, alloc, before, "Err(UnknownIssuer)");
+    let added = pins.add(Sha256Digest::hash_der(b"abc"));
+    added.expect(&rt, "no memory");
+    pins_are_checked(&rt, alloc, &pins);
+}
+
 /// The idle time of a server that is built with so many milliseconds.
 fn idle_of(millis: Option<u128>) -> Result<IdleTimeout, InvalidIdleTimeout> {
     let builder = ServerConfig::builder()

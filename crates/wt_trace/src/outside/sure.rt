@@ -1,5 +1,7 @@
 //! A source and a sink that never fail.
-ghost use Rattle.std.specs.Prelude.{◌≡◌};
+ghost use Rattle.std.specs.Prelude.{◌≡◌, Some, length, min};
+ghost use Rattle.std.specs.Io.{ReadsAtMost};
+ghost use Rattle.std.specs.Io.KnownBytes.{ReadConsumes};
 
 use crate::outside::{Failed, Sink, Source};
 use std::marker::Model;
@@ -31,13 +33,16 @@ impl SureSource {
 }
 
 impl Source for SureSource {
-    ghost use Rattle.std.specs.Prelude.{Some};
-
     ghost left = { λ s. Some s };
 
     ghost faults = { λ _. 0 };
 
-    fn read(&mut self, buf: &mut [u8]) -> Result<usize, Failed> {
+    /// Gives as many bytes as are left and fit.
+    fn read(&mut self, buf: &mut [u8]) -> Result<usize, Failed>
+        ensures bound { ReadsAtMost result buf.new }
+        ensures bytes { ReadConsumes (Some self.old) (Some self.new) result buf.new }
+        ensures count { result ≡ Ok (min (length buf.new) (length self.old)) }
+    {
         let count = buf.len().min(self.bytes.len() - self.offset);
         let end = self.offset + count;
         buf[..count].copy_from_slice(&self.bytes[self.offset..end]);

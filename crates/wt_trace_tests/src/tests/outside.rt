@@ -1,10 +1,15 @@
 //! What is outside: which calls of those in memory fail, and how readers and writers do.
 use crate::tests::program::answers;
-use std::io::{self, Error, ErrorKind, Read, Write};
+use std::alloc::Global;
+use std::error::Error;
+use std::io::{self, ErrorKind, Read, Write};
+use std::process::Abort;
+use wt_trace::cut_short::CutShort;
 use wt_trace::outside::mem::{MemSink, MemSource};
 use wt_trace::outside::standard::{ReaderSource, WriterSink};
 use wt_trace::outside::sure::SureSink;
-use wt_trace::outside::{Sink, Source};
+use wt_trace::outside::{Failed, Sink, Source};
+use wt_trace::{Answers, ScriptRefused, TraceError};
 
 /// How many bytes a read gives, where it doesn't fail.
 fn read<S: Source>(source: &mut S, buffer: &mut [u8]) -> Option<usize> {
@@ -27,6 +32,7 @@ fn chosen_reads_fail(rt: HostRuntime) {
     assert!(rt; read(&mut source, &mut buffer) == Some(1));
     assert_eq!(rt; buffer.as_slice(), b"cb".as_slice());
     assert!(rt; read(&mut source, &mut buffer) == Some(0));
+    assert!(rt; source.made() == 4);
 }
 
 #[test]
@@ -37,6 +43,29 @@ fn chosen_writes_fail(rt: HostRuntime) {
     assert!(rt; write(&mut sink, b"cd").is_none());
     assert!(rt; write(&mut sink, b"ef") == Some(2));
     assert_eq!(rt; sink.written(), b"abef".as_slice());
+    assert!(rt; sink.made() == 3);
+    assert!(rt; sink.unkept() == 0);
+}
+
+fn shows<E: Error + Drop>(rt: &impl Abort, alloc: Global, error: E, text: &str) {
+    let shown = error.to_string(alloc).expect(rt, "no memory");
+    assert_eq!(rt; shown.as_str(), text);
+}
+
+#[test]
+fn errors_have_texts(rt: HostRuntime) {
+    let alloc = rt.alloc();
+    shows(&rt, alloc, Failed, "read or write failed");
+    shows(&rt, alloc, CutShort::SourceFailed, "source failed");
+    shows(&rt, alloc, CutShort::SinkFailed, "sink failed");
+    shows(&rt, alloc, CutShort::OutOfMemory, "out of memory");
+    shows(&rt, alloc, ScriptRefused { line: 3 }, "line 3 refused");
+    let unlawful = TraceError::Unlawful {
+        at: 2,
+        answers: Answers::new(alloc),
+    };
+    shows(&rt, alloc, unlawful, "turn 2 unlawful");
+    shows(&rt, alloc, TraceError::OutOfMemory, "out of memory");
 }
 
 /// Each of its reads fails, as those of a directory do.
@@ -45,7 +74,7 @@ struct Directory;
 
 impl Read for Directory {
     fn read(&mut self, _buf: &mut [u8]) -> io::Result<usize> {
-        Err(Error::from(ErrorKind::IsADirectory))
+        Err(io::Error::from(ErrorKind::IsADirectory))
     }
 }
 
@@ -58,7 +87,7 @@ struct FullDevice {
 impl Write for FullDevice {
     fn write(&mut self, _buf: &[u8]) -> io::Result<usize> {
         if self.fails {
-            return Err(Error::from(ErrorKind::StorageFull));
+            return Err(io::Error::from(ErrorKind::StorageFull));
         }
         Ok(0)
     }
