@@ -136,7 +136,7 @@ apart-from side e (turn ∷ later) n c b =
       lawful = lawful-parts side log own rest s.lawful (subst (λ (g : Log). AllLawful side g rest) s.log_is more.lawful);
     }
 
-begun-all : (side : Side) (e : EndpointLog) (all : List EndpointTurn) → AllMayCome side e all → AllBegun e.logs → AllBegun (endpoint_from side e all).logs
+pub begun-all : (side : Side) (e : EndpointLog) (all : List EndpointTurn) → AllMayCome side e all → AllBegun e.logs → AllBegun (endpoint_from side e all).logs
 begun-all side e [] c b = b
 begun-all side e (turn ∷ later) c b = begun-all side (endpoint_after side e turn) later c.1 (begun-after side e turn c.0 b)
 

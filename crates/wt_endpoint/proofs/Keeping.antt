@@ -10,8 +10,8 @@ use Rattle.wt_agreement.proofs.Theorems.{call_first_theorem, not_first_theorem}
 use Rattle.wt_core.proofs.Refining.{kept_connected, kept_open, may_turn_is}
 use Rattle.wt_core.specs.CoreState.{CoreState, may_turn}
 use Rattle.wt_core.specs.CoreState as core
-use Rattle.wt_endpoint.specs.Connections.{AllKeep, ConnectionsState, KeepsLog, Refines, StandsFor, after_accept, accept_now, is_live_now, live_now, may_take, takes}
-use Rattle.wt_endpoint.specs.Endpoints.{AllMayCome, EndpointLog, accept_answer, close_log, closing, closings_from, connection_log, endpoint_after, endpoint_from, endpoint_log, is_live, live_count, may_come_next, may_name, may_start, no_connections, put_log}
+use Rattle.wt_endpoint.specs.Connections.{AllKeep, ConnectionsState, KeepsLog, Refines, StandsFor, after_accept, accept_now, is_live_now, live_now, may_connect, may_take, takes}
+use Rattle.wt_endpoint.specs.Endpoints.{AllMayCome, EndpointLog, accept_answer, close_log, closing, closings_from, connection_log, endpoint_after, endpoint_from, endpoint_log, is_live, live_count, may_come_next, may_connect_next, may_name, may_start, no_connections, put_log}
 use Rattle.wt_endpoint.specs.declared.turn.EndpointTurn.{EndpointTurn}
 use Rattle.wt_endpoint.specs.declared.turn.EndpointTurn.TheVariants as events
 use Rattle.wt_endpoint.proofs.Apart.{after-first, and-left, and-right}
@@ -20,6 +20,7 @@ use Rattle.wt_turn.specs.Log.{Log, is_open}
 use Rattle.wt_turn.specs.declared.answer.Answer.{Answer}
 use Rattle.wt_turn.specs.declared.turn.Turn.{Turn}
 use Rattle.wt_wire.specs.declared.error.OutOfMemory.{OutOfMemory}
+use Rattle.wt_wire.specs.declared.lookup.ConnectOutcome.{ConnectOutcome}
 use Rattle.wt_wire.specs.declared.side.Side.{Side}
 
 -- ---- cores and logs, by number
@@ -224,7 +225,10 @@ pub live_within : (count n later : ℕ) (live : Bool) → count ≤ n → later 
 live_within count n later true l e = omega (arith, l, e)
 live_within count n later false l e = omega (arith, l, e)
 
--- ---- accepts
+-- ---- connects and accepts
+
+pub may_connect_is : (side : Side) (k : ConnectionsState) (e : EndpointLog) (outcome : ConnectOutcome) → Refines side k e → may_connect k outcome ≡ may_connect_next e outcome
+may_connect_is side k e outcome r = rw (r.closed_is, same-length side k.cores e.logs r.each) refl
 
 pub accept_is : (side : Side) (k : ConnectionsState) (e : EndpointLog) → Refines side k e → accept_now k ≡ accept_answer e
 accept_is side k e r = rw (r.closed_is, r.accepted_is, same-length side k.cores e.logs r.each) refl

@@ -46,8 +46,7 @@ abbrev pub may_take_turn : Side → ConnectionsState → EndpointTurn → Bool
 may_take_turn side k (events.Connection n turn) = may_take side k n turn
 may_take_turn side k _ = true
 
--- A connect with this outcome may begin a connection: there are fewer than 2^32, and the endpoint isn't closed, or the outcome
--- is that it is stopping.
+-- a connect with this outcome may begin a connection, by what is kept
 abbrev pub may_connect : ConnectionsState → ConnectOutcome → Bool
 may_connect k outcome = nat_lt (length k.cores) (2 ^ 32) && (not k.closed || stops outcome)
 

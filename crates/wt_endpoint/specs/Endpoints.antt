@@ -1,6 +1,6 @@
 -- What an endpoint replies to each of its turns, and what the turn leads to: the log of each connection, how many were
 -- accepted, and whether the endpoint was closed (this repository's own).
-use Rattle.std.specs.Prelude.{ℕ, ◌&&◌, ◌==◌, ◌||◌, ◌≡◌, ◌∷◌, Bool, List, None, Option, Some, [], count_by, false, if◌then◌else◌, length, map, nat_lt, not, slice_index_or, suc, true, zero}
+use Rattle.std.specs.Prelude.{ℕ, ◌&&◌, ◌==◌, ◌^◌, ◌||◌, ◌≡◌, ◌∷◌, Bool, List, None, Option, Some, [], count_by, false, if◌then◌else◌, length, map, nat_lt, not, slice_index_or, suc, true, zero}
 use Rattle.wt_seam_spec.specs.Reports.{is_connected}
 use Rattle.wt_spec.specs.Answers.{answer_to, is_client, is_lawful, log_after}
 use Rattle.wt_turn.specs.Log.{Log, all_events_of, is_open}
@@ -150,6 +150,11 @@ may_begin e n turn = has_begun e n || ((n == length e.logs) && may_start e.close
 -- on a server a call names one of the connections that were accepted
 abbrev pub may_name : Side → ℕ → ℕ → Turn → Bool
 may_name side accepted n turn = is_client side || (not (is_call turn) || nat_lt n accepted)
+
+-- A client's connect with this outcome may begin a connection: there are fewer than 2^32, and the endpoint isn't closed, or the
+-- outcome is that it is stopping.
+abbrev pub may_connect_next : EndpointLog → ConnectOutcome → Bool
+may_connect_next e outcome = nat_lt (length e.logs) (2 ^ 32) && (not e.closed || stops outcome)
 
 -- the turn may come next: a connection's is lawful for it by itself, and accepts are a server's
 abbrev pub may_come_next : Side → EndpointLog → EndpointTurn → Bool

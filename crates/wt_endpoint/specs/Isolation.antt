@@ -1,10 +1,11 @@
 -- The turns of one connection of an endpoint, and the answers to it (this repository's own).
-use Rattle.std.specs.Prelude.{ℕ, ◌&&◌, ◌==◌, ◌++◌, ◌≡◌, ◌∷◌, List, [], if◌then◌else◌}
+use Rattle.std.specs.Prelude.{ℕ, ◌&&◌, ◌==◌, ◌++◌, ◌≡◌, ◌∷◌, Bool, List, [], false, if◌then◌else◌, true}
 use Rattle.wt_laws.specs.Reachable.{AllLawful}
 use Rattle.wt_spec.specs.Answers.{answers_from, answers_to, log_from}
 use Rattle.wt_turn.specs.Log.{Log, is_open}
 use Rattle.wt_turn.specs.declared.answer.Answer.{Answer}
 use Rattle.wt_turn.specs.declared.turn.Turn.{Turn}
+use Rattle.wt_turn.specs.declared.turn.Turn.TheVariants as turns
 use Rattle.wt_wire.specs.declared.side.Side.{Side}
 use Rattle.wt_endpoint.specs.Endpoints.{EndpointLog, closing, connection_log, endpoint_after, endpoint_log, endpoint_replies, has_begun, no_connections}
 use Rattle.wt_endpoint.specs.declared.turn.EndpointReply.{EndpointReply}
@@ -33,6 +34,11 @@ own_turns side n all = own_turns_from side no_connections n all
 -- what the turns of this connection lead to, when they come alone
 abbrev pub own_log : Side → ℕ → List EndpointTurn → Log
 own_log side n all = log_from side [] (own_turns side n all)
+
+-- the first of these turns establishes the connection
+abbrev pub begin_established : List Turn → Bool
+begin_established (turns.Connected uni bi credit datagrams ∷ later) = true
+begin_established _ = false
 
 -- ---- answers
 

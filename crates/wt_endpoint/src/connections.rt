@@ -1,13 +1,13 @@
 //! The connections of an endpoint, by number.
 ghost use Rattle.std.specs.Prelude.{◌≡◌, ◌<◌, ◌≤◌, ◌^◌, [], ◌+◌, ◌-◌, IfOk, IsTrue, OnOk, count_by, if◌then◌else◌, length, map, slice_get, true, ◌++◌, ◌∷◌, List, ℕ};
 ghost use Rattle.wt_core.specs.CoreState as cores;
-ghost use Rattle.wt_endpoint.specs.Connections.{AllKeep, ConnectionsState, Refines, accept_now, after_accept, is_live_now, live_now, may_take, no_cores, takes};
+ghost use Rattle.wt_endpoint.specs.Connections.{AllKeep, ConnectionsState, Refines, accept_now, after_accept, is_live_now, live_now, may_connect, may_take, no_cores, takes};
 ghost use Rattle.wt_endpoint.specs.Endpoints.{EndpointLog, closed_at, closing, closings, closings_from, close_log, connection_log, endpoint_after, may_come_next, may_name, put_log, turned_if_open};
 ghost use Rattle.wt_spec.specs.Answers.{answer_to, is_lawful, log_after};
 ghost use Rattle.wt_turn.specs.Log.{Log};
 ghost use Rattle.wt_wire.specs.declared.side.Side.{Side};
 
-use crate::first::may_begin;
+use crate::first::{is_stopping, may_begin};
 use crate::turn::{Closings, EndpointTurn};
 use std::alloc::Global;
 use std::marker::Model;
@@ -16,6 +16,7 @@ use wt_turn::piece::Piece;
 use wt_turn::poll::Poll;
 use wt_turn::{Answer, Call, Turn};
 use wt_wire::error::OutOfMemory;
+use wt_wire::lookup::ConnectOutcome;
 use wt_wire::side::Side;
 use wt_wire::varint::VarInt;
 
@@ -64,11 +65,11 @@ impl Connections {
         self.cores.len()
     }
 
-    /// Whether the endpoint was closed.
-    pub fn is_closed(&self) -> bool
-        ensures { result ≡ self.now.closed }
+    /// Whether a connect with this outcome may begin a connection.
+    pub fn may_connect(&self, outcome: &ConnectOutcome) -> bool
+        ensures { result ≡ may_connect self.now outcome.now }
     {
-        self.closed
+        self.count() < 1 << 32 && (!self.closed || is_stopping(outcome))
     }
 
     /// Whether this turn of this connection may come next. It takes no memory.

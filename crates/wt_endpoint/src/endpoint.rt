@@ -1,8 +1,8 @@
 //! Endpoints: what listens or dials, with its connections by number.
-ghost use Rattle.std.specs.Prelude.{◌≡◌, ◌++◌, ◌∷◌, [], IfOk, IsTrue, List, OnOk, length, ℕ};
+ghost use Rattle.std.specs.Prelude.{◌≡◌, ◌++◌, ◌∷◌, [], IfOk, IsTrue, List, OnOk, Some, length, ℕ};
 ghost use Rattle.wt_endpoint.specs.Connections.{StandsFor, idle_poll, may_connect, may_take};
-ghost use Rattle.wt_endpoint.specs.Endpoints.{accept_answer, closings, endpoint_log, live_count, may_come_next};
-ghost use Rattle.wt_endpoint.specs.Isolation.{ClosedApart, own_log};
+ghost use Rattle.wt_endpoint.specs.Endpoints.{accept_answer, closings, endpoint_log, live_count, may_come_next, may_connect_next};
+ghost use Rattle.wt_endpoint.specs.Isolation.{ClosedApart, begin_established, own_log, own_turns};
 ghost use Rattle.wt_endpoint.specs.declared.turn.EndpointTurn.{EndpointTurn};
 ghost use Rattle.wt_spec.specs.Answers.{answer_to};
 ghost use Rattle.wt_turn.specs.declared.call.Call.TheVariants as calls;
@@ -10,7 +10,6 @@ ghost use Rattle.wt_turn.specs.declared.turn.Turn.TheVariants as turns;
 ghost use Rattle.wt_wire.specs.declared.side.Side.TheVariants as sides;
 
 use crate::connections::Connections;
-use crate::first::is_stopping;
 use crate::turn::Closings;
 use std::alloc::Global;
 use std::marker::Model;
@@ -171,6 +170,8 @@ impl Endpoint<Server> {
     pub fn accept(&mut self) -> Option<Poll<u32>>
         ensures answer { (all : List EndpointTurn) → StandsFor sides.Server self.old.connections all
             → result ≡ accept_answer (endpoint_log sides.Server all) }
+        ensures established { (all : List EndpointTurn) (n : ℕ) → StandsFor sides.Server self.old.connections all
+            → result ≡ Some (Poll.Ready n) → IsTrue (begin_established (own_turns sides.Server n all)) }
         ensures turns { (all : List EndpointTurn) → StandsFor sides.Server self.old.connections all
             → StandsFor sides.Server self.new.connections (all ++ EndpointTurn.Accept ∷ []) }
         ensures marker { self.new.marker ≡ self.old.marker }
@@ -209,10 +210,11 @@ impl Endpoint<Client> {
     /// Whether a connect with this outcome may begin a connection: the endpoint isn't closed, or the outcome is that it
     /// is stopping, and there are fewer than 2^32 connections.
     pub fn may_connect(&self, outcome: &ConnectOutcome) -> bool
-        ensures { result ≡ may_connect self.now.connections outcome.now }
+        ensures state { result ≡ may_connect self.now.connections outcome.now }
+        ensures turns { (all : List EndpointTurn) → StandsFor sides.Client self.now.connections all
+            → result ≡ may_connect_next (endpoint_log sides.Client all) outcome.now }
     {
-        self.connections.count() < 1 << 32
-            && (!self.connections.is_closed() || is_stopping(outcome))
+        self.connections.may_connect(outcome)
     }
 
     /// Begins the next connection: its number, and the connect's answer, which is that of a connection by itself

@@ -1,4 +1,5 @@
 //! What the contracts leave open: that memory suffices where there is enough, and worked cases.
+mod endpoint;
 mod errors;
 mod generated;
 mod hostile;
