@@ -1,5 +1,5 @@
 -- Sessions: which are established, gone or living; what waits for each in its window; which requests are held.
-use Rattle.std.specs.Prelude.{[], ◌&&◌, ◌==◌, ◌∷◌, ◌||◌, Bool, List, None, Option, Some, drop, false, filter, filter_map, if◌then◌else◌, length, not, true, unwrap_or, ℕ}
+use Rattle.std.specs.Prelude.{[], ◌&&◌, ◌==◌, ◌∷◌, ◌||◌, Bool, List, None, Option, Some, drop, false, filter, filter_map, if◌then◌else◌, length, not, suc, true, unwrap_or, ℕ}
 use Rattle.std.specs.List.{list_any}
 use Rattle.std.specs.Option.{option_or}
 use Rattle.wt_proto.specs.ResponseWalk.{response_walk_of}
@@ -136,7 +136,8 @@ receives h s _ _ = false
 
 -- how many datagrams of the session were received
 abbrev pub received_count : History → ℕ → ℕ
-received_count h s = length (filter (λ (p : Pair). receives h s p.turn p.answer.reply) h)
+received_count [] s = 0
+received_count (p ∷ h) s = if receives h s p.turn p.answer.reply then suc (received_count h s) else received_count h s
 
 -- the datagrams of the session that wait: the admitted ones, in order of arrival, after those that were received
 abbrev pub waiting_datagrams : History → List Finding → ℕ → List (ℕ × List ℕ)

@@ -47,7 +47,7 @@ none-first : (xs : List (ℕ × List ℕ)) → is_none (first_of (λ (d : ℕ ×
 none-first [] = refl
 none-first (d ∷ xs) = refl
 
-datagram-missing : (side : Side) (h : History) (s : ℕ) → is_none (first_datagram side h s) ≡ not (datagram_waits side h s)
+pub datagram-missing : (side : Side) (h : History) (s : ℕ) → is_none (first_datagram side h s) ≡ not (datagram_waits side h s)
 datagram-missing side h s = by (is_gone h (findings side h) s)
   where
     double : (b : Bool) → b ≡ not (not b)

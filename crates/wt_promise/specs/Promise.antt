@@ -1,11 +1,12 @@
 -- What is promised of every history of lawful turns and their answers, as sentences over its pairs.
-use Rattle.std.specs.Prelude.{[], ◌%◌, ◌&&◌, ◌++◌, ◌==◌, ◌∷◌, ◌||◌, ◌≡◌, ◌≤◌, Bool, Err, List, None, Ok, Option, Result, Some, codes, drop, false, filter, filter_map, if◌then◌else◌, is_none, length, map, nat_le, not, take, true, ℕ}
+use Rattle.std.specs.Prelude.{[], ◌%◌, ◌&&◌, ◌++◌, ◌==◌, ◌∷◌, ◌||◌, ◌≡◌, ◌≤◌, Bool, Err, List, None, Ok, Option, Result, Some, codes, drop, false, filter, filter_map, if◌then◌else◌, is_none, is_some, length, map, nat_le, not, take, true, ℕ}
 use Rattle.std.specs.List.{list_any}
 use Rattle.url.specs.Parser.{parse_url}
 use Rattle.wt_message.specs.FixedBytes.{response_bytes}
 use Rattle.wt_proto.specs.ResponseWalk.{response_walk_of}
 use Rattle.wt_seam_spec.specs.Joined.{join_all}
-use Rattle.wt_seam_spec.specs.Reports.{credit, end_of, is_running, unis_allowed}
+use Rattle.wt_seam_spec.specs.Reports.{credit, end_of, is_running, stop_of, unis_allowed}
+use Rattle.wt_seam_spec.specs.Sent.{finishes}
 use Rattle.wt_seam_spec.specs.Streams.{local_count, local_uni, peer_bi, peer_uni}
 use Rattle.wt_meaning.specs.ControlBytes.{local_control_bytes}
 use Rattle.wt_turn.specs.Log.{closes}
@@ -15,10 +16,11 @@ use Rattle.wt_turn.specs.declared.call.Call.{Call}
 use Rattle.wt_turn.specs.declared.connecting_error.ConnectingError.{ConnectingError}
 use Rattle.wt_turn.specs.declared.reply.Reply.{Reply}
 use Rattle.wt_turn.specs.declared.turn.Turn.{Turn}
+use Rattle.wt_wire.specs.Codes.{code_of}
 use Rattle.wt_wire.specs.declared.side.Side.{Side}
 use Rattle.wt_wire.specs.declared.side.Side.TheVariants.{Client, Server}
 use Rattle.wt_meaning.specs.Calls.{first_datagram, first_waiting, is_living, session_error}
-use Rattle.wt_meaning.specs.Findings.{Classified, Finding, fault_of, settings_came, verdict_of}
+use Rattle.wt_meaning.specs.Findings.{Classified, Faulted, Finding, SessionClosed, fault_of, settings_came, verdict_of}
 use Rattle.wt_meaning.specs.Halves.{body_start, unread, was_read}
 use Rattle.wt_meaning.specs.Handshakes.{acceptance_frame, is_opened, is_success, last_begun}
 use Rattle.wt_meaning.specs.History.{History, actions_out, can_receive, can_send, contents, events, is_given_up, is_handed_out, is_open, is_reset, is_reset_of, loses, out, was_finished}
@@ -27,7 +29,7 @@ use Rattle.wt_meaning.specs.Meaning.{answer_to, history_after, next, own_answer,
 use Rattle.wt_meaning.specs.Moments.{findings}
 use Rattle.wt_meaning.specs.Sends.{admits, is_of_session}
 use Rattle.wt_meaning.specs.Targets.{Target, target_of}
-use Rattle.wt_meaning.specs.Windows.{admitted_datagram, establishes, is_established, is_gone, is_number, last_request, lives, named, received_count, receives, session_in}
+use Rattle.wt_meaning.specs.Windows.{admitted_datagram, establishes, gone_in, is_established, is_gone, is_number, last_request, lives, named, received_count, receives, session_in}
 use Rattle.wt_promise.specs.Waits.{datagram_waits, nothing_left, on_named, stream_waits}
 use Rattle.wt_proto.specs.declared.verdict.Verdict.TheVariants as verdicts
 use Rattle.wt_turn.specs.declared.action.Action.TheVariants as actions
@@ -188,27 +190,52 @@ abbrev pub resets_with : ℕ → ℕ → Action → Bool
 resets_with k code (actions.ResetOut id c) = id == k && c == code
 resets_with k code _ = false
 
--- both halves of a stream that still run are told that the session is gone
-pub record StreamTold (side : Side) (h : History) (a : Answer) (k : ℕ) : Type 0 where
-  pub receiving : (can_receive side h k && is_running (end_of (events h) k) && not (is_given_up h k)) ≡ true → list_any (stops_with k 0x170d7b68) a.actions ≡ true
-  pub sending : (can_send side h k && not (was_finished h k) && not (is_reset h k)) ≡ true → list_any (resets_with k 0x170d7b68) a.actions ≡ true
+-- the action ends the stream's sending half
+abbrev pub ends_sending : ℕ → Action → Bool
+ends_sending k (actions.Finish id) = id == k
+ends_sending k (actions.ResetOut id code) = id == k
+ends_sending k _ = false
 
--- where a session becomes gone on an open connection, each of its streams is told in the same answer
+-- Both halves of a stream that still run are told that the session is gone: a receiving half that neither end gave up so
+-- far, and a sending half that is neither finished nor reset, unless the call itself ends it.
+pub record StreamTold (side : Side) (h later : History) (own a : Answer) (k : ℕ) : Type 0 where
+  pub receiving : (can_receive side h k && is_running (end_of (events later) k) && not (is_given_up later k)) ≡ true → list_any (stops_with k 0x170d7b68) a.actions ≡ true
+  pub sending : (can_send side h k && not (was_finished h k) && not (is_reset h k)) ≡ true
+      → (list_any (resets_with k 0x170d7b68) a.actions || list_any (ends_sending k) own.actions) ≡ true
+
+-- the turn leaves the connection open, but for what is found at its moment
+abbrev pub leaves_open : Side → History → Turn → Bool
+leaves_open side h turn = is_open (with_pair h turn (own_answer side h turn))
+
+-- where a session becomes gone, by a call or by what is found while the connection is open, each of its streams is told in the same answer
 abbrev pub GoneIsTold : Side → History → Turn → Answer → Type 0
 GoneIsTold side h turn a =
-    (s k : ℕ) → is_open h ≡ true → is_gone h (findings side h) s ≡ false → is_gone (with_pair h turn a) (findings side (with_pair h turn a)) s ≡ true
-    → is_of_session h (findings side h) s k ≡ true → StreamTold side h a k
+    (s k : ℕ) → is_open h ≡ true → (leaves_open side h turn || is_number s (gone_in h turn a.reply)) ≡ true
+    → is_gone h (findings side h) s ≡ false → is_gone (with_pair h turn a) (findings side (with_pair h turn a)) s ≡ true
+    → is_of_session h (findings side h) s k ≡ true → StreamTold side h (with_pair h turn a) (own_answer side h turn) a k
 
--- the finding classifies the stream as one that no window takes
-abbrev pub is_left_out : ℕ → Finding → Bool
-is_left_out k (Classified id (verdicts.WebTransport session offset) false) = id == k
-is_left_out k _ = false
+-- the action closes the connection with this code and no reason
+abbrev pub closes_with : ℕ → Action → Bool
+closes_with code (actions.Close c []) = c == code
+closes_with code _ = false
 
--- a stream that no window takes is stopped in the answer in which it is classified
-abbrev pub LeftOutIsStopped : Side → History → Turn → Answer → Type 0
-LeftOutIsStopped side h turn a =
-    (k : ℕ) → list_any (is_left_out k) (findings side h) ≡ false → list_any (is_left_out k) (findings side (with_pair h turn a)) ≡ true
-    → (list_any (stops_with k 0x3994bd84) a.actions || list_any (stops_with k 0x170d7b68) a.actions) ≡ true
+-- What a finding owes: a stream that no window takes is stopped (draft-ietf-webtrans-http3, sections 4.5 and 5), a refused
+-- request with its code, and a surplus one with H3_REQUEST_REJECTED; a session that the peer closed ends its own stream,
+-- with H3_NO_ERROR after a capsule, unless the peer stopped it; a fault closes with its code.
+abbrev pub owes : History → Finding → Option (Action → Bool)
+owes h (Classified id (verdicts.WebTransport session offset) false) = Some (λ (a : Action). stops_with id 0x3994bd84 a || stops_with id 0x170d7b68 a)
+owes h (Classified id (verdicts.Refused code) keeps) = Some (stops_with id (code_of code))
+owes h (Classified id (verdicts.Request headers offset) false) = Some (stops_with id 0x10b)
+owes h (SessionClosed session code reason true) = Some (resets_with session 0x100)
+owes h (SessionClosed session code reason false) = if is_some (stop_of (events h) session) then None else Some (finishes session)
+owes h (Faulted code) = Some (closes_with (code_of code))
+owes h _ = None
+
+-- what a finding owes goes out in the answer in which it is found, while the connection is open
+abbrev pub OwedGoesOut : Side → History → Turn → Answer → Type 0
+OwedGoesOut side h turn a =
+    (before after : List Finding) (f : Finding) (test : Action → Bool) → leaves_open side h turn ≡ true
+    → findings side (with_pair h turn a) ≡ findings side h ++ (before ++ f ∷ after) → owes (with_pair h turn a) f ≡ Some test → list_any test a.actions ≡ true
 
 -- ---- what this end sends
 
