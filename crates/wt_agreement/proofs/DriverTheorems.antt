@@ -1,4 +1,4 @@
--- What a driver that refines a log of lawful turns tells of it, as the functions' contracts say it.
+-- What a driver that refines a log of lawful turns knows of it, as the functions' contracts say it.
 use Rattle.std.specs.Prelude.{[], ◌∷◌, ◌≡◌, Bool, List, None, Option, Some, if◌then◌else◌, true, ℕ}
 use Rattle.std.proofs.Common.{◌∙◌, ap, refl, subst, sym}
 use Rattle.wt_driver_state.proofs.LetGo.{let-go-gone, unwanted-gone}

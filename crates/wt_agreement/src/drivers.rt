@@ -1,4 +1,4 @@
-//! What a driver that refines a log of lawful turns tells of it: functions with empty bodies, whose
+//! What a driver that refines a log of lawful turns knows of it: functions with empty bodies, whose
 //! contracts are the laws.
 ghost use Rattle.std.specs.Prelude.{◌≡◌, [], Bool, List, Option, Some, false, if◌then◌else◌, true, ℕ};
 ghost use Rattle.wt_driver_state.specs.DriverValue.{DriverValue};
@@ -38,7 +38,7 @@ pub fn drivers_tell()
         → TellsFacts side log d.inbox.transport (answers_now d.inbox.transport d.state first end walk) }
 {}
 
-/// A driver tells how the connection ended, whether it is open, and what a call is answered for
+/// A driver says how the connection ended, whether it is open, and what a call is answered for
 /// which nothing is left.
 pub fn drivers_tell_the_end()
     ensures error { (side : Side) (d : DriverValue) (log : Log) (uncollected : List Action) → Refines side d log uncollected
@@ -52,13 +52,13 @@ pub fn drivers_tell_the_end()
         ≡ (if d.inbox.transport.is_open then replies.Pending else replies.Failed (error_now d.inbox.transport d.state.progress.ending)) }
 {}
 
-/// A driver tells which requests are queued.
+/// A driver knows which requests are queued.
 pub fn drivers_tell_the_requests()
     ensures { (side : Side) (d : DriverValue) (log : Log) (uncollected : List Action) → Refines side d log uncollected
         → requests_now d.state ≡ queued_requests side log }
 {}
 
-/// A call that delivers a request leads to a log on which that request ends where the driver tells.
+/// A call that delivers a request leads to a log on which that request ends where the driver says.
 pub fn requests_end_where_drivers_tell()
     ensures { (side : Side) (d : DriverValue) (log : Log) (uncollected : List Action) (call : Call) (own : List Action) (k : ℕ) (reply : Reply)
         (id : ℕ) (headers : Fields) (offset : ℕ)

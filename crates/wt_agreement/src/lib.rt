@@ -1,4 +1,4 @@
-//! What a driver keeps of a log tells what the application's calls ask of it, and what turns and
+//! What a driver keeps of a log gives what the application's calls ask of it, and what turns and
 //! calls leave of what is kept beside the driver.
 #![tactic(auto)]
 

@@ -1,4 +1,4 @@
--- What the driver and the session keep tells which turn may come.
+-- What the driver and the session keep decides which turn may come.
 use Rattle.std.proofs.Common.{◌≡◌, ℕ}
 use Rattle.wt_transport.proofs.Asking.{refined_connected}
 use Rattle.wt_transport.proofs.Refining.{refined_fits, refined_open}

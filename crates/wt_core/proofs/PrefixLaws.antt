@@ -67,7 +67,7 @@ each-answered side ts =
 
 -- ---- where it stops
 
--- how a run with so many answers ended
+-- how a run with n answers ended
 abbrev pub EndIs : Side → Log → List Turn → ℕ → RunEnd → Type 0
 EndIs side log ts n Finished = n ≡ length ts
 EndIs side log ts n AtUnlawful = (turn : Turn) × (slice_get ts n ≡ Some turn) × (is_lawful side (log_from side log (take n ts)) turn ≡ false)

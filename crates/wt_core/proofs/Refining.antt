@@ -55,12 +55,12 @@ session_of k m log e r = subst (λ (x : CoreState). Keeps k.side x.session log) 
 
 -- ---- a turn that is no call
 
--- it may come where the transport may tell it
+-- it may come where the transport may report it
 pub event_may : (k : CoreState) (turn : Turn) → ((call : Call) → turn ≡ turns.Call call → ⊥) → fits_now k.driver.inbox.transport turn ≡ may_come_next k turn
 event_may k (turns.Call call) n = absurd (n call refl)
 event_may k _ n = refl
 
--- it is lawful where the transport may tell it
+-- it is lawful where the transport may report it
 pub event_fits : (side : Side) (log : Log) (turn : Turn) → ((call : Call) → turn ≡ turns.Call call → ⊥) → fits side log turn ≡ is_lawful side log turn
 event_fits side log (turns.Call call) n = absurd (n call refl)
 event_fits side log _ n = refl
@@ -71,7 +71,7 @@ event_reply side log (turns.Call call) n = absurd (n call refl)
 event_reply side log (turns.Bytes id piece) n = refl
 event_reply side log _ n = refl
 
--- what the transport may tell is no call
+-- what the transport may report is no call
 pub fits_event : (side : Side) (log : Log) (turn : Turn) → fits side log turn ≡ true → is_call turn ≡ false
 fits_event side log (turns.Call call) f = absurd (cc)
 fits_event side log _ f = refl

@@ -69,7 +69,7 @@ abbrev pub IsOnce : List Classified → Type 0
 IsOnce [] = Unit {0}
 IsOnce (c ∷ cs) = (verdict_of c.id cs ≡ None) × IsOnce cs
 
--- on an open connection a dequeued stream that isn't classified doesn't tell yet what it is
+-- on an open connection a dequeued stream that isn't classified doesn't show yet what it is
 pub record DequeuedAsk (side : Side) (log : Log) (k : ℕ) : Type 0 where
   pub unis : has k (uni_ids (transport_view side log)) ≡ true → is_final (uni_verdict_of (contents log k) (end_of (events_of log) k)) ≡ false
   pub bis : has k (bi_ids (transport_view side log)) ≡ true → is_final (bi_verdict_of (contents log k) (end_of (events_of log) k)) ≡ false

@@ -11,7 +11,7 @@ use Rattle.wt_wire.specs.declared.side.Side.{Side}
 -- how far a stream in a slot is
 pub data SlotPhase : Type 0 where
   Arrived : SlotPhase  -- it isn't dequeued
-  Dequeued : SlotPhase  -- its header is read, and doesn't tell yet what it is
+  Dequeued : SlotPhase  -- its header is read, and doesn't show yet what it is
   Held : SlotPhase  -- it is classified, and holds its slot until an accept releases it
 
 -- a stream of the peer's that isn't released

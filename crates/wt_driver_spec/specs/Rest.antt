@@ -61,7 +61,7 @@ state_at_rest s = begin_if s.is_open s
 abbrev pub with_contents : TransportView → (ℕ → List ℕ) → TransportView
 with_contents t bytes = record t { contents = bytes }
 
--- the stream, where it is dequeued, still doesn't tell what it is
+-- the stream, where it is dequeued, still doesn't show what it is
 abbrev pub StillReads : SlotRule → ℕ → List Slot → Type 0
 StillReads rule id [] = Unit {0}
 StillReads rule id (slot ∷ slots) = ((id == slot.id) ≡ true → slot.phase ≡ Dequeued

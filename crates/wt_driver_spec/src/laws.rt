@@ -65,7 +65,7 @@ pub fn few_slots_are_dequeued()
 {}
 
 /// A stream is classified once, and what is dequeued, classified or released stays so; a dequeued
-/// stream that isn't classified doesn't tell yet what it is.
+/// stream that isn't classified doesn't show yet what it is.
 #[tactic(auto, using(crate::proofs::Theorems::once_theorem, crate::proofs::Theorems::stay_theorem, crate::proofs::Theorems::ask_theorem))]
 pub fn streams_are_classified_once()
     ensures once { (side : Side) (log : Log) → Fits side log → IsOnce (stream_table side log).classified }

@@ -1,4 +1,4 @@
--- What a driver follows where a client's response was read on, and the request that it tells.
+-- What a driver follows where a client's response was read on, and the request that it reports.
 use Rattle.std.proofs.Common.{◌≡◌, ◌∙◌, ℕ, Bool, true, false, List, [], ◌∷◌, ◌++◌, ap, refl, subst, sym}
 use Rattle.std.proofs.lemmas.Bool.{and_parts}
 use Rattle.std.specs.Prelude.{IfOk, None, Option, Result, if◌then◌else◌, not, ◌&&◌}

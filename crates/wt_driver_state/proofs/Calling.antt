@@ -41,7 +41,7 @@ use Rattle.wt_turn.specs.declared.action.Action.{Action}
 use Rattle.wt_wire.specs.declared.side.Side.{Side}
 use Rattle.wt_wire.specs.declared.side.Side.TheVariants.{Client, Server}
 
--- ---- records that tell the transport nothing
+-- ---- records that the transport doesn't see
 
 -- neither a priority nor a reset
 abbrev pub TellsNothing : CallRecord → Type 0

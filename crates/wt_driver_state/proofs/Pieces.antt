@@ -145,7 +145,7 @@ reads-no rule id (l ∷ ls) e = by l.phase refl e (reads-no rule id ls)
         here true h i again = absurd cc
         here false h i again = (λ same dequeued. absurd (let j : true ≡ false = sym same ∙ h in cc), again i)
 
--- the header of this stream doesn't tell yet what it is
+-- the header of this stream doesn't show yet what it is
 reads-still : (rule : SlotRule) (id : ℕ) (ls : List Slot) → is_final (rule.verdict id) ≡ false → StillReads rule id ls
 reads-still rule id [] e = tt
 reads-still rule id (l ∷ ls) e = (λ same dequeued. ap (λ (k : ℕ). is_final (rule.verdict k)) (sym (eqb-true id l.id same)) ∙ e, reads-still rule id ls e)

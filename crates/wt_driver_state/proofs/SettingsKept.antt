@@ -145,7 +145,7 @@ scans-go-on t s =
     let bis = slots-go-on t.ready (bi_rule t) a.bis 0 (known_of a) in
     (bis.has_come ∙ unis.has_come, λ x e. bis.control x (unis.control x e))
 
--- ---- the checks: only that of the control stream tells that SETTINGS came
+-- ---- the checks: only that of the control stream reports that SETTINGS came
 
 or-false : (b : Bool) → (b || false) ≡ b
 or-false true = refl

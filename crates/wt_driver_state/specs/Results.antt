@@ -1,4 +1,4 @@
--- How a driver tells the ending of the connection, the peer's SETTINGS and the request that is queued.
+-- How a driver reports the ending of the connection, the peer's SETTINGS and the request that is queued.
 use Rattle.std.specs.Prelude.{◌&&◌, Bool, Err, None, Ok, Option, Result, Some, false, if◌then◌else◌, not, true}
 use Rattle.wt_driver_state.specs.DriverValue.{DriverValue}
 use Rattle.wt_message.specs.declared.settings.Settings.{Settings}

@@ -1,4 +1,4 @@
--- What a transport that refines a log tells of the facts that calls ask.
+-- What a transport that refines a log has of the facts that calls ask.
 use Rattle.std.specs.Prelude.{[], ◌%◌, ◌&&◌, ◌+◌, ◌*◌, ◌==◌, ◌∷◌, ◌≡◌, Bool, List, false, if◌then◌else◌, is_some, length, nat_lt, not, suc, true, zero, ℕ}
 use Rattle.std.proofs.Common.{◌∙◌, ap, arith, refl, sym}
 use Rattle.std.proofs.lemmas.Bool.{lt-ltb, ne_eqb}

@@ -182,7 +182,7 @@ module _ (side : Side) (log : Log) (t : TransportState) (d : DriverAnswers) (x :
       may-other calls.Incoming = refl
       may-other _ = refl
 
--- ---- what the table tells of streams
+-- ---- what the table has of streams
 
 pub opening_kept : (s : TableValue) (log : Log) (k : ℕ) → KeepsCalls s (calls_of log) → is_opening_now (session_of_table s) k ≡ is_opening log k
 opening_kept s log k c = ap (λ u. is_opening_now u k) (table-same s log c) ∙ same-opening log k

@@ -19,7 +19,7 @@ read-at x k bytes position Untouched n i e = let p = i.0 in cc
 read-at x k bytes position (Body m) n i e = let p = i.0 in cc
 read-at x k bytes position _ n i e = absurd (cc)
 
--- an inbox, whose stages say how far the calls read, tells what a log does
+-- an inbox, whose stages say how far the calls read, has the facts of a log
 pub inbox_tells : (side : Side) (log : Log) (x : InboxState) (stage : ℕ → Stage) (uncollected : List Action) (d : DriverAnswers)
     → inboxes.Refines side x log stage uncollected → StagesReadAsCalled side log stage → AnswersLog side log d → IsReachable side log → TellsFacts side log x.transport d
 inbox_tells side log x stage uncollected d r s a reach = record {

@@ -1,4 +1,4 @@
--- When a transport, the driver's answers and a table tell what a log does.
+-- When a transport, the driver's answers and a table have the facts of a log.
 use Rattle.std.specs.Prelude.{◌+◌, ◌≡◌, List, Option, is_some, true, ℕ}
 use Rattle.wt_plan.specs.FactsNow.{DriverAnswers}
 use Rattle.wt_plan.specs.Table.{TableValue, use_as, use_now}
@@ -59,7 +59,7 @@ ReadsAsCalled side log position =
     (k : ℕ) → has_receiving_half side log k ≡ true
     → position k ≡ AtOffset (body_start (verdict_of k (stream_table side log).classified) + total_read k (calls_of log))
 
--- a transport and the driver's answers tell what a log does
+-- a transport and the driver's answers have the facts of a log
 pub record TellsFacts (side : Side) (log : Log) (t : TransportState) (d : DriverAnswers) : Type 0 where
   pub position : ℕ → ReadPosition
   pub uncollected : List Action

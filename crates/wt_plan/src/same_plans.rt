@@ -38,7 +38,7 @@ pub fn lawful_logs_tell()
     ensures { (side : Side) (log : Log) → IsReachable side log → LogTells side log }
 {}
 
-/// An inbox whose stages say how far the calls read tells, with the driver's answers, what a log of lawful turns does.
+/// An inbox whose stages say how far the calls read has, with the driver's answers, the facts of a log of lawful turns.
 pub fn inboxes_tell()
     ensures { (side : Side) (log : Log) (x : InboxState) (stage : ℕ → Stage) (uncollected : List Action) (d : DriverAnswers)
         → inboxes.Refines side x log stage uncollected → StagesReadAsCalled side log stage → AnswersLog side log d → IsReachable side log

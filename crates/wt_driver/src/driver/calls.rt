@@ -72,7 +72,7 @@ impl Driver {
         Ok(Some(self.error()?))
     }
 
-    /// How the driver tells the ending of the connection, whether it is open or not.
+    /// The error by which the driver reports the ending of the connection, whether it is open or not.
     pub fn error(&self) -> Result<DriverError, OutOfMemory>
         ensures { IfOk result (λ e. e ≡ error_of self.now.state.progress.ending) }
     {

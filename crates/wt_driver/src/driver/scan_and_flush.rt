@@ -101,7 +101,7 @@ impl Driver {
         ensures { OnOk result (self.new
             ≡ with_state self.old (record self.old.state { progress = dequeued_datagram (front_of self.old.queue) self.old.state.progress })) }
     {
-        // No connection brings so many; a count that can't rise is out of memory.
+        // No connection brings 2^62 datagrams; a count that can't rise is out of memory.
         if self.progress.datagrams() >= 1 << 62 {
             return Err(OutOfMemory);
         }
