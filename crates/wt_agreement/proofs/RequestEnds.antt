@@ -230,9 +230,9 @@ module _ (side : Side) (log : Log) (own : List Action) (k : ℕ) (reply : Reply)
 first-serves : (side : Side) → Serves side (λ (g : Log). Unit {0}) (λ (g : Log). is_first g ≡ false)
 first-serves side = record {
   passed = λ log k p. tt;
-  given = λ log k p. tt;
+  given = λ log k session p. tt;
   skipped = λ log p. tt;
-  received = λ log p. tt;
+  received = λ log index p. tt;
   polled = λ log p. entry-first side (Called Polled) log;
 }
 
