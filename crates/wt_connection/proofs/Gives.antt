@@ -1,9 +1,10 @@
 -- What a call gives stands for the log after it: the halves of a stream, and an opening.
-use Rattle.std.specs.Prelude.{Bool, Err, List, None, Ok, Result, Some, [], false, if◌then◌else◌, not, true, ℕ, ◌%◌, ◌&&◌, ◌*◌, ◌+◌, ◌/◌, ◌<◌, ◌==◌, ◌||◌, ◌∷◌, ◌≡◌, ◌≢◌, ◌≤◌, ◌⊎◌}
+use Rattle.std.specs.Prelude.{Bool, Err, IfOk, List, None, Ok, Result, Some, [], false, if◌then◌else◌, not, true, ℕ, ◌%◌, ◌&&◌, ◌*◌, ◌+◌, ◌/◌, ◌<◌, ◌==◌, ◌||◌, ◌∷◌, ◌≡◌, ◌≢◌, ◌≤◌, ◌⊎◌}
 use Rattle.std.proofs.Common.{◌∙◌, ap, arith, refl, subst, sym}
 use Rattle.std.proofs.lemmas.Bool.{and_from, and_parts, eq-eqb, eqb-true, not-true, or_left, or_right}
 use Rattle.std.specs.List.{list_any}
-use Rattle.wt_calls.specs.GivingCalls.{poll_reply}
+use Rattle.std.specs.Option.{IfSome}
+use Rattle.wt_calls.specs.GivingCalls.{given_in, poll_reply}
 use Rattle.wt_turn.specs.declared.connection_error.ConnectionError.{ConnectionError}
 use Rattle.wt_turn.specs.declared.stream_error.StreamOpeningError.{StreamOpeningError}
 use Rattle.wt_turn.specs.declared.stream_error.StreamOpeningError.TheVariants as openings
@@ -489,3 +490,12 @@ module _ (side : Side) (log : Log) (r : IsReachable side log) (kind : Bool) (o :
       subst (λ (k : ℕ). has_receiving_half side poll.log k ≡ true) (own_is ∙ same) (receives-opened (i.kind ∙ t) (ap given_stream (sym e) ∙ ap Some (sym own_is)))
   both_receive t (Ready (Err x)) e same = tt
   both_receive t Pending e same = tt
+
+-- ---- datagrams
+
+-- what holds of the item that a receive gives holds of it in its poll
+pub each_given : {T E : Type 0} (result : Result (Poll (Result T ConnectionError)) E) (P : T → Type 0) → IfOk result (λ a. IfSome (given_in a) P) → IfOk result (λ a. IfGiven a P)
+each_given (Ok (Ready (Ok item))) P p = p
+each_given (Ok (Ready (Err e))) P p = tt
+each_given (Ok Pending) P p = tt
+each_given (Err e) P p = tt
