@@ -7,16 +7,5 @@ pub mod Ended
 pub mod Accepted
 pub mod ReadEnds
 pub mod Tables
-pub mod Gives
 pub mod Grows
-pub mod Datagrams
-pub mod Actions
-pub mod OpenStays
-pub mod Owed
-pub mod HandedOut
-pub mod ReadPieces
-pub mod GoneTold
-pub mod Phases
-pub mod Few
-pub mod ResultKept
 pub mod Theorems

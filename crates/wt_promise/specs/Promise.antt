@@ -1,6 +1,7 @@
 -- What is promised of every history of lawful turns and their answers, as sentences over its pairs.
-use Rattle.std.specs.Prelude.{[], ◌%◌, ◌&&◌, ◌++◌, ◌==◌, ◌∷◌, ◌||◌, ◌≡◌, ◌≤◌, Bool, Err, List, None, Ok, Option, Result, Some, codes, drop, false, filter, filter_map, if◌then◌else◌, is_none, is_some, length, map, nat_le, not, take, true, ℕ}
+use Rattle.std.specs.Prelude.{[], ◌%◌, ◌&&◌, ◌++◌, ◌==◌, ◌∷◌, ◌||◌, ◌≡◌, ◌≤◌, Bool, Err, List, None, Ok, Option, Result, Some, codes, drop, false, filter, filter_map, if◌then◌else◌, is_none, is_some, length, map, nat_le, not, take, true, unwrap_or, ℕ}
 use Rattle.std.specs.List.{list_any}
+use Rattle.std.specs.Option.{option_or}
 use Rattle.url.specs.Parser.{parse_url}
 use Rattle.wt_message.specs.FixedBytes.{response_bytes}
 use Rattle.wt_proto.specs.ResponseWalk.{response_walk_of}
@@ -19,11 +20,11 @@ use Rattle.wt_turn.specs.declared.turn.Turn.{Turn}
 use Rattle.wt_wire.specs.Codes.{code_of}
 use Rattle.wt_wire.specs.declared.side.Side.{Side}
 use Rattle.wt_wire.specs.declared.side.Side.TheVariants.{Client, Server}
-use Rattle.wt_meaning.specs.Calls.{first_datagram, first_waiting, is_living, session_error}
-use Rattle.wt_meaning.specs.Findings.{Classified, Faulted, Finding, SessionClosed, fault_of, settings_came, verdict_of}
+use Rattle.wt_meaning.specs.Calls.{first_datagram, first_waiting, is_living, opened_by, session_error, stream_header}
+use Rattle.wt_meaning.specs.Findings.{Classified, Faulted, Finding, SessionClosed, fault_of, first_of, settings_came, verdict_of}
 use Rattle.wt_meaning.specs.Halves.{body_start, unread, was_read}
-use Rattle.wt_meaning.specs.Handshakes.{acceptance_frame, is_opened, is_success, last_begun}
-use Rattle.wt_meaning.specs.History.{History, actions_out, can_receive, can_send, contents, events, is_given_up, is_handed_out, is_open, is_reset, is_reset_of, loses, out, was_finished}
+use Rattle.wt_meaning.specs.Handshakes.{acceptance_frame, begun_by, is_opened, is_success, last_begun}
+use Rattle.wt_meaning.specs.History.{History, Pair, actions_out, can_receive, can_send, contents, events, is_given_up, is_handed_out, is_open, is_reset, is_reset_of, loses, out, was_finished}
 use Rattle.wt_meaning.specs.Lawful.{is_lawful, is_pending}
 use Rattle.wt_meaning.specs.Meaning.{answer_to, history_after, next, own_answer, with_pair}
 use Rattle.wt_meaning.specs.Moments.{findings}
@@ -260,10 +261,37 @@ abbrev pub accepted : History → ℕ → List ℕ
 accepted [] k = []
 accepted (p ∷ h) k = accepted h k ++ accepted_by k p.turn p.answer.reply
 
+-- the connect or response that was begun for the stream: a connect's is stream 0, a response's that of the request that was given last
+abbrev pub begun_on : History → ℕ → Option Call
+begun_on [] k = None
+begun_on (p ∷ h) k = option_or (begun_on h k) (if unwrap_or (last_request h) 0 == k then begun_by p.turn else None)
+
+-- the header of a stream that was opened for this session
+abbrev pub header_for : ℕ → Option ℕ → List ℕ
+header_for k None = []
+header_for k (Some s) = stream_header k s
+
+-- the header of a stream that was opened by a call with this name
+abbrev pub header_on : History → ℕ → Option (Option ℕ) → List ℕ
+header_on h k None = []
+header_on h k (Some name) = header_for k (named h name)
+
+-- the frame of a connect or response, else this
+abbrev pub frame_or : Option Call → List ℕ → List ℕ
+frame_or None header = header
+frame_or (Some c) header = head_of (Some c)
+
+-- what this layer sends first on a stream: the 25 bytes of its control stream, a request or a response, a header of a
+-- stream that it opened; nothing on a stream that it accepted
+abbrev pub head_on : Side → History → ℕ → List ℕ
+head_on side h k =
+    if k == local_uni side then local_control_bytes
+    else frame_or (begun_on h k) (header_on h k (first_of (λ (p : Pair). opened_by k p.turn p.answer.reply) h))
+
 -- what went out on a stream is a prefix of its head and what was accepted, and all of it once the head is out
-pub record SendsInOrder (h : History) (k : ℕ) (head : List ℕ) : Type 0 where
-  pub front : take (length (out h k)) (head ++ accepted h k) ≡ out h k
-  pub all : length head ≤ length (out h k) → out h k ≡ head ++ accepted h k
+pub record SendsInOrder (side : Side) (h : History) (k : ℕ) : Type 0 where
+  pub front : take (length (out h k)) (head_on side h k ++ accepted h k) ≡ out h k
+  pub all : length (head_on side h k) ≤ length (out h k) → out h k ≡ head_on side h k ++ accepted h k
 
 -- the action sends on the stream, or finishes it
 abbrev pub sends_on : ℕ → Action → Bool
