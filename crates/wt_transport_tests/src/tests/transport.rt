@@ -1,8 +1,13 @@
 //! What the contracts leave open: that memory suffices where there is enough.
 use crate::tests::rows::{plays, repeats, server, stream};
+use std::alloc::Global;
 use std::process::Abort;
 use wt_transport::transport::Transport;
+use wt_turn::piece::Piece;
+use wt_wire::addr::Addr;
 use wt_wire::ids::StreamId;
+use wt_wire::side::Side;
+use wt_wire::text::Text;
 
 fn send(rt: &impl Abort, transport: &mut Transport, id: StreamId, bytes: &[u8]) -> usize {
     let may_send = transport.may_send(id);
@@ -20,6 +25,24 @@ fn consume(rt: &impl Abort, transport: &mut Transport, id: StreamId, count: usiz
 
 fn give_up(transport: &mut Transport, id: StreamId) {
     transport.give_up(id);
+}
+
+fn dial(rt: &impl Abort, alloc: Global, transport: &mut Transport) {
+    let address = Addr::V4 {
+        ip: 0x7f00_0001,
+        port: 443,
+    };
+    let name = Text::from_text(alloc, "h").expect(rt, "no memory");
+    let is_open = transport.is_open();
+    assert!(rt; is_open);
+    transport.dial(address, name).expect(rt, "no memory");
+}
+
+fn send_datagram(rt: &impl Abort, alloc: Global, transport: &mut Transport, bytes: &[u8]) {
+    let piece = Piece::from_slice(alloc, bytes).expect(rt, "no memory");
+    let is_open = transport.is_open();
+    assert!(rt; is_open);
+    transport.datagram_out(piece).expect(rt, "no memory");
 }
 
 /// A server that may open one stream and send three bytes on it opens it and sends.
@@ -55,6 +78,21 @@ fn a_server_opens_sends_and_receives(rt: HostRuntime) {
     plays(&rt, alloc, &mut transport, ARRIVING);
     assert!(rt; consume(&rt, &mut transport, stream(2), 1) == 1);
     plays(&rt, alloc, &mut transport, LATER);
+}
+
+const DIALLED: &str = "\
+actions: done ; dial v4:7f000001:443 68 ; datagram_out 6162
+actions: done";
+
+#[test]
+fn a_client_dials_and_sends_a_datagram(rt: HostRuntime) {
+    let alloc = rt.alloc();
+    let mut transport = Transport::new(alloc, Side::Client);
+    plays(&rt, alloc, &mut transport, "connected 0 0 3 1200: unlawful");
+    dial(&rt, alloc, &mut transport);
+    plays(&rt, alloc, &mut transport, "connected 0 0 3 1200: done");
+    send_datagram(&rt, alloc, &mut transport, b"ab");
+    plays(&rt, alloc, &mut transport, DIALLED);
 }
 
 const A_STREAM: &str = "\
