@@ -1,11 +1,11 @@
 -- A server's connection begins as it is established, so one that is accepted was.
 use Rattle.std.proofs.Common.{◌≡◌, ◌<◌, ◌∷◌, Bool, List, [], ap, arith, false, length, refl, subst, sym, true, ◌∙◌, ℕ}
 use Rattle.std.proofs.lemmas.Bool.Decides.{nat_tests}
-use Rattle.std.specs.Prelude.{None, Option, Some, nat_lt}
+use Rattle.std.specs.Prelude.{Option, Some, nat_lt}
 use Rattle.wt_endpoint.proofs.Apart.{apart_theorem, begun-all, own_log_theorem}
 use Rattle.wt_endpoint.proofs.Logs.{begun-get}
 use Rattle.wt_endpoint.specs.Endpoints.{AllMayCome, accept_answer, accept_next, endpoint_log, no_connections}
-use Rattle.wt_endpoint.specs.Isolation.{begin_established, own_log, own_turns}
+use Rattle.wt_endpoint.specs.Isolation.{begin_established, own_turns}
 use Rattle.wt_endpoint.specs.declared.turn.EndpointTurn.{EndpointTurn}
 use Rattle.wt_laws.specs.Reachable.{AllLawful}
 use Rattle.wt_spec.specs.Answers.{is_first, is_lawful, log_from, may_call}
@@ -37,7 +37,7 @@ begun-established all n c l =
     let begun = begun-get (endpoint_log Server all).logs n (begun-all Server no_connections all c tt) l in
     first-of (own_turns Server n all) (apart_theorem Server all c n).1 (subst (λ (log : Log). is_first log ≡ false) (own_log_theorem Server all n c) begun)
 
-number-of : Option (Poll ℕ) → ℕ
+abbrev number-of : Option (Poll ℕ) → ℕ
 number-of (Some (Ready n)) = n
 number-of _ = 0
 
