@@ -11,7 +11,8 @@ fn next_request(alloc: Global, driver: &mut Driver) -> Result<Option<SessionRequ
     let mut incoming = IncomingSession::new().into_future();
     match incoming.poll(alloc, driver)? {
         Poll::Ready(Ok(request)) => Ok(Some(request)),
-        Poll::Ready(Err(_)) | Poll::Pending => Ok(None),
+        Poll::Ready(Err(_error)) => Ok(None),
+        Poll::Pending => Ok(None),
     }
 }
 
@@ -23,7 +24,8 @@ fn session(
 ) -> Result<Option<Connection>, OutOfMemory> {
     match accepting.poll(alloc, driver)? {
         Poll::Ready(Ok(connection)) => Ok(Some(connection)),
-        Poll::Ready(Err(_)) | Poll::Pending => Ok(None),
+        Poll::Ready(Err(_error)) => Ok(None),
+        Poll::Pending => Ok(None),
     }
 }
 
@@ -35,7 +37,8 @@ fn next_stream(
 ) -> Result<Option<RecvStream>, OutOfMemory> {
     match connection.accept_uni(alloc, driver)? {
         Poll::Ready(Ok(stream)) => Ok(Some(stream)),
-        Poll::Ready(Err(_)) | Poll::Pending => Ok(None),
+        Poll::Ready(Err(_error)) => Ok(None),
+        Poll::Pending => Ok(None),
     }
 }
 
