@@ -62,6 +62,8 @@ fn long_headers(rt: &impl Abort, alloc: Global) -> Headers {
 }
 
 fn are_read_back(rt: &impl Abort, alloc: Global, headers: &Headers) {
+    let copy = headers.copy().expect(rt, "no memory");
+    assert!(rt; copy.list() == headers.list());
     let frame = headers.generate_frame().expect(rt, "no memory");
     match Headers::with_frame(alloc, &frame) {
         Ok(Ok(again)) => assert!(rt; again.list() == headers.list()),

@@ -14,12 +14,18 @@ use wt_wire::frame::Frame;
 use wt_wire::ids::{SessionId, StreamId};
 use wt_wire::varint::VarInt;
 
-/// The frame is there, and is written as these bytes.
-fn is_written(rt: &impl Abort, alloc: Global, frame: Result<Frame, OutOfMemory>, bytes: &[u8]) {
-    let frame = frame.expect(rt, "no memory");
+fn writes(rt: &impl Abort, alloc: Global, frame: &Frame, bytes: &[u8]) {
     let mut out = Vec::new(alloc);
     frame.write(&mut out).expect(rt, "no memory");
     assert_eq!(rt; out.as_slice(), bytes);
+}
+
+/// The frame is there, and is written as these bytes; so is a copy of it.
+fn is_written(rt: &impl Abort, alloc: Global, frame: Result<Frame, OutOfMemory>, bytes: &[u8]) {
+    let frame = frame.expect(rt, "no memory");
+    writes(rt, alloc, &frame, bytes);
+    let copy = frame.copy().expect(rt, "no memory");
+    writes(rt, alloc, &copy, bytes);
 }
 
 #[test]
@@ -70,11 +76,17 @@ fn inserts(
     shows(rt, alloc, request.insert(field.0, field.1), shown);
 }
 
+fn request_is_copied(rt: &impl Abort, alloc: Global, request: &SessionRequest) {
+    let copy = request.copy().expect(rt, "no memory");
+    is_written(rt, alloc, copy.generate_frame(), REQUEST);
+}
+
 #[test]
 fn a_request_is_written_and_takes_fields(rt: HostRuntime) {
     let alloc = rt.alloc();
     let mut request = SessionRequest::new(alloc, "h", "/").expect(&rt, "no memory");
     is_written(&rt, alloc, request.generate_frame(), REQUEST);
+    request_is_copied(&rt, alloc, &request);
     let origin = ("origin", "https://o");
     inserts(&rt, alloc, &mut request, origin, "Ok(Ok(()))");
     let path = (":path", "/other");
@@ -91,6 +103,8 @@ fn response_is_written(
 ) {
     let response = response.expect(rt, "no memory");
     is_written(rt, alloc, response.generate_frame(), bytes);
+    let copy = response.copy().expect(rt, "no memory");
+    is_written(rt, alloc, copy.generate_frame(), bytes);
 }
 
 #[test]
