@@ -9,7 +9,7 @@
 //! | `closed`, `close CODE BYTES` | `result`, `close` |
 //! | `accept_settings`, `error`, `is_open`, `have_settings_come`, `readers` | the call of that name |
 //! | `register ID AT` | `register_session` |
-//! | `next_request ID AT`, `session ID AT`, `unread ID COUNT` | whether that is what the driver tells |
+//! | `next_request ID AT`, `session ID AT`, `unread ID COUNT` | whether that is what the driver reports |
 //! | `establish ID AT` | a server's request is delivered, and its session established |
 //! | `established ID AT` | a client's session is established |
 //! | `dial`, `open_request` | a client dials, and opens the stream of its request |

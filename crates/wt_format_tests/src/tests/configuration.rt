@@ -227,7 +227,7 @@ fn a_pin_is_added(rt: HostRuntime) {
     pins_are_checked(&rt, alloc, &pins);
 }
 
-/// The idle time of a server that is built with so many milliseconds.
+/// The idle time of a server that is built with this many milliseconds.
 fn idle_of(millis: Option<u128>) -> Result<IdleTimeout, InvalidIdleTimeout> {
     let builder = ServerConfig::builder()
         .with_bind_default(4433)

@@ -10,9 +10,11 @@ use wt_message::session::{BadStatus, HeadersParseError, ReservedHeader};
 use wt_turn::LossReason;
 use wt_turn::connecting_error::{ConnectingError, UrlRefusal};
 use wt_turn::connection_error::{ConnectionError, H3Error, QuicProtoError};
+use wt_turn::driver_error::DriverError;
+use wt_turn::proto_error::{IoReadError, ProtoReadError, ProtoWriteError};
 use wt_turn::stream_error::{
-    ClosedStream, SendDatagramError, StreamOpeningError, StreamReadError, StreamReadExactError,
-    StreamWriteError,
+    AlreadyStop, ClosedStream, SendDatagramError, StreamOpeningError, StreamReadError,
+    StreamReadExactError, StreamWriteError,
 };
 use wt_wire::addr::Addr;
 use wt_wire::error::{ErrorCode, OutOfMemory};
@@ -84,6 +86,28 @@ const OPENINGS: [(StreamOpeningError, &str); 2] = [
     (StreamOpeningError::Refused, "opening stream refused"),
 ];
 
+const READS: [(ProtoReadError, &str); 5] = [
+    (ProtoReadError::H3(ErrorCode::Id), "protocol error: Id"),
+    (
+        ProtoReadError::IO(IoReadError::ImmediateFin),
+        "stream ended",
+    ),
+    (
+        ProtoReadError::IO(IoReadError::UnexpectedFin),
+        "stream ended inside a frame",
+    ),
+    (ProtoReadError::IO(IoReadError::Reset), "stream reset"),
+    (
+        ProtoReadError::IO(IoReadError::NotConnected),
+        "not connected",
+    ),
+];
+
+const WRITES: [(ProtoWriteError, &str); 2] = [
+    (ProtoWriteError::NotConnected, "not connected"),
+    (ProtoWriteError::Stopped, "stream stopped"),
+];
+
 /// Compares what the error shows with its text.
 fn shows<T: Display + Drop>(rt: &impl Abort, alloc: Global, error: T, text: &str) {
     let shown = error.to_string(alloc).expect(rt, "no memory");
@@ -113,6 +137,8 @@ fn tables(rt: &impl Abort, alloc: Global) {
     all_show(rt, alloc, &URLS);
     all_show(rt, alloc, &DATAGRAMS);
     all_show(rt, alloc, &OPENINGS);
+    all_show(rt, alloc, &READS);
+    all_show(rt, alloc, &WRITES);
 }
 
 /// Errors that are alone of their kind.
@@ -124,6 +150,7 @@ fn singles(rt: &impl Abort, alloc: Global) {
         InvalidDigest => "cannot parse string as sha256 digest",
         InvalidIdleTimeout => "idle timeout value configuration is invalid",
         ClosedStream => "closed stream",
+        AlreadyStop => "stream already stopped",
     );
 }
 
@@ -186,6 +213,15 @@ fn ends(rt: &impl Abort, alloc: Global) {
     );
 }
 
+/// A driver whose connection ended.
+fn drivers(rt: &impl Abort, alloc: Global) {
+    show!(rt, alloc;
+        DriverError::Proto(ErrorCode::Frame) => "connection locally aborted: Frame",
+        DriverError::ApplicationClosed(by_application(rt, alloc, b"bye")) => "session closed by peer: bye (code 7)",
+        DriverError::NotConnected => "not connected",
+    );
+}
+
 /// A connect that came to nothing before a connection was there.
 fn connects(rt: &impl Abort, alloc: Global) {
     show!(rt, alloc;
@@ -210,5 +246,6 @@ fn every_error_has_its_text(rt: HostRuntime) {
     reasons(&rt, alloc);
     losses(&rt, alloc);
     ends(&rt, alloc);
+    drivers(&rt, alloc);
     connects(&rt, alloc);
 }
