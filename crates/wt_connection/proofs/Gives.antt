@@ -34,7 +34,7 @@ use Rattle.wt_spec.specs.Driver.{releases}
 use Rattle.wt_spec.specs.Effect.{Effect, head_left, is_covered, log_call, poll_only, poll_sending, reply_with, transport_error}
 use Rattle.wt_spec.specs.Halves.{gives_up, has_receiving_half, has_sending_half, is_accepted}
 use Rattle.wt_spec.specs.Handshake.{is_refused}
-use Rattle.wt_turn.specs.Log.{BytesRead, CallRecord, Called, DatagramReceived, Log, OpeningFailed, OpeningStarted, Polled, RequestDelivered, SessionEstablished, StreamAccepted, StreamGivenUp, actions_of, all_events_of, calls_of, is_open}
+use Rattle.wt_turn.specs.Log.{AcceptanceFailed, BytesRead, CallRecord, Called, DatagramReceived, Log, OpeningFailed, OpeningStarted, Polled, RequestDelivered, RequestRejected, SessionEstablished, StreamAccepted, StreamGivenUp, actions_of, all_events_of, calls_of, is_open}
 use Rattle.wt_turn.specs.declared.action.Action.{Action}
 use Rattle.wt_turn.specs.declared.call.Call.{Call}
 use Rattle.wt_turn.specs.declared.call.Call.TheVariants as calls
@@ -71,6 +71,8 @@ reported-accepts turn k reply g t (BytesRead i n) (piece, e, count, rest) = absu
 reported-accepts turn k reply g t (DatagramReceived index) (piece, e) = absurd (let x = t.no_datagram in cc)
 reported-accepts turn k reply g t (SessionEstablished i n) q = absurd (let x = t.no_session in cc)
 reported-accepts turn k reply g t (RequestDelivered i) q = absurd (let x = t.no_request in cc)
+reported-accepts turn k reply g t (RequestRejected i) q = absurd (let x = ap is_quiet q in let y = ap given_stream q in cc)
+reported-accepts turn k reply g t AcceptanceFailed (e, q) = absurd (let x = ap given_stream q in cc)
 reported-accepts turn k reply g t _ q = absurd (let x = t.loud in cc)
 
 logged-accepts : (turn : Turn) (k : ℕ) (before after : List CallRecord) (reply : Reply) → given_stream reply ≡ Some k → TellsStream reply → Logged turn before after reply → list_any (accepts_stream k) after ≡ true

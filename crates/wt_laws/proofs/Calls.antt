@@ -25,7 +25,7 @@ use Rattle.wt_wire.specs.declared.side.Side.TheVariants.{Client, Server}
 use Rattle.wt_wire.specs.declared.side.StreamEnd.{StreamEnd}
 use Rattle.wt_laws.proofs.Caused.{Caused, caused-accept, caused-connect-to, caused-continue, caused-deliver, caused-receive, caused-start, covered-whole, either, head-out, leaf, not-stopped, own-if, own-send, polled, unrefused, unrefused-whole}
 use Rattle.wt_laws.proofs.Steps.{EventNow, ByByte, ByEvent, ByLate, Nothing, Steps, blind-actions, blind-flush, calls-with}
-use Rattle.wt_laws.specs.Causes.{ByAcceptance, ByOpening, ByRejection, CloseCause, DatagramOf, FoundStream, OfCall, OfEndpoint, OfHeader, OfWrite, OwnCauses, accepted_kind, asked_size, bytes_for, head_frame_of, is_accept, is_receive, name_in, opened_kind, polls_opening, reads_from}
+use Rattle.wt_laws.specs.Causes.{ByAcceptance, ByOpening, ByRejection, CloseCause, DatagramOf, FoundStream, OfCall, OfEndpoint, OfHeader, OfWrite, OwnCauses, accepted_kind, asked_size, bytes_for, is_accept, is_receive, name_in, opened_kind, polls_opening, reads_from, rejection_frame_of}
 use Rattle.wt_turn.specs.Turns.{event_of, is_call}
 use Rattle.wt_laws.specs.RecordCauses.{AtEnd, HeaderStopped}
 use Rattle.wt_laws.specs.ReplyCauses.{AtClose, AtDatagram, AtEndpointClose, AtEvent, AtFinish, AtOpening, AtPriority, AtReset, AtStop, AtWrite, DoneCause, GivenStream, HeadUnsent, NoStreamToOpen, NoWriteCredit, NotClosed, NotEnded, NothingUnread, OfTheStream, ReplyCause, StoppedCause, TooFewUnread, asks_for_session, half_of, is_closed_error, needs_half, waits_for_end}
@@ -290,7 +290,7 @@ module _ (side : Side) (turn : Turn) (by_call : is_call turn ≡ true) where
   small-local Client = (refl, refl)
   small-local Server = (refl, refl)
 
-  rejects : (log : Log) (head : List ℕ) → head_frame_of turn ≡ Some head → may_respond side log ≡ true → Caused side turn log (start_response side log false head)
+  rejects : (log : Log) (head : List ℕ) → rejection_frame_of turn ≡ Some head → may_respond side log ≡ true → Caused side turn log (start_response side log false head)
   rejects log head f l = let r = responding log l in caused-start side turn by_call log r.0 false head r.1 (ByRejection r.0 refl f r.1)
 
   own-id : (k : ℕ) (t : (id : ℕ) → Turn) → turn ≡ t k → (f : ℕ → Turn → Bool) → f k (t k) ≡ true → f k turn ≡ true
@@ -313,9 +313,9 @@ module _ (side : Side) (turn : Turn) (by_call : is_call turn ≡ true) where
   caused-call log calls.Incoming t l =
       caused-deliver side turn by_call log (queued_requests side log) t (not-true _ (and_parts (not (is_client side)) _ (and_parts (not (is_client side) && not (is_first log)) _ l).0).0) (awaiting (handshake_state (calls_of log)) (and_parts (not (is_client side) && not (is_first log)) _ l).1) refl
   caused-call log (calls.Accept headers) t l = let r = responding log l in caused-start side turn by_call log r.0 true (response_head (codes "200") headers) r.1 (ByAcceptance r.0 headers refl t refl r.1)
-  caused-call log calls.Forbidden t l = rejects log (response_bytes (codes "403")) (ap head_frame_of t) l
-  caused-call log calls.NotFound t l = rejects log (response_bytes (codes "404")) (ap head_frame_of t) l
-  caused-call log calls.TooManyRequests t l = rejects log (response_bytes (codes "429")) (ap head_frame_of t) l
+  caused-call log calls.Forbidden t l = rejects log (response_bytes (codes "403")) (ap rejection_frame_of t) l
+  caused-call log calls.NotFound t l = rejects log (response_bytes (codes "404")) (ap rejection_frame_of t) l
+  caused-call log calls.TooManyRequests t l = rejects log (response_bytes (codes "429")) (ap rejection_frame_of t) l
   caused-call log calls.Handshake t l = caused-continue side turn by_call log (handshake_state (calls_of log)) t refl l
   caused-call log (calls.EndpointClose code reason) t l = caused-close log code reason (OfEndpoint t) (AtEndpointClose code reason t)
   caused-call log (calls.AcceptUni session) t l = accepts log session replies.Uni (peer_uni side) (ap name_in t) (ap is_accept t) (ap asks_for_session t) (ap (accepted_kind side) t) (λ k. refl) (λ g k f. given-stream g (peer_uni side) k (ap (accepted_kind side) t) f)

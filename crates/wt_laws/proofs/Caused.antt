@@ -165,7 +165,7 @@ module _ (side : Side) (turn : Turn) (by_call : is_call turn ≡ true) where
 
   -- an acceptance fails
   unaccepted : (log : Log) (own : List Action) (e : ConnectionError) → is_under_way (handshake_state (calls_of log)) ≡ true → OwnCauses side turn log own → AcceptanceCause turn log → ReplyCause side turn log (replies.Failed e) → Caused side turn log (fail_acceptance side log own e)
-  unaccepted log own e u o x w = leaf log own AcceptanceFailed (replies.Failed e) o (over-by (AcceptanceCause turn) log own u x) refl w
+  unaccepted log own e u o x w = leaf log own AcceptanceFailed (replies.Failed e) o (over-by (AcceptanceCause turn) log own u x) (e, refl) w
 
   -- a rejection is over
   rejected-so : (log : Log) (id : ℕ) (own : List Action) → id ≡ requested_stream (calls_of log) → is_under_way (handshake_state (calls_of log)) ≡ true → OwnCauses side turn log own → RejectedCause side turn log → Caused side turn log (end_rejection side log id own)

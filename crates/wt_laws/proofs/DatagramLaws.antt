@@ -6,7 +6,7 @@ use Rattle.std.proofs.lemmas.List.{append-nil, append_assoc, length-append, take
 use Rattle.std.proofs.lemmas.Option.{slice_get_within}
 use Rattle.wt_seam_spec.specs.Reports.{datagrams_of}
 use Rattle.wt_seam_spec.specs.Streams.{one_more_if}
-use Rattle.wt_turn.specs.Log.{BytesRead, CallRecord, Called, Datagram, DatagramPassed, DatagramReceived, Entry, Log, Received, Reported, ReportedLate, Sent, SessionEstablished, StreamPassed, calls_of, events_of}
+use Rattle.wt_turn.specs.Log.{AcceptanceFailed, BytesRead, CallRecord, Called, Datagram, DatagramPassed, DatagramReceived, Entry, Log, Received, Reported, ReportedLate, Sent, SessionEstablished, StreamPassed, calls_of, events_of}
 use Rattle.wt_turn.specs.declared.reply.Reply.{Reply}
 use Rattle.wt_turn.specs.declared.turn.Turn.{Turn}
 use Rattle.wt_wire.specs.declared.side.Side.{Side}
@@ -249,6 +249,7 @@ other-reported turn r (replies.Datagram piece) got i t = by r i t
   where
     by : (r : CallRecord) → receives r ≡ false → TellsOf turn r (replies.Datagram piece) → got ++ piece ∷ [] ≡ got
     by (BytesRead k n) i t = absurd (let z = t.1 in cc)
+    by AcceptanceFailed i t = absurd (let z = t.1 in cc)
     by _ i t = absurd (cc)
 other-reported turn r _ got i t = refl
 

@@ -3,7 +3,7 @@ use Rattle.std.specs.Prelude.{[], ◌*◌, ◌++◌, ◌==◌, ◌∷◌, ◌≡
 use Rattle.std.proofs.Common.{◌∙◌, ap, arith, refl, subst, sym}
 use Rattle.std.proofs.lemmas.List.{append-nil, append_assoc}
 use Rattle.wt_seam_spec.specs.Reports.{datagrams_of}
-use Rattle.wt_turn.specs.Log.{BytesRead, CallRecord, Called, DatagramPassed, DatagramReceived, Entry, Log, StreamPassed, calls_of, events_of}
+use Rattle.wt_turn.specs.Log.{AcceptanceFailed, BytesRead, CallRecord, Called, DatagramPassed, DatagramReceived, Entry, Log, StreamPassed, calls_of, events_of}
 use Rattle.wt_turn.specs.declared.reply.Reply.{Reply}
 use Rattle.wt_turn.specs.declared.turn.Turn.{Turn}
 use Rattle.wt_wire.specs.declared.side.Side.{Side}
@@ -73,6 +73,7 @@ record OneMore (before after : List CallRecord) : Type 0 where
 one-received : (turn : Turn) (r : CallRecord) (before : List CallRecord) (payload : List ℕ) → TellsOf turn r (replies.Datagram payload) → OneMore before (r ∷ before)
 one-received turn (BytesRead k n) before payload t = absurd (let z = t.1 in cc)
 one-received turn (DatagramReceived index) before payload t = record { released_then = omega arith; received = refl }
+one-received turn AcceptanceFailed before payload t = absurd (let z = t.1 in cc)
 one-received turn _ before payload t = absurd (cc)
 
 one-more : (turn : Turn) (before after : List CallRecord) (reply : Reply) (payload : List ℕ) → reply ≡ replies.Datagram payload → Logged turn before after reply → OneMore before after

@@ -3,7 +3,7 @@ use Rattle.std.specs.Prelude.{[], ◌==◌, ◌∷◌, ◌≡◌, ◌||◌, Bool
 use Rattle.std.proofs.Common.{◌∙◌, ap, refl, subst, sym}
 use Rattle.std.proofs.lemmas.Bool.{eq-eqb, eqb-true}
 use Rattle.std.specs.List.{list_any}
-use Rattle.wt_turn.specs.Log.{BytesRead, CallRecord, DatagramReceived, Log, RequestDelivered, SessionEstablished, StreamAccepted, calls_of}
+use Rattle.wt_turn.specs.Log.{AcceptanceFailed, BytesRead, CallRecord, DatagramReceived, Log, RequestDelivered, SessionEstablished, StreamAccepted, calls_of}
 use Rattle.wt_turn.specs.declared.reply.Reply.{Reply}
 use Rattle.wt_turn.specs.declared.turn.Turn.{Turn}
 use Rattle.wt_wire.specs.declared.side.Side.{Side}
@@ -32,6 +32,7 @@ uni-reported turn j (BytesRead i n) (piece, e, count, rest) = absurd (cc)
 uni-reported turn j (DatagramReceived index) (piece, e) = absurd (cc)
 uni-reported turn j (SessionEstablished i n) q = absurd (cc)
 uni-reported turn j (RequestDelivered i) q = absurd (cc)
+uni-reported turn j AcceptanceFailed (e, q) = absurd (cc)
 uni-reported turn j _ q = absurd (cc)
 
 bi-reported : (turn : Turn) (j : ℕ) (r : CallRecord) → TellsOf turn r (replies.Bi j) → releases j r ≡ true
@@ -40,6 +41,7 @@ bi-reported turn j (BytesRead i n) (piece, e, count, rest) = absurd (cc)
 bi-reported turn j (DatagramReceived index) (piece, e) = absurd (cc)
 bi-reported turn j (SessionEstablished i n) q = absurd (cc)
 bi-reported turn j (RequestDelivered i) q = absurd (cc)
+bi-reported turn j AcceptanceFailed (e, q) = absurd (cc)
 bi-reported turn j _ q = absurd (cc)
 
 reported : (turn : Turn) (k : ℕ) (r : CallRecord) (reply : Reply) → gives_stream k reply ≡ true → TellsOf turn r reply → releases k r ≡ true

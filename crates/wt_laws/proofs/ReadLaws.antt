@@ -6,7 +6,7 @@ use Rattle.std.proofs.lemmas.Bool.{and_parts, eq-eqb, eqb-true}
 use Rattle.std.proofs.lemmas.List.{append-nil, drop-drop, length-append, length-drop, take-append-drop, take-append-le, take_all}
 use Rattle.wt_proto.specs.declared.verdict.Verdict.{Verdict}
 use Rattle.wt_seam_spec.specs.Streams.{contents, local_uni, peer_bi, peer_uni}
-use Rattle.wt_turn.specs.Log.{BytesRead, CallRecord, Called, DatagramReceived, Entry, Log, Polled, Received, Reported, ReportedLate, RequestDelivered, Sent, SessionEstablished, StreamAccepted, calls_of}
+use Rattle.wt_turn.specs.Log.{AcceptanceFailed, BytesRead, CallRecord, Called, DatagramReceived, Entry, Log, Polled, Received, Reported, ReportedLate, RequestDelivered, RequestRejected, Sent, SessionEstablished, StreamAccepted, calls_of}
 use Rattle.wt_turn.specs.declared.reply.Reply.{Reply}
 use Rattle.wt_turn.specs.declared.turn.Turn.{Turn}
 use Rattle.wt_wire.specs.declared.side.Side.{Side}
@@ -315,6 +315,10 @@ by-record side turn k bytes log later reply (RequestDelivered j) f p r w t e gro
     given-read (replies.Exact p) j bytes t = absurd (cc)
     given-read (replies.ExactFailed e p) j bytes t = absurd (cc)
     given-read _ j bytes t = refl
+by-record side turn k bytes log later reply (RequestRejected j) f p r w t e grow keep =
+    subst (λ xs. ReadSoFar side k xs later) (sym (ap (λ (x : Reply). more_read (read_piece x) bytes) t)) (idle side k bytes log later p (omega arith) grow keep)
+by-record side turn k bytes log later reply AcceptanceFailed f p r w t e grow keep =
+    subst (λ xs. ReadSoFar side k xs later) (sym (ap (λ (x : Reply). more_read (read_piece x) bytes) t.1)) (idle side k bytes log later p (omega arith) grow keep)
 by-record side turn k bytes log later reply _ f p r w t e grow keep = subst (λ xs. ReadSoFar side k xs later) (sym (quiet-read reply bytes t)) (idle side k bytes log later p (omega arith) grow keep)
 
 -- ---- the law

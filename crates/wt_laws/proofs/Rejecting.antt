@@ -24,7 +24,7 @@ use Rattle.wt_laws.proofs.SessionLaws.{has_request}
 use Rattle.wt_laws.proofs.Sends.{piece_on, sends_of, with-piece}
 use Rattle.wt_laws.proofs.SessionStream.{not-true-so}
 use Rattle.wt_laws.proofs.Steps.{Keeps, KeepsEntries, by-entries, calls-logged, of-record}
-use Rattle.wt_laws.specs.Causes.{ActionCause, ByAcceptance, ByRejection, FromBefore, OfHeader, OfRequest, OfResponse, OfWrite, OwnCauses, ResponseFrom, SendCause, head_frame_of}
+use Rattle.wt_laws.specs.Causes.{ActionCause, ByAcceptance, ByRejection, FromBefore, OfHeader, OfRequest, OfResponse, OfWrite, OwnCauses, ResponseFrom, SendCause, rejection_frame_of}
 use Rattle.wt_laws.specs.Reachable.{AfterTurn, AtStart, IsReachable}
 use Rattle.wt_laws.specs.RecordCauses.{RecordCause}
 use Rattle.wt_laws.proofs.Ends.{Ends, ends-action, ends-hold, ends-own, ends-record, keeps-ends}
@@ -281,9 +281,7 @@ is_answering (turns.Call calls.TooManyRequests) = true
 is_answering (turns.Call calls.Handshake) = true
 is_answering _ = false
 
-frame-answers : (turn : Turn) (head : List ℕ) → head_frame_of turn ≡ Some head → is_answering turn ≡ true
-frame-answers (turns.Call (calls.Connect options lookup outcome)) head f = refl
-frame-answers (turns.Call (calls.Accept headers)) head f = refl
+frame-answers : (turn : Turn) (head : List ℕ) → rejection_frame_of turn ≡ Some head → is_answering turn ≡ true
 frame-answers (turns.Call calls.Forbidden) head f = refl
 frame-answers (turns.Call calls.NotFound) head f = refl
 frame-answers (turns.Call calls.TooManyRequests) head f = refl

@@ -3,7 +3,7 @@ use Rattle.std.specs.Prelude.{◌≡◌, Bool, List, Some, false, true, ℕ}
 use Rattle.std.proofs.Common.{◌∙◌, ap, refl, subst, sym}
 use Rattle.std.proofs.lemmas.Bool.{eq-eqb, or_left, or_right}
 use Rattle.std.specs.List.{list_any}
-use Rattle.wt_turn.specs.Log.{BytesRead, CallRecord, DatagramReceived, Log, Polled, RequestDelivered, SessionEstablished, StreamAccepted, calls_of}
+use Rattle.wt_turn.specs.Log.{AcceptanceFailed, BytesRead, CallRecord, DatagramReceived, Log, Polled, RequestDelivered, RequestRejected, SessionEstablished, StreamAccepted, calls_of}
 use Rattle.wt_turn.specs.declared.reply.Reply.{Reply}
 use Rattle.wt_turn.specs.declared.turn.Turn.{Turn}
 use Rattle.wt_wire.specs.HeaderList.{Fields}
@@ -32,6 +32,8 @@ tells-request turn k headers reply e (SessionEstablished i a) t = absurd (let y 
 tells-request turn k headers reply e (BytesRead j n) t = absurd (let y = ap read_piece e in let z = t.1 in cc)
 tells-request turn k headers reply e (StreamAccepted j s) t = absurd (let y = ap given_stream e in cc)
 tells-request turn k headers reply e (DatagramReceived index) t = absurd (let y = ap datagram_reported e in let z = t.1 in cc)
+tells-request turn k headers reply e (RequestRejected id) t = absurd (let y = ap request_reported e in let z = ap request_reported t in cc)
+tells-request turn k headers reply e AcceptanceFailed t = absurd (let y = ap request_reported e in let z = ap request_reported t.1 in cc)
 tells-request turn k headers reply e _ t = absurd (let y = ap is_quiet e in cc)
 
 delivered-by : (turn : Turn) (k : ℕ) (headers : Fields) (before after : List CallRecord) (reply : Reply) → reply ≡ replies.Request k headers → Logged turn before after reply → list_any (delivers k) after ≡ true

@@ -341,6 +341,8 @@ tells-session turn s reply e (BytesRead k n) t = absurd (let y = ap read_piece e
 tells-session turn s reply e (StreamAccepted k session) t = absurd (let y = ap given_stream e in cc)
 tells-session turn s reply e (DatagramReceived index) t = absurd (let y = ap datagram_reported e in let z = t.1 in cc)
 tells-session turn s reply e (RequestDelivered k) t = absurd (let y = ap request_reported e in cc)
+tells-session turn s reply e (RequestRejected id) t = absurd (let y = ap session_reported e in let z = ap session_reported t in cc)
+tells-session turn s reply e AcceptanceFailed t = absurd (let y = ap session_reported e in let z = ap session_reported t.1 in cc)
 tells-session turn s reply e _ t = absurd (let y = ap is_quiet e in cc)
 
 reported-by : (turn : Turn) (s : ℕ) (before after : List CallRecord) (reply : Reply) → reply ≡ replies.Session s → Logged turn before after reply → (offset : ℕ) × (established_session after ≡ Some (s, offset))

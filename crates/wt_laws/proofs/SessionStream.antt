@@ -28,7 +28,7 @@ use Rattle.wt_laws.proofs.Sends.{more-or-same, piece_on, with-piece}
 use Rattle.wt_laws.proofs.SessionLaws.{HadRequest, from-request, has_request, was-delivered}
 use Rattle.wt_laws.proofs.SettingsLaws.{ControlOut, first-control, keeps-control}
 use Rattle.wt_laws.proofs.Steps.{Keeps, KeepsEntries, by-entries, calls-logged, calls-with, of-record}
-use Rattle.wt_laws.specs.Causes.{ActionCause, ByAcceptance, ByAnswer, ByRejection, ByResponse, EstablishCause, EstablishedBy, FinishCause, FromBefore, OfCall, OfHeader, OfRejection, OfRequest, OfResponse, OfWrite, OwnCauses, ResponseFrom, SendCause, head_frame_of, is_under_way, request_to}
+use Rattle.wt_laws.specs.Causes.{ActionCause, ByAcceptance, ByAnswer, ByRejection, ByResponse, EstablishCause, EstablishedBy, FinishCause, FromBefore, OfCall, OfHeader, OfRejection, OfRequest, OfResponse, OfWrite, OwnCauses, ResponseFrom, SendCause, head_frame_of, is_under_way, rejection_frame_of, request_to}
 use Rattle.wt_laws.specs.Laws.{SessionStreamOut, is_session_stream, session_frame}
 use Rattle.wt_laws.specs.Reachable.{AfterTurn, AllLawful, AtStart, Exchange, IsReachable, exchanges}
 use Rattle.wt_laws.specs.RecordCauses.{CallCause, RecordCause}
@@ -133,6 +133,14 @@ pending-quiet side log k n =
     (all-quiet k a b (quiet-control (nat_lt 0 (unis_allowed (events_of log))) (local_uni side) k (credit (events_of log) (local_uni side)) (control_sent side log) n) (quiet-stops k (stream_table side log).progress.stops))
     (quiet-close k (session_id (established_session (calls_of log))) (stream_table side log).progress.ending)
 
+-- what a rejection begins with is a frame with which a call begins the session's stream
+rejection-frame : (turn : Turn) (head : List ℕ) → rejection_frame_of turn ≡ Some head → head_frame_of turn ≡ Some head
+rejection-frame (turns.Call calls.Forbidden) head f = f
+rejection-frame (turns.Call calls.NotFound) head f = f
+rejection-frame (turns.Call calls.TooManyRequests) head f = f
+rejection-frame (turns.Call _) head f = absurd (cc)
+rejection-frame _ head f = absurd (cc)
+
 module _ (side : Side) (frame : Option (List ℕ)) where
   -- a stream whose request was delivered isn't this end's
   request-not-local : (log : Log) (k : ℕ) → FrameOut side frame log → list_any (delivers k) (calls_of log) ≡ true → is_local side k ≡ true → ⊥
@@ -190,7 +198,7 @@ module _ (side : Side) (frame : Option (List ℕ)) where
   module _ (turn : Turn) (t : (head : List ℕ) → head_frame_of turn ≡ Some head → frame ≡ Some head) where
     response-frame : (log : Log) (accepts : Bool) (head : List ℕ) → FrameOut side frame log → ResponseFrom turn (calls_of log) accepts head → frame ≡ Some head
     response-frame log accepts head h (ByAcceptance id headers a e f s) = t head (ap head_frame_of e ∙ ap Some (sym f))
-    response-frame log accepts head h (ByRejection id a f s) = t head f
+    response-frame log accepts head h (ByRejection id a f s) = t head (rejection-frame turn head f)
     response-frame log accepts head h (FromBefore t s) = h.responding accepts head s
 
     -- a rest of the frame goes out after the prefix

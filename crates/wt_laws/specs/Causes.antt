@@ -104,6 +104,13 @@ head_frame_of (turns.Call calls.NotFound) = Some (response_bytes (codes "404"))
 head_frame_of (turns.Call calls.TooManyRequests) = Some (response_bytes (codes "429"))
 head_frame_of _ = None
 
+-- the frame with which a rejection of a request begins
+abbrev pub rejection_frame_of : Turn → Option (List ℕ)
+rejection_frame_of (turns.Call calls.Forbidden) = Some (response_bytes (codes "403"))
+rejection_frame_of (turns.Call calls.NotFound) = Some (response_bytes (codes "404"))
+rejection_frame_of (turns.Call calls.TooManyRequests) = Some (response_bytes (codes "429"))
+rejection_frame_of _ = None
+
 -- the handshake isn't over
 abbrev pub is_under_way : HandshakeState → Bool
 is_under_way (Established id) = false
@@ -153,7 +160,7 @@ pub record FoundDatagram (side : Side) (turn : Turn) (log : Log) (for_session : 
 pub data ResponseFrom (turn : Turn) (before : List CallRecord) (accepts : Bool) (head : List ℕ) : Type 0 where
   ByAcceptance : (id : ℕ) (headers : Fields) → accepts ≡ true → turn ≡ turns.Call (calls.Accept headers) → head ≡ response_head (codes "200") headers
       → handshake_state before ≡ Requested id → ResponseFrom turn before accepts head
-  ByRejection : (id : ℕ) → accepts ≡ false → head_frame_of turn ≡ Some head → handshake_state before ≡ Requested id
+  ByRejection : (id : ℕ) → accepts ≡ false → rejection_frame_of turn ≡ Some head → handshake_state before ≡ Requested id
       → ResponseFrom turn before accepts head
   FromBefore : turn ≡ turns.Call calls.Handshake → handshake_state before ≡ Responding accepts head → ResponseFrom turn before accepts head
 

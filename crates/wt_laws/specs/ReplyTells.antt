@@ -1,6 +1,7 @@
 -- What replies report of what calls did.
 use Rattle.std.specs.Prelude.{◌∷◌, ◌≡◌, Bool, List, None, Option, Some, false, length, true, ℕ}
-use Rattle.wt_turn.specs.Log.{BytesRead, CallRecord, DatagramPassed, DatagramReceived, Polled, RequestDelivered, SessionEstablished, StreamAccepted, StreamPassed}
+use Rattle.wt_turn.specs.Log.{AcceptanceFailed, BytesRead, CallRecord, DatagramPassed, DatagramReceived, Polled, RequestDelivered, RequestRejected, SessionEstablished, StreamAccepted, StreamPassed}
+use Rattle.wt_turn.specs.declared.connection_error.ConnectionError.{ConnectionError}
 use Rattle.wt_turn.specs.declared.reply.Reply.{Reply}
 use Rattle.wt_turn.specs.declared.turn.Turn.{Turn}
 use Rattle.wt_laws.specs.Causes.{reads_from}
@@ -37,7 +38,7 @@ abbrev pub request_reported : Reply → Option ℕ
 request_reported (replies.Request k headers) = Some k
 request_reported _ = None
 
--- it reports no bytes, stream, datagram, session or request
+-- it reports no bytes, stream, datagram, session, request or rejection
 abbrev pub is_quiet : Reply → Bool
 is_quiet (replies.Read (Some (b ∷ piece))) = false
 is_quiet (replies.Exact (b ∷ piece)) = false
@@ -49,6 +50,7 @@ is_quiet (replies.BiReady k) = false
 is_quiet (replies.Datagram piece) = false
 is_quiet (replies.Session s) = false
 is_quiet (replies.Request k headers) = false
+is_quiet replies.Rejected = false
 is_quiet _ = true
 
 -- the reply reports what was recorded
@@ -58,6 +60,8 @@ TellsOf turn (StreamAccepted k session) reply = given_stream reply ≡ Some k
 TellsOf turn (DatagramReceived index) reply = (piece : List ℕ) × (datagram_reported reply ≡ Some piece)
 TellsOf turn (SessionEstablished s offset) reply = session_reported reply ≡ Some s
 TellsOf turn (RequestDelivered k) reply = request_reported reply ≡ Some k
+TellsOf turn (RequestRejected id) reply = reply ≡ replies.Rejected
+TellsOf turn AcceptanceFailed reply = (e : ConnectionError) × (reply ≡ replies.Failed e)
 TellsOf turn _ reply = is_quiet reply ≡ true
 
 -- what a turn recorded, after what it passed, and what its reply reports of it

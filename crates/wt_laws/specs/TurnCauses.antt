@@ -74,7 +74,8 @@ abbrev pub ActionsWentOut : Side → Log → Type 0
 ActionsWentOut side log = (a : Action) (earlier : Log) → GoesOnFrom (Sent a ∷ earlier) log → WentOut side earlier a
 
 -- what the turn records beside what it passes, and that its reply reports it: a reply that gives a stream, a datagram, bytes, a
--- session or a request leaves its record, and a record of these comes with that reply
+-- session or a request, or that is Rejected, leaves its record, and a record of these comes with that reply; with the record of an
+-- acceptance that failed comes Failed
 pub record ReplyIsRecorded (side : Side) (log : Log) (turn : Turn) : Type 0 where
   pub decided : Log
   pub during : IsDuring side log turn decided

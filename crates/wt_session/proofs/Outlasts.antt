@@ -5,7 +5,7 @@ use Rattle.std.proofs.lemmas.Bool.{and_from, and_parts}
 use Rattle.wt_turn.specs.declared.connecting_error.ConnectingError.{ConnectingError}
 use Rattle.wt_laws.proofs.Reached.{keeps-turn}
 use Rattle.wt_laws.proofs.Steps.{KeepsEntries, by-entries}
-use Rattle.wt_laws.specs.Causes.{ByAcceptance, ByAnswer, ByRejection, ByResponse, ConnectTo, EstablishCause, FromBefore, ResponseFrom, head_frame_of}
+use Rattle.wt_laws.specs.Causes.{ByAcceptance, ByAnswer, ByRejection, ByResponse, ConnectTo, EstablishCause, FromBefore, ResponseFrom, rejection_frame_of}
 use Rattle.wt_laws.specs.Reachable.{IsReachable}
 use Rattle.wt_laws.specs.RecordCauses.{AcceptanceCause, AcceptanceEnded, AcceptanceStopped, ConnectEnded, NoMoreRequests, OverCause, RecordCause}
 use Rattle.wt_laws.specs.ReplyCauses.{AfterSuccess, BeforeConnection, BeforeRequest, BeforeResponse, BeforeSettings, BeforeStream, ByRefusal, ByReserved, ByResponseFault, ByStatus, ByStreamEnd, ConnectFailedCause, ConnectionEnded, NoAddress, NoUrl, NotHttps, NotProceeding, RejectedCause, RejectionOver, RejectionRefused}
@@ -29,8 +29,8 @@ use Rattle.wt_wire.specs.declared.side.Side.{Side}
 
 -- ---- such a call causes no record of a handshake
 
--- it has no frame of a request or a response
-no-frame : (call : Call) → is_past_handshake call ≡ true → (head : List ℕ) → head_frame_of (turns.Call call) ≡ Some head → ⊥
+-- it has no frame of a rejection
+no-frame : (call : Call) → is_past_handshake call ≡ true → (head : List ℕ) → rejection_frame_of (turns.Call call) ≡ Some head → ⊥
 no-frame calls.Incoming p head f = absurd (cc)
 no-frame _ p head f = absurd (cc)
 
