@@ -45,18 +45,19 @@ fn is_hi(reply: &Reply) -> bool {
     matches!(reply, Reply::Read(Some(piece)) if piece.as_slice() == b"hi".as_slice())
 }
 
-/// One thread feeds, the other accepts and reads: whether each did.
-fn feed_and_read<R: Threads + Wait + Sync, G: Gate + Send>(
+/// One thread accepts and reads, the other feeds: whether each did.
+fn read_and_feed<R: Threads + Wait + Sync, G: Gate + Send>(
     rt: &R,
     shared: &Shared,
-    events: &[Turn],
     connection: &mut Connection,
     gate: &mut G,
+    events: &[Turn],
 ) -> (bool, bool) {
+    // Where no thread can be made, this one feeds first and then reads: so it never waits for itself.
     join(
         rt,
-        || feed(rt, shared, events),
         || reads_hi(rt, connection, gate),
+        || feed(rt, shared, events),
     )
 }
 
@@ -94,7 +95,7 @@ fn one_thread_feeds_and_another_reads(rt: HostRuntime) {
     let (shared, mut connection) = session(&rt, alloc);
     let mut gate = connection.gate().expect(&rt, "no memory");
     let events = turns(&rt, alloc, STREAM);
-    let (fed, read) = feed_and_read(&rt, &shared, events.as_slice(), &mut connection, &mut gate);
+    let (read, fed) = read_and_feed(&rt, &shared, &mut connection, &mut gate, events.as_slice());
     assert!(&rt; fed);
     assert!(&rt; read);
     closes_well(&rt, alloc, &shared, connection);
