@@ -1,6 +1,6 @@
 -- What is found stays found: a moment adds to what was found before it.
 use Rattle.std.specs.Prelude.{[], ◌%◌, ◌&&◌, ◌*◌, ◌+◌, ◌++◌, ◌==◌, ◌∷◌, ◌||◌, ◌≡◌, Bool, Err, List, None, Ok, Option, Result, Some, drop, false, filter, if◌then◌else◌, is_some, length, map, nat_lt, not, suc, true, zero, ℕ}
-use Rattle.std.specs.List.{list_all, list_any}
+use Rattle.std.specs.List.{list_all}
 use Rattle.std.specs.Option.{option_or}
 use Rattle.std.proofs.Common.{◌∙◌, ap, append_assoc, refl, sym}
 use Rattle.std.proofs.Math.Nat.{mul-add-mod_self_left}

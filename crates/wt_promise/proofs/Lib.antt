@@ -7,5 +7,9 @@ pub mod Ended
 pub mod Accepted
 pub mod ReadEnds
 pub mod Tables
+pub mod Gives
 pub mod Grows
+pub mod Actions
+pub mod OpenStays
+pub mod Owed
 pub mod Theorems

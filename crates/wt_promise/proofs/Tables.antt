@@ -1,5 +1,5 @@
 -- The rows of a call, one after another; and which call may give which reply.
-use Rattle.std.specs.Prelude.{[], ◌&&◌, ◌/◌, ◌==◌, ◌∷◌, ◌||◌, ◌≡◌, Bool, Err, List, None, Ok, Option, Result, Some, codes, false, if◌then◌else◌, is_some, length, nat_le, not, take, true, unwrap_or, ℕ}
+use Rattle.std.specs.Prelude.{[], ◌/◌, ◌∷◌, ◌||◌, ◌≡◌, Bool, Err, List, None, Ok, Option, Result, Some, codes, false, if◌then◌else◌, length, not, true, unwrap_or, ℕ}
 use Rattle.std.proofs.Common.{refl}
 use Rattle.url.specs.Parser.{parse_url}
 use Rattle.wt_meaning.specs.Calls.{being_opened, first_datagram, first_waiting, in_session, opening_for, refused_by, rows_of}

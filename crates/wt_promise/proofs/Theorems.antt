@@ -6,12 +6,15 @@ use Rattle.wt_wire.specs.declared.side.Side.{Side}
 use Rattle.wt_meaning.specs.History.{History}
 use Rattle.wt_meaning.specs.Lawful.{is_lawful}
 use Rattle.wt_meaning.specs.Meaning.{meaning, next, run}
-use Rattle.wt_promise.specs.Promise.{AllLawful, BiAccepted, CutsFreely, DatagramReceived, EndsRightly, IsHistory, NothingAfterEnd, PendingExactly, UniAccepted}
+use Rattle.wt_promise.specs.Promise.{AllLawful, BiAccepted, CutsFreely, DatagramReceived, EndsRightly, GivesWhatWaits, IsHistory, NothingAfterEnd, OpenExactly, OwedGoesOut, PendingExactly, UniAccepted}
 use Rattle.wt_promise.proofs.Accepted.{bi-accepted, datagram-received, uni-accepted}
 use Rattle.wt_promise.proofs.Ended.{nothing-after-end}
 use Rattle.wt_promise.proofs.Lists.{cuts-freely, run_from-lawful}
 use Rattle.wt_promise.proofs.Polls.{call-waits}
 use Rattle.wt_promise.proofs.ReadEnds.{ends-rightly}
+use Rattle.wt_promise.proofs.Gives.{gives-what-waits}
+use Rattle.wt_promise.proofs.OpenStays.{open-exactly}
+use Rattle.wt_promise.proofs.Owed.{owed-goes-out}
 use Rattle.wt_turn.specs.declared.call.Call.TheVariants as calls
 use Rattle.wt_turn.specs.declared.reply.Reply.TheVariants as replies
 use Rattle.wt_turn.specs.declared.turn.Turn.TheVariants as turns
@@ -39,3 +42,12 @@ datagram_theorem = datagram-received
 
 pub ends_theorem : (side : Side) (h : History) (id size : ℕ) → EndsRightly side h id size
 ends_theorem = ends-rightly
+
+pub gives_theorem : (side : Side) (h : History) (turn : Turn) → GivesWhatWaits side h turn (next side h turn)
+gives_theorem = gives-what-waits
+
+pub open_theorem : (side : Side) (h : History) (turn : Turn) → IsHistory side h → OpenExactly side h turn (next side h turn)
+open_theorem = open-exactly
+
+pub owed_theorem : (side : Side) (h : History) (turn : Turn) → OwedGoesOut side h turn (next side h turn)
+owed_theorem = owed-goes-out

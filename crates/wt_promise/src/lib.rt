@@ -6,7 +6,7 @@ ghost use Rattle.std.specs.Prelude.{◌≡◌, ℕ, List, Option, [], true};
 ghost use Rattle.wt_meaning.specs.History.{History};
 ghost use Rattle.wt_meaning.specs.Lawful.{is_lawful};
 ghost use Rattle.wt_meaning.specs.Meaning.{meaning, next, run};
-ghost use Rattle.wt_promise.specs.Promise.{AllLawful, BiAccepted, CutsFreely, DatagramReceived, EndsRightly, IsHistory, NothingAfterEnd, PendingExactly, UniAccepted};
+ghost use Rattle.wt_promise.specs.Promise.{AllLawful, BiAccepted, CutsFreely, DatagramReceived, EndsRightly, GivesWhatWaits, IsHistory, NothingAfterEnd, OpenExactly, OwedGoesOut, PendingExactly, UniAccepted};
 ghost use Rattle.wt_turn.specs.declared.call.Call.{Call};
 ghost use Rattle.wt_turn.specs.declared.turn.Turn.{Turn};
 ghost use Rattle.wt_turn.specs.declared.call.Call.TheVariants as calls;
@@ -49,4 +49,19 @@ pub fn what_waits_first_is_given()
 /// A read says that a stream has ended only once its clean end came and all of it was read.
 pub fn streams_end_rightly()
     ensures ends { (side : Side) (h : History) (id size : ℕ) → EndsRightly side h id size }
+{}
+
+/// What waits for the session that an accept or a receive names is given, also after the end, and nothing else is.
+pub fn what_waits_is_given()
+    ensures gives { (side : Side) (h : History) (turn : Turn) → GivesWhatWaits side h turn (next side h turn) }
+{}
+
+/// After a lawful history the connection stays open exactly where no loss came, the call's own answer does not close it, and no fault was found.
+pub fn connections_stay_open_exactly()
+    ensures stays_open { (side : Side) (h : History) (turn : Turn) → IsHistory side h → OpenExactly side h turn (next side h turn) }
+{}
+
+/// What a finding owes goes out in the answer in which it is found, where the turn leaves the connection open.
+pub fn what_is_owed_goes_out()
+    ensures owed { (side : Side) (h : History) (turn : Turn) → OwedGoesOut side h turn (next side h turn) }
 {}

@@ -1,0 +1,103 @@
+-- What a finding owes goes out in the answer in which it is found.
+use Rattle.std.specs.Prelude.{[], ◌++◌, ◌==◌, ◌∷◌, ◌||◌, ◌≡◌, Bool, List, None, Some, drop, false, if◌then◌else◌, is_some, length, true, ℕ}
+use Rattle.std.specs.List.{list_any}
+use Rattle.std.proofs.Common.{◌∙◌, ap, refl, sym}
+use Rattle.std.proofs.Math.Seq.{drop-append_seam}
+use Rattle.std.proofs.lemmas.Bool.{eq-eqb}
+use Rattle.std.proofs.lemmas.List.Folds.{list_any-append}
+use Rattle.wt_meaning.specs.Findings.{Classified, Faulted, Finding, SessionClosed}
+use Rattle.wt_meaning.specs.History.{History, events}
+use Rattle.wt_meaning.specs.Meaning.{next, own_answer, with_pair}
+use Rattle.wt_meaning.specs.Moments.{findings}
+use Rattle.wt_meaning.specs.Sends.{actions_for, actions_for_all, control_actions, moment_actions}
+use Rattle.wt_meaning.specs.Windows.{is_gone}
+use Rattle.wt_promise.proofs.Accepted.{or-true}
+use Rattle.wt_promise.proofs.Actions.{AnyPiece, any-next}
+use Rattle.wt_promise.proofs.OpenStays.{same-findings}
+use Rattle.wt_promise.specs.Promise.{OwedGoesOut, closes_with, leaves_open, owes, resets_with, stops_with}
+use Rattle.wt_seam_spec.specs.Reports.{stop_of}
+use Rattle.wt_seam_spec.specs.Sent.{finishes}
+use Rattle.wt_turn.specs.declared.action.Action.{Action}
+use Rattle.wt_turn.specs.declared.turn.Turn.{Turn}
+use Rattle.wt_wire.specs.Codes.{code_of}
+use Rattle.wt_wire.specs.declared.side.Side.{Side}
+use Rattle.wt_proto.specs.declared.verdict.Verdict.TheVariants as verdicts
+use Rattle.wt_turn.specs.declared.action.Action.TheVariants as actions
+
+-- ---- a list has what its parts have
+
+pub has-left : (test : Action → Bool) (xs ys : List Action) → list_any test xs ≡ true → list_any test (xs ++ ys) ≡ true
+has-left test xs ys e = list_any-append test xs ys ∙ ap (λ (b : Bool). b || list_any test ys) e
+
+pub has-right : (test : Action → Bool) (xs ys : List Action) → list_any test ys ≡ true → list_any test (xs ++ ys) ≡ true
+has-right test xs ys e = list_any-append test xs ys ∙ ap (λ (b : Bool). list_any test xs || b) e ∙ or-true (list_any test xs)
+
+-- what goes out for a finding goes out for a list with it
+pub among : (test : Action → Bool) (side : Side) (h : History) (found xs ys : List Finding) (f : Finding) → ((seen : List Finding) → list_any test (actions_for side h seen f) ≡ true)
+    → list_any test (actions_for_all side h found (xs ++ f ∷ ys)) ≡ true
+among test side h found [] ys f e = has-left test (actions_for side h found f) _ (e found)
+among test side h found (x ∷ xs) ys f e = has-right test (actions_for side h found x) _ (among test side h (found ++ x ∷ []) xs ys f e)
+
+-- ---- the moment's actions are in the answer
+
+pub moment-has : (test : Action → Bool) → AnyPiece test → (side : Side) (h : History) (turn : Turn) (new : List Finding) → leaves_open side h turn ≡ true
+    → findings side (with_pair h turn (next side h turn)) ≡ findings side h ++ new
+    → list_any test (actions_for_all side (with_pair h turn (own_answer side h turn)) (findings side h) new) ≡ true → list_any test (next side h turn).actions ≡ true
+moment-has test n side h turn new o e t =
+    any-next test n side h turn ∙ ap (λ (b : Bool). list_any test (own_answer side h turn).actions || b) there ∙ or-true (list_any test (own_answer side h turn).actions)
+  where
+    is-new : drop (length (findings side h)) (findings side (with_pair h turn (own_answer side h turn))) ≡ new
+    is-new = ap (drop (length (findings side h))) (sym (same-findings side h turn) ∙ e) ∙ drop-append_seam (findings side h) new
+
+    there : list_any test (moment_actions side (with_pair h turn (own_answer side h turn))) ≡ true
+    there = ap (λ (b : Bool). list_any test (if b then control_actions side (with_pair h turn (own_answer side h turn))
+        ++ actions_for_all side (with_pair h turn (own_answer side h turn)) (findings side h) (drop (length (findings side h)) (findings side (with_pair h turn (own_answer side h turn)))) else [])) o
+        ∙ has-right test (control_actions side (with_pair h turn (own_answer side h turn))) _
+        (ap (λ (xs : List Finding). list_any test (actions_for_all side (with_pair h turn (own_answer side h turn)) (findings side h) xs)) is-new ∙ t)
+
+-- ---- what each finding owes
+
+same : (k : ℕ) → (k == k) ≡ true
+same k = eq-eqb k k refl
+
+stop-there : (id code : ℕ) → stops_with id code (actions.StopOut id code) ≡ true
+stop-there id code = rw (same id, same code) refl
+
+either-stop : (id : ℕ) (g : Bool) → (stops_with id 0x3994bd84 (actions.StopOut id (if g then 0x170d7b68 else 0x3994bd84)) || stops_with id 0x170d7b68 (actions.StopOut id (if g then 0x170d7b68 else 0x3994bd84))) ≡ true
+either-stop id true = rw (same id) refl
+either-stop id false = rw (same id) refl
+
+owed-by : (side : Side) (h : History) (found : List Finding) (f : Finding) (test : Action → Bool) → owes h f ≡ Some test → list_any test (actions_for side h found f) ≡ true
+owed-by side h found (Classified id (verdicts.WebTransport session offset) false) test e =
+    let t : test ≡ (λ (a : Action). stops_with id 0x3994bd84 a || stops_with id 0x170d7b68 a) = cc e in rw (t, either-stop id (is_gone h found session)) refl
+owed-by side h found (Classified id (verdicts.Refused code) keeps) test e = let t : test ≡ stops_with id (code_of code) = cc e in rw (t, stop-there id (code_of code)) refl
+owed-by side h found (Classified id (verdicts.Request headers offset) false) test e = let t : test ≡ stops_with id 0x10b = cc e in rw (t, stop-there id 0x10b) refl
+owed-by side h found (SessionClosed session code reason true) test e = let t : test ≡ resets_with session 0x100 = cc e in rw (t, same session) refl
+owed-by side h found (SessionClosed session code reason false) test e = by (is_some (stop_of (events h) session)) refl e
+  where
+    by : (b : Bool) → is_some (stop_of (events h) session) ≡ b → (if b then None else Some (finishes session)) ≡ Some test → list_any test (actions_for side h found (SessionClosed session code reason false)) ≡ true
+    by true i q = absurd (cc q)
+    by false i q = let t : test ≡ finishes session = cc q in rw (t, i, same session) refl
+owed-by side h found (Faulted code) test e = let t : test ≡ closes_with (code_of code) = cc e in rw (t, same (code_of code)) refl
+owed-by side h found f test e = absurd (cc e)
+
+-- no such test asks anything of a piece
+asks-no-piece : (h : History) (f : Finding) (test : Action → Bool) → owes h f ≡ Some test → AnyPiece test
+asks-no-piece h (Classified id (verdicts.WebTransport session offset) false) test e =
+    let t : test ≡ (λ (a : Action). stops_with id 0x3994bd84 a || stops_with id 0x170d7b68 a) = cc e in λ i p q. rw t refl
+asks-no-piece h (Classified id (verdicts.Refused code) keeps) test e = let t : test ≡ stops_with id (code_of code) = cc e in λ i p q. rw t refl
+asks-no-piece h (Classified id (verdicts.Request headers offset) false) test e = let t : test ≡ stops_with id 0x10b = cc e in λ i p q. rw t refl
+asks-no-piece h (SessionClosed session code reason true) test e = let t : test ≡ resets_with session 0x100 = cc e in λ i p q. rw t refl
+asks-no-piece h (SessionClosed session code reason false) test e = by (is_some (stop_of (events h) session)) e
+  where
+    by : (b : Bool) → (if b then None else Some (finishes session)) ≡ Some test → AnyPiece test
+    by true q = absurd (cc q)
+    by false q = let t : test ≡ finishes session = cc q in λ i p q. rw t refl
+asks-no-piece h (Faulted code) test e = let t : test ≡ closes_with (code_of code) = cc e in λ i p q. rw t refl
+asks-no-piece h f test e = absurd (cc e)
+
+pub owed-goes-out : (side : Side) (h : History) (turn : Turn) → OwedGoesOut side h turn (next side h turn)
+owed-goes-out side h turn before after f test o e w =
+    moment-has test (asks-no-piece (with_pair h turn (next side h turn)) f test w) side h turn (before ++ f ∷ after) o e
+    (among test side (with_pair h turn (own_answer side h turn)) (findings side h) before after f
+    (λ (seen : List Finding). owed-by side (with_pair h turn (own_answer side h turn)) seen f test w))
