@@ -47,7 +47,10 @@ fn datagrams_are_written_and_read(rt: HostRuntime) {
     let piece = written.into_piece();
     assert_eq!(rt; piece.as_slice(), b"\x01hi".as_slice());
     match Datagram::read(piece) {
-        Ok(read) => is_hi(&rt, &read),
+        Ok(read) => {
+            is_hi(&rt, &read);
+            is_hi(&rt, &read.copy().expect(&rt, "no memory"));
+        }
         Err(_) => panic!(rt; "it is a datagram"),
     }
 }

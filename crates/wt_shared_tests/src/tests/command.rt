@@ -87,7 +87,8 @@ fn the_threads_come_to_the_same(rt: HostRuntime) {
     let history = shared_history(&rt, alloc, turns.as_slice(), &mut OpenGate, &mut OpenGate)
         .expect(&rt, "no memory")
         .expect(&rt, "the handle's calls");
-    let numbers = numbers(&rt, alloc, &history);
+    let copied = history.copy().expect(&rt, "no memory");
+    let numbers = numbers(&rt, alloc, &copied);
     assert!(&rt; numbers.streams == 40 && numbers.bytes == 820);
 }
 
