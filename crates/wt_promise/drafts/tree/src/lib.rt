@@ -1,0 +1,84 @@
+//! What is promised of the answers that `wt_meaning` gives: sentences over a history's pairs, and those of them that are
+//! proved, each a function with an empty body whose contract is the sentence.
+#![tactic(auto)]
+
+ghost use Rattle.std.specs.Prelude.{◌≡◌, ℕ, List, Option, [], true};
+ghost use Rattle.wt_meaning.specs.History.{History};
+ghost use Rattle.wt_meaning.specs.Lawful.{is_lawful};
+ghost use Rattle.wt_meaning.specs.Meaning.{meaning, next, run};
+ghost use Rattle.wt_promise.specs.Promise.{AllLawful, BiAccepted, CutsFreely, DatagramReceived, DatagramsInOrder, EndsRightly, FewLive, GivesWhatWaits, IsHistory, NothingAfterEnd, OpenExactly, OwedGoesOut, PendingExactly, ReadsInOrder, ResultStays, UniAccepted};
+ghost use Rattle.wt_turn.specs.declared.call.Call.{Call};
+ghost use Rattle.wt_turn.specs.declared.turn.Turn.{Turn};
+ghost use Rattle.wt_turn.specs.declared.call.Call.TheVariants as calls;
+ghost use Rattle.wt_turn.specs.declared.reply.Reply.TheVariants as replies;
+ghost use Rattle.wt_turn.specs.declared.turn.Turn.TheVariants as turns;
+ghost use Rattle.wt_wire.specs.declared.side.Side.{Side};
+
+/// A lawful list is answered whole.
+#[tactic(auto, using(crate::proofs::Theorems::whole_theorem))]
+pub fn lawful_lists_are_answered_whole()
+    ensures whole { (side : Side) (all : List Turn) → AllLawful side [] all → run side all ≡ record { answers = meaning side all; is_all = true } }
+{}
+
+/// A piece of a stream may be cut anywhere.
+pub fn pieces_may_be_cut()
+    ensures cut { (side : Side) (h : History) (k : ℕ) (first second : List ℕ) → CutsFreely side h k first second }
+{}
+
+/// A call is answered Pending exactly where the connection is open and nothing is left that it could give.
+#[tactic(auto, using(crate::proofs::Theorems::pending_theorem))]
+pub fn calls_wait_exactly()
+    ensures pending { (side : Side) (h : History) (call : Call) → IsHistory side h → is_lawful side h (turns.Call call) ≡ true → PendingExactly side h call }
+{}
+
+/// Nothing goes out once the connection has ended.
+#[tactic(auto, using(crate::proofs::Theorems::after_end_theorem))]
+pub fn nothing_goes_out_after_the_end()
+    ensures silent { (side : Side) (h : History) (turn : Turn) → is_lawful side h turn ≡ true → NothingAfterEnd h (next side h turn) }
+{}
+
+/// What an accept or a receive gives is the first that waits for the session that the call names; a stream is the peer's,
+/// was admitted with that session's header at its front, and is given once.
+pub fn what_waits_first_is_given()
+    ensures uni { (side : Side) (h : History) (name : Option ℕ) (id : ℕ) → (next side h (turns.Call (calls.AcceptUni name))).reply ≡ replies.Uni id → UniAccepted side h name id }
+    ensures bi { (side : Side) (h : History) (name : Option ℕ) (id : ℕ) → (next side h (turns.Call (calls.AcceptBi name))).reply ≡ replies.Bi id → BiAccepted side h name id }
+    ensures datagram { (side : Side) (h : History) (name : Option ℕ) (payload : List ℕ) → (next side h (turns.Call (calls.ReceiveDatagram name))).reply ≡ replies.Datagram payload
+        → DatagramReceived side h name payload }
+{}
+
+/// A read says that a stream has ended only once its clean end came and all of it was read.
+pub fn streams_end_rightly()
+    ensures ends { (side : Side) (h : History) (id size : ℕ) → EndsRightly side h id size }
+{}
+
+
+/// What waits is given, also after the end, and nothing else is.
+pub fn what_waits_is_given()
+    ensures gives { (side : Side) (h : History) (turn : Turn) → GivesWhatWaits side h turn (next side h turn) }
+{}
+
+/// The connection stays open exactly where no loss came, no call closed it, and no fault was found.
+pub fn connections_stay_open_exactly()
+    ensures stays_open { (side : Side) (h : History) (turn : Turn) → IsHistory side h → OpenExactly side h turn (next side h turn) }
+{}
+
+/// What is owed goes out in the answer in which it is found: to each stream of a session that becomes gone, and for each finding that leads to an action.
+pub fn what_is_owed_goes_out()
+    ensures owed { (side : Side) (h : History) (turn : Turn) → OwedGoesOut side h turn (next side h turn) }
+{}
+
+/// At most 4 sessions live.
+pub fn few_sessions_live()
+    ensures few { (side : Side) (h : History) → IsHistory side h → FewLive side h }
+{}
+
+/// What was read of a stream is a prefix of what follows its header, and a session's datagrams are the first of those that were admitted for it.
+pub fn what_is_received_is_in_order()
+    ensures reads { (side : Side) (h : History) → IsHistory side h → ReadsInOrder side h }
+    ensures datagrams { (side : Side) (h : History) → IsHistory side h → DatagramsInOrder side h }
+{}
+
+/// How a session ended stays so, from its own end or the connection's on.
+pub fn results_stay()
+    ensures result { (side : Side) (h : History) (turn : Turn) → IsHistory side h → is_lawful side h turn ≡ true → ResultStays side h turn (next side h turn) }
+{}
