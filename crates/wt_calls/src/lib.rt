@@ -4,6 +4,7 @@
 
 pub mod acting;
 pub mod datagram;
+pub mod send;
 
 pub use wt_call_plans::plans;
 pub use wt_connect::connect_options;

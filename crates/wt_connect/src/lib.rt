@@ -5,3 +5,4 @@ pub mod connect_options;
 pub mod connect_request;
 pub mod connect_target;
 pub mod laws;
+pub mod send;

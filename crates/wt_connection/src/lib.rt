@@ -4,6 +4,7 @@
 
 pub mod connection;
 pub mod opening;
+pub mod send;
 
 pub use wt_calls::datagram;
 pub use wt_halves::{bi_stream, calling, recv_stream, send_stream};

@@ -6,4 +6,5 @@ pub mod classified;
 pub mod dispatched;
 pub mod ending;
 pub mod progress;
+pub mod send;
 pub mod slot;

@@ -6,6 +6,7 @@
 #![tactic(auto)]
 
 pub mod driver;
+pub mod send;
 
 pub use driver::Driver;
 pub use wt_channel::bichannel::{BiChannel, ChannelEnd, SendOutcome, TrySendError};

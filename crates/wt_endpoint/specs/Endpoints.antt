@@ -86,7 +86,7 @@ live_count e = count_by is_live e.logs
 
 -- ---- accept
 
--- What an accept answers where so many of so many connections were accepted. A server's connection begins as it is
+-- What an accept answers where `accepted` of `count` connections were accepted. A server's connection begins as it is
 -- established, so the order of numbers is that in which the connections were established.
 abbrev pub accept_next : Bool → ℕ → ℕ → Option (Poll ℕ)
 accept_next closed accepted count = if closed then None else (if nat_lt accepted count then Some (Ready accepted) else Some Pending)
@@ -107,7 +107,7 @@ accept_reply (Some Pending) = replies.Pending
 
 -- ---- turns
 
--- the reply to a wait until no connection is established and open, where so many are
+-- the reply to a wait until no connection is established and open, where `count` are
 abbrev pub idle_reply : ℕ → EndpointReply
 idle_reply count = if count == 0 then replies.Done else replies.Pending
 

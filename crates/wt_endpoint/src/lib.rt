@@ -8,6 +8,7 @@ mod connections;
 pub mod endpoint;
 mod first;
 pub mod run;
+pub mod send;
 pub mod turn;
 
 pub use endpoint::{Client, Endpoint, EndpointSide, Server};

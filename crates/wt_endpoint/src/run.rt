@@ -9,17 +9,20 @@ use crate::connections::Connections;
 use crate::endpoint::Endpoint;
 use crate::turn::{EndpointAnswers, EndpointReply, EndpointTurn};
 use std::alloc::Global;
+use thiserror::Error;
 use wt_config::{ClientConfig, Opaque, ServerConfig};
 use wt_turn::poll::Poll;
 use wt_wire::error::OutOfMemory;
 use wt_wire::side::Side;
 
 /// Why a list of an endpoint's turns has no reply to each.
-#[derive(Debug, Drop)]
+#[derive(Debug, Drop, Error)]
 pub enum EndpointError {
     /// The turn of this index, counted from 0, may not come after those before it, which have these replies.
+    #[error("turn {at} unlawful")]
     Unlawful { at: u64, answers: EndpointAnswers },
     /// Out of memory.
+    #[error("out of memory")]
     OutOfMemory,
 }
 

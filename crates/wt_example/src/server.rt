@@ -3,8 +3,17 @@
 use std::alloc::Global;
 use wt_driver::Driver;
 use wt_proto::{OutOfMemory, Side};
-use wt_seam::{Poll, Turn};
+use wt_seam::{Actions, Poll, Turn};
 use wt_session::{Accepting, Connection, IncomingSession, RecvStream, SessionRequest};
+
+/// What a server read of a stream, and what its transport is to do.
+#[derive(Drop)]
+pub struct Served {
+    /// How many bytes were read.
+    pub count: usize,
+    /// What goes out, in order. A server that runs on hands these to its transport after each turn and each call.
+    pub actions: Actions,
+}
 
 /// The request for a session, where it came.
 fn next_request(alloc: Global, driver: &mut Driver) -> Result<Option<SessionRequest>, OutOfMemory> {
@@ -58,7 +67,7 @@ pub fn read_first_stream(
     alloc: Global,
     turns: &[Turn],
     buf: &mut [u8],
-) -> Result<Option<usize>, OutOfMemory> {
+) -> Result<Option<Served>, OutOfMemory> {
     let mut driver = Driver::init(alloc, Side::Server);
     take_all(&mut driver, turns)?;
     let Some(request) = next_request(alloc, &mut driver)? else {
@@ -72,7 +81,10 @@ pub fn read_first_stream(
         return Ok(None);
     };
     match stream.read(&mut driver, buf) {
-        Poll::Ready(Ok(count)) => Ok(count),
-        Poll::Ready(Err(_)) | Poll::Pending => Ok(None),
+        Poll::Ready(Ok(Some(count))) => Ok(Some(Served {
+            count,
+            actions: driver.take_actions(),
+        })),
+        Poll::Ready(_) | Poll::Pending => Ok(None),
     }
 }

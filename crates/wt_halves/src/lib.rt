@@ -5,4 +5,5 @@
 pub mod bi_stream;
 pub mod calling;
 pub mod recv_stream;
+pub mod send;
 pub mod send_stream;

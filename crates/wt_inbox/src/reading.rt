@@ -18,7 +18,7 @@ use wt_wire::error::OutOfMemory;
 use wt_wire::ids::StreamId;
 use wt_wire::side::StreamEnd;
 
-/// Feeds a reader a piece, and tells how many bytes of it the reader took.
+/// Feeds a reader a piece, and returns how many bytes of it the reader took.
 fn feed_counted<W: Walk, L: Ledger>(
     reader: &mut StreamReader<W>,
     piece: &[u8],
@@ -55,7 +55,7 @@ pub(crate) fn feed<W: Walk>(
     feed_counted::<W, Brand>(reader, piece, Blank::new(1))
 }
 
-/// Feeds a reader the first unread piece, and tells whether there may be more for it to take.
+/// Feeds a reader the first unread piece, and returns whether there may be more for it to take.
 fn read_piece<W: Walk>(
     transport: &mut Transport,
     id: StreamId,
@@ -92,7 +92,7 @@ fn read_pieces<W: Walk>(
     Ok(())
 }
 
-/// Feeds a reader what is unread, up to the byte with which its outcome is final, tells it the end, and
+/// Feeds a reader what is unread, up to the byte with which its outcome is final, reports the end to it, and
 /// answers whether the bytes alone made the outcome final.
 pub(crate) fn read_all<W: Walk>(
     transport: &mut Transport,

@@ -57,7 +57,7 @@ impl<W: Walk> Entry<W> {
         self.id == id
     }
 
-    /// Reads on, and tells whether the bytes alone made the outcome final.
+    /// Reads on, and returns whether the bytes alone made the outcome final.
     fn read(&mut self, transport: &mut Transport) -> Result<bool, OutOfMemory>
         requires steady { IsSteady W.decides }
         requires still_going { (s : W.State) (between : Bool) → W.is_final_outcome (W.unfinished_at Running s between) ≡ false }
@@ -79,6 +79,7 @@ impl<W: Walk> Entry<W> {
         ensures stopped { (bytes : List ℕ) (end : StreamEnd) → HasRead W.decides W.start_state self.old.reading bytes end
             → IfOk result (λ n. n < length piece.now → W.is_final_outcome (W.outcome_of (bytes ++ take n piece.now) end) ≡ true) }
     {
+        // Read for the proof alone, which takes the entry's invariant from here.
         let _ = &self.id;
         feed(&mut self.reader, piece)
     }
@@ -185,7 +186,7 @@ impl<W: Walk> Shelf<W> {
         }
     }
 
-    /// Lets the reader of a stream go, and tells its outcome; where there was none, that of the fresh
+    /// Drops the reader of a stream, and returns its outcome; where there was none, that of the fresh
     /// one.
     pub(crate) fn release(&mut self, id: StreamId, fresh: StreamReader<W>) -> W::Outcome
         requires { fresh ≡ no_reading W.start_state }

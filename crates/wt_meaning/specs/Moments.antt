@@ -31,7 +31,7 @@ use Rattle.wt_wire.specs.declared.side.StreamEnd.TheVariants as ends
 abbrev pub is_ready : Side → History → Bool
 is_ready side h = is_connected (events h) && nat_le 1 (unis_allowed (events h)) && nat_le 25 (credit (events h) (local_uni side))
 
--- the ids of so many streams of a kind, from the n-th on
+-- the ids of `count` streams of a kind, from the n-th on
 abbrev pub ids_from : ℕ → ℕ → ℕ → List ℕ
 ids_from kind n zero = []
 ids_from kind n (suc count) = (4 * n + kind) ∷ ids_from kind (suc n) count

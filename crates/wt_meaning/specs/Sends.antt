@@ -55,7 +55,7 @@ opens_for h s k _ _ = false
 abbrev pub is_of_session : History → List Finding → ℕ → ℕ → Bool
 is_of_session h found s k = list_any (admits s k) found || list_any (λ (p : Pair). opens_for h s k p.turn p.answer.reply) h
 
--- so many numbers, from n on
+-- `count` numbers, from n on
 abbrev pub numbers_from : ℕ → ℕ → List ℕ
 numbers_from n zero = []
 numbers_from n (suc count) = n ∷ numbers_from (suc n) count

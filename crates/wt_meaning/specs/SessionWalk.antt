@@ -28,7 +28,7 @@ closed_by (Err fault) = walks.Fault fault
 abbrev pub may_close : ℕ → Bool
 may_close size = nat_le 4 size && nat_le size 1028
 
--- a capsule with a header of so many bytes and a value of size bytes: CLOSE_WEBTRANSPORT_SESSION is judged by its length,
+-- a capsule with a header of `header` bytes and a value of size bytes: CLOSE_WEBTRANSPORT_SESSION is judged by its length,
 -- then by its value; every other one is skipped, whatever its length (RFC 9297, section 3.2)
 abbrev pub capsule_with_header : List ℕ → ℕ → ℕ → ℕ → Step (Unit {0}) SessionWalk
 capsule_with_header bytes kind header size =
@@ -39,7 +39,7 @@ capsule_with_header bytes kind header size =
     else Stops (walks.Fault Message) header)
     else Goes tt (header + size)
 
--- the same, where the length is to be read after a type of so many bytes
+-- the same, where the length is to be read after a type of `offset` bytes
 abbrev pub capsule_with_length : List ℕ → ℕ → ℕ → Option (ℕ × ℕ) → Step (Unit {0}) SessionWalk
 capsule_with_length bytes kind offset None = Cut
 capsule_with_length bytes kind offset (Some l) = capsule_with_header bytes kind (offset + l.1) l.0
@@ -64,7 +64,7 @@ pub record SessionProgress : Type 0 where
 abbrev pub session_start : SessionProgress
 session_start = record { data_left = 0; capsules = at_item tt }
 
--- what a byte of a DATA payload leads to: the capsules stop the walk, or so many more bytes are to come
+-- what a byte of a DATA payload leads to: the capsules stop the walk, or `left` more bytes are to come
 abbrev pub data_step : ℕ → WalkProgress (Unit {0}) SessionWalk → Option SessionWalk → Step SessionProgress SessionWalk
 data_step left capsules (Some outcome) = Stops outcome 1
 data_step left capsules None = Goes (record { data_left = left; capsules = capsules }) 1
@@ -73,7 +73,7 @@ data_step left capsules None = Goes (record { data_left = left; capsules = capsu
 abbrev pub data_byte : ℕ → WalkProgress (Unit {0}) SessionWalk → Step SessionProgress SessionWalk
 data_byte left capsules = data_step left capsules (reached_in capsules).stop
 
--- a frame with a header of so many bytes and a payload of size bytes: DATA may have any length, HEADERS and SETTINGS at
+-- a frame with a header of `header` bytes and a payload of size bytes: DATA may have any length, HEADERS and SETTINGS at
 -- most 4,096 bytes (this repository's rule); HEADERS are skipped (this repository's rule; RFC 9114, section 4.4, asks
 -- H3_FRAME_UNEXPECTED), SETTINGS are unexpected (RFC 9114, section 7.2.4), every other type is skipped
 abbrev pub frame_step : WalkProgress (Unit {0}) SessionWalk → ℕ → ℕ → ℕ → Step SessionProgress SessionWalk
@@ -86,7 +86,7 @@ frame_step capsules kind header size =
     else Goes (record { data_left = 0; capsules = capsules }) (header + size)))
     else Goes (record { data_left = 0; capsules = capsules }) (header + size))
 
--- the same, where the length is to be read after a type of so many bytes
+-- the same, where the length is to be read after a type of `offset` bytes
 abbrev pub frame_step_with_length : WalkProgress (Unit {0}) SessionWalk → ℕ → ℕ → Option (ℕ × ℕ) → Step SessionProgress SessionWalk
 frame_step_with_length capsules kind offset None = Cut
 frame_step_with_length capsules kind offset (Some l) = frame_step capsules kind (offset + l.1) l.0

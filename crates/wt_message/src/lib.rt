@@ -1,11 +1,12 @@
 //! The messages of WebTransport over HTTP/3: SETTINGS, requests and responses, capsules and datagrams.
 //!
 //! Each is read from the bytes of a payload and written to them; where on a stream they stand is the
-//! matter of wt_proto, which offers these types again.
+//! matter of wt_proto, which re-exports these types.
 #![tactic(auto)]
 
 pub mod capsule;
 pub mod datagram;
+pub mod send;
 pub mod session;
 pub mod settings;
 pub mod theorems;

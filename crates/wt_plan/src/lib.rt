@@ -12,4 +12,5 @@ pub mod heads;
 pub mod plan;
 pub mod read_plans;
 pub mod same_plans;
+pub mod send;
 pub mod session_table;

@@ -207,7 +207,7 @@ read-waits false false true front ends.Running = refl
 read-waits false false true front ends.Fin = refl
 read-waits false false true front (ends.Reset c) = refl
 
--- a read of so many bytes
+-- a read of n bytes
 pub exact-waits : (o enough : Bool) (front left : List ℕ) (end : StreamEnd)
     → waits (row enough (replies.Exact front) [] ∷ row (is_fin end) (replies.ExactFailed (exacts.FinishedEarly (length left)) left) []
     ∷ row_for (reset_code end) (λ (code : ℕ). replies.ExactFailed (exacts.Read (reads.Reset code)) []) [] ∷ row (not o) (replies.ExactFailed (exacts.Read reads.NotConnected) []) [] ∷ [])

@@ -11,7 +11,7 @@ use Rattle.wt_turn.specs.Close.{Close}
 use Rattle.wt_script.specs.Numbers.{count_of, id_of, bytes_of, text_of_word}
 use Rattle.wt_script.specs.Words.{is_word, alone, one, two}
 
--- what the transport tells about datagrams
+-- what the transport reports about datagrams
 abbrev pub fact_of : List ℕ → Option DatagramFact
 fact_of word =
     if is_word word (codes "off") then Some facts.Disabled else
@@ -46,7 +46,7 @@ loss_of_words [] = None
 loss_of_words (kind ∷ []) = bare_loss_of kind
 loss_of_words (kind ∷ field ∷ fields) = coded_loss_of kind (field ∷ fields)
 
--- what the transport tells when the connection is established
+-- what the transport reports when the connection is established
 abbrev pub connected_of : List (List ℕ) → Option Turn
 connected_of (uni ∷ bi ∷ credit ∷ fact ∷ []) =
     option_map (λ p. turns.Connected p.0 p.1.0 p.1.1.0 p.1.1.1) (option_zip (count_of uni) (option_zip (count_of bi) (option_zip (count_of credit) (fact_of fact))))

@@ -32,7 +32,7 @@ abbrev pub is_left_out : List ℕ → Bool
 is_left_out [] = true
 is_left_out (b ∷ line) = b == 35
 
--- the lines so far, and one that tells the side
+-- the lines so far, and one that names the side
 abbrev pub with_side : Lines → Side → Lines
 with_side before side = record { side = Some side; turns = before.turns }
 
@@ -40,7 +40,7 @@ with_side before side = record { side = Some side; turns = before.turns }
 abbrev pub with_turn : Lines → Turn → Lines
 with_turn before turn = record { side = before.side; turns = before.turns ++ turn ∷ [] }
 
--- the first line that isn't left out tells the side, each further one is a turn
+-- the first line that isn't left out names the side, each further one is a turn
 abbrev pub with_words : Lines → Option Side → List ℕ → Option Lines
 with_words before None line = option_map (with_side before) (side_of line)
 with_words before (Some side) line = option_map (with_turn before) (turn_of line)

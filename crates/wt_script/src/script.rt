@@ -32,7 +32,7 @@ pub struct Script {
 }
 
 /// A script is refused for this line, counted from 1: the first that isn't in the grammar, or the one
-/// after the last where no line tells the side.
+/// after the last where no line names the side.
 #[derive(Clone, Copy, PartialEq, Eq, Debug, Error)]
 #[error("line {line} refused")]
 pub struct ScriptRefused {
@@ -138,7 +138,7 @@ fn end_script(
 }
 
 /// Reads a script: lines that end with a line feed, which the last may lack. An empty line and one
-/// that begins with `#` are left out, and counted. The first other line tells the side, each further
+/// that begins with `#` are left out, and counted. The first other line names the side, each further
 /// one is a turn.
 pub fn read_script(
     alloc: Global,
@@ -149,7 +149,7 @@ pub fn read_script(
     read_on(alloc, Draft::new(alloc), script)
 }
 
-/// Reads lines of turns after a script that has begun: none of them tells the side. They are lines as
+/// Reads lines of turns after a script that has begun: none of them names the side. They are lines as
 /// those of a script, and count from 1.
 pub fn read_more_turns(
     alloc: Global,

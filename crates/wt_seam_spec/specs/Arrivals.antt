@@ -79,7 +79,7 @@ abbrev pub log_bytes_if : Bool → Log → ℕ → List ℕ → Log
 log_bytes_if true log id piece = log_bytes log id piece
 log_bytes_if false log id piece = log
 
--- the log after what a turn tells, if it tells an event
+-- the log after what a turn reports, if it is an event
 abbrev pub log_reported : Log → Option Event → Log
 log_reported log (Some e) = log_event log e
 log_reported log None = log

@@ -9,7 +9,7 @@ use Rattle.wt_turn.specs.declared.datagram_fact.DatagramFact.{DatagramFact}
 use Rattle.wt_turn.specs.declared.loss.LossReason.{LossReason}
 use Rattle.wt_turn.specs.Log.{Event, Connected, PeerUni, PeerBi, End, Reset, Stop, Acked, Datagram, MaxUni, MaxBi, MaxData, DatagramLimit, Loss, newest}
 
--- what an event about stream `id` tells of stream k
+-- what an event about stream `id` reports of stream k
 abbrev pub if_same : {T : Type 0} → ℕ → ℕ → T → Option T
 if_same id k t = if id == k then Some t else None
 
@@ -93,7 +93,7 @@ bis_reported _ = None
 abbrev pub bis_allowed : List Event → ℕ
 bis_allowed events = unwrap_or (newest bis_reported events) 0
 
--- what the event tells of datagrams
+-- what the event reports of datagrams
 abbrev pub datagrams_reported : Event → Option DatagramFact
 datagrams_reported (Connected uni bi credit datagrams) = Some datagrams
 datagrams_reported (DatagramLimit fact) = Some fact

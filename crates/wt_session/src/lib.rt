@@ -13,6 +13,7 @@ pub mod incoming;
 pub mod laws;
 pub mod rejecting;
 mod response;
+pub mod send;
 pub mod stream;
 
 pub use accepting::Accepting;

@@ -91,7 +91,7 @@ matches-end history entries place position n l m =
 
 -- ---- how many calls
 
--- so many calls were counted before this place
+-- `count` calls were counted before this place
 pub record Counts (history : Pairs) (place count : ℕ) : Type 0 where
   pub few : count < place
   pub same : count + length (calls_from place (drop place history)) ≡ length (calls_in history)

@@ -11,24 +11,28 @@ use crate::history::History;
 use crate::kept::Kept;
 use crate::told::Told;
 use std::alloc::Global;
+use thiserror::Error;
 use wt_turn::{Answer, Turn};
 use wt_wire::error::OutOfMemory;
 
 /// How what the handles were told differs from the calls of the history after its first turn.
-#[derive(Debug, Drop)]
+#[derive(Debug, Drop, Error)]
 pub enum CloseError {
     /// In number: the history has `kept` calls, and the handles have `told` entries.
+    #[error("{kept} calls were made and {told} were answered")]
     Missing {
         kept: u64,
         told: u64,
     },
     /// In one handle's order: it was told the turn at the place `after` next after that at `before`, which isn't below it.
+    #[error("turn {after} was answered after turn {before}")]
     Disordered {
         before: u64,
         after: u64,
     },
     /// In order of place, at one position: the history's call there, which has this place, was answered `kept`, and the
     /// handles' entry there has the answer `told`. The two differ in place, turn or answer.
+    #[error("turn {place} was answered otherwise")]
     Differs {
         place: u64,
         kept: Answer,

@@ -14,17 +14,20 @@ use crate::told::Told;
 use std::alloc::Global;
 use std::marker::Model;
 use std::sync::{Arc, Wait};
+use thiserror::Error;
 use wt_turn::piece::Piece;
 use wt_turn::{Answer, Call, Turn};
 use wt_wire::error::OutOfMemory;
 use wt_wire::ids::StreamId;
 
 /// Why a call that waits has no answer.
-#[derive(Clone, Copy, PartialEq, Eq, Debug)]
+#[derive(Clone, Copy, PartialEq, Eq, Debug, Error)]
 pub enum SharedError {
     /// The gate gave up.
+    #[error("the gate gave up")]
     GaveUp,
     /// Out of memory.
+    #[error("out of memory")]
     OutOfMemory,
 }
 
@@ -84,7 +87,7 @@ impl Connection {
         self.told
     }
 
-    /// Makes this call as one turn of the locked value that is lent, and adds what that turn tells to the list. Waits for
+    /// Makes this call as one turn of the locked value that is lent, and adds what that turn reports to the list. Waits for
     /// nobody.
     ///
     /// # Errors
@@ -293,7 +296,7 @@ impl Connection {
     }
 }
 
-/// Makes a call as one turn of the locked value, and adds what it tells to a handle's list.
+/// Makes a call as one turn of the locked value, and adds what it reports to a handle's list.
 fn make_call(
     alloc: Global,
     told: &mut Vec<Told>,

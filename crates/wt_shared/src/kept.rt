@@ -14,17 +14,20 @@ use crate::pending::changes_by;
 use crate::told::Told;
 use std::alloc::Global;
 use std::marker::Model;
+use thiserror::Error;
 use wt_core::machine::Core;
 use wt_turn::Turn;
 use wt_wire::error::OutOfMemory;
 use wt_wire::side::Side;
 
 /// Why a turn has no answer.
-#[derive(Clone, Copy, PartialEq, Eq, Debug)]
+#[derive(Clone, Copy, PartialEq, Eq, Debug, Error)]
 pub enum StepError {
     /// The turn isn't lawful after the history. Nothing changed.
+    #[error("turn unlawful")]
     Unlawful,
     /// Out of memory.
+    #[error("out of memory")]
     OutOfMemory,
 }
 
@@ -61,7 +64,7 @@ impl Model for Kept {
 }
 
 impl Kept {
-    /// A connection on this side that made its first turn, and what it tells of that turn.
+    /// A connection on this side that made its first turn, and what it reports of that turn.
     pub fn new(alloc: Global, side: Side, first: &Turn) -> Result<(Kept, Told), OutOfMemory>
         requires { is_lawful side [] first.now ≡ true }
         ensures kept { IfOk result (λ r. r.0 ≡ after_turn (nothing_stored side) first.now) }

@@ -1,4 +1,4 @@
-//! A generated run on a shared connection: one thread feeds what the transport tells, another accepts and reads.
+//! A generated run on a shared connection: one thread feeds what the transport reports, another accepts and reads.
 use crate::close::close_shared;
 use crate::connection::Connection;
 use crate::gate::{CondvarGate, Gate};

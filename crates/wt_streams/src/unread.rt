@@ -85,7 +85,7 @@ impl Unread {
         Ok(())
     }
 
-    /// Copies bytes into the buffer's front, as many as there are and fit, and tells how many. They stay
+    /// Copies bytes into the buffer's front, as many as there are and fit, and returns how many. They stay
     /// unread.
     pub fn copy_to(&self, buffer: &mut [u8]) -> usize
         ensures count { result ≡ min (length buffer.old) (length (concat self.now)) }
@@ -136,7 +136,7 @@ fn skip_bytes(pieces: &mut VecDeque<Bytes<Global>>, count: usize)
     }
 }
 
-/// Copies bytes of these pieces into the buffer's front, as many as there are and fit, and tells how
+/// Copies bytes of these pieces into the buffer's front, as many as there are and fit, and returns how
 /// many.
 fn copy_pieces(pieces: &VecDeque<Bytes<Global>>, buffer: &mut [u8]) -> usize
     ensures count { result ≡ min (length buffer.old) (length (concat pieces.now.items)) }
@@ -151,7 +151,7 @@ fn copy_pieces(pieces: &VecDeque<Bytes<Global>>, buffer: &mut [u8]) -> usize
     offset
 }
 
-/// Copies as many of these bytes as fit to this place of the buffer, and tells how many.
+/// Copies as many of these bytes as fit to this place of the buffer, and returns how many.
 fn copy_at(buffer: &mut [u8], offset: usize, bytes: &[u8]) -> usize
     requires { offset ≤ length buffer.old }
     ensures count { result ≡ min (length bytes.now) (length buffer.old - offset) }

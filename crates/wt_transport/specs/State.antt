@@ -81,7 +81,7 @@ state_of side log position pieces uncollected = record {
   actions = joined_actions uncollected;
 }
 
--- what is kept, but for how many streams were accepted, which no log tells
+-- what is kept, but for how many streams were accepted, which is in no log
 abbrev pub but_accepted : TransportState → TransportState
 but_accepted t = record t { accepted = nothing_accepted }
 

@@ -126,7 +126,7 @@ after_event t (Loss reason) = record t { is_open = false; is_lost = true; loss =
 abbrev pub after_bytes : TransportState → ℕ → List ℕ → TransportState
 after_bytes t id piece = if_so t.is_open (with_change t id (stream.with_bytes piece)) t
 
--- after what a turn tells, if it tells an event
+-- after what a turn reports, if it is an event
 abbrev pub after_reported : TransportState → Option Event → TransportState
 after_reported t (Some e) = after_event t e
 after_reported t None = t

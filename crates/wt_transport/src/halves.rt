@@ -42,7 +42,7 @@ impl QuicSendStream {
         self.id
     }
 
-    /// Writes as many of the bytes as credit is left for, and tells how many; pending where the buffer
+    /// Writes as many of the bytes as credit is left for, and returns how many; pending where the buffer
     /// isn't empty and no credit is left. Fails with `NotConnected` where the connection isn't open, else
     /// with `Closed` where this end finished or reset the half, else with `Stopped` where the peer stopped
     /// it.
@@ -62,7 +62,7 @@ impl QuicSendStream {
         t.write(self.id, bytes)
     }
 
-    /// Writes as many of the bytes as credit is left for, and tells whether these were all. Fails as
+    /// Writes as many of the bytes as credit is left for, and returns whether these were all. Fails as
     /// `write`.
     pub fn write_all(
         &mut self,
@@ -180,7 +180,7 @@ impl QuicRecvStream {
         self.id
     }
 
-    /// Reads unread bytes into the buffer's front, and tells how many; None once all was read and the
+    /// Reads unread bytes into the buffer's front, and returns how many; None once all was read and the
     /// peer ended the half; pending while nothing is unread. Fails with `Reset` where nothing is unread
     /// and the peer reset the half, and with `NotConnected` where nothing is unread and the connection
     /// isn't open.

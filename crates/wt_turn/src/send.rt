@@ -10,7 +10,7 @@ use crate::{
 
 fn is_send<T: Send>() {}
 
-/// Each type that tells or reports something of a connection is `Send`: that this compiles is the proof.
+/// Each type that reports something of a connection is `Send`: that this compiles is the proof.
 /// The errors of a stream and of a datagram are parts of a reply.
 pub fn all_are_send() {
     is_send::<Piece>();

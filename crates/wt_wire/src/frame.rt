@@ -118,7 +118,8 @@ impl Frame {
         }
     }
 
-    /// A frame of a reserved type (RFC 9114, section 7.2.8).
+    /// A frame of a reserved type (RFC 9114, section 7.2.8). No other number may be its type, so a frame's kind always fits
+    /// what it holds.
     pub fn new_exercise(alloc: Global, number: VarInt, payload: &[u8]) -> Result<Frame, OutOfMemory>
         requires { IsTrue (is_exercise number) }
         ensures { IfOk result (λ f. f ≡ record { kind = kinds.Exercise number; payload = payload.now; session = None }) }

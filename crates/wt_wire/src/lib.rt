@@ -14,6 +14,7 @@ pub mod ids;
 pub mod lookup;
 pub mod parsed_frame;
 mod prefixed_integer;
+pub mod send;
 pub mod side;
 pub mod status;
 pub mod text;

@@ -97,7 +97,7 @@ impl Inbox {
         self.transport.open_bi()
     }
 
-    /// Sends as many of the bytes as credit is left for, and tells how many (RFC 9000, section 4.1).
+    /// Sends as many of the bytes as credit is left for, and returns how many (RFC 9000, section 4.1).
     pub fn send(&mut self, id: StreamId, bytes: &[u8]) -> Result<usize, OutOfMemory>
         requires { IsTrue (may_send_now self.old.transport id) }
         ensures count { IfOk result (λ n. n ≡ length (covered_now self.old.transport id bytes.now)) }

@@ -35,7 +35,7 @@ use wt_wire::ids::StreamId;
 impl Inbox {
     // ---- headers
 
-    /// Reads the header of a peer's unidirectional stream on, and tells whether its verdict is final.
+    /// Reads the header of a peer's unidirectional stream on, and returns whether its verdict is final.
     pub fn has_uni_verdict(&mut self, id: StreamId) -> Result<bool, OutOfMemory>
         ensures now { IfOk result (λ so. so ≡ is_final (uni_verdict_now self.old id)) }
         ensures same { OnOk result ((k : ℕ) → uni_verdict_now self.new k ≡ uni_verdict_now self.old k) }
@@ -72,7 +72,7 @@ impl Inbox {
 
     // ---- headers of bidirectional streams
 
-    /// Reads the header of a peer's bidirectional stream on, and tells whether its verdict is final.
+    /// Reads the header of a peer's bidirectional stream on, and returns whether its verdict is final.
     pub fn has_bi_verdict(&mut self, id: StreamId) -> Result<bool, OutOfMemory>
         ensures now { IfOk result (λ so. so ≡ is_final (bi_verdict_now self.old id)) }
         ensures same { OnOk result ((k : ℕ) → bi_verdict_now self.new k ≡ bi_verdict_now self.old k) }
@@ -109,7 +109,7 @@ impl Inbox {
 
     // ---- responses
 
-    /// Reads a client's session stream on up to the response, and tells whether there is an outcome.
+    /// Reads a client's session stream on up to the response, and returns whether there is an outcome.
     pub fn has_response(&mut self, id: StreamId) -> Result<bool, OutOfMemory>
         ensures now { IfOk result (λ so. so ≡ is_answered (response_now self.old id)) }
         ensures same { OnOk result ((k : ℕ) → response_now self.new k ≡ response_now self.old k) }
@@ -128,7 +128,7 @@ impl Inbox {
         Ok(self.is_response_there(id))
     }
 
-    /// Reads a client's session stream on up to the response, and tells what came of it. Nothing of it is
+    /// Reads a client's session stream on up to the response, and returns what came of it. Nothing of it is
     /// dropped.
     pub fn response(&mut self, id: StreamId) -> Result<ResponseWalk, OutOfMemory>
         ensures now { IfOk result (λ outcome. outcome ≡ response_now self.old id) }
@@ -168,7 +168,7 @@ impl Inbox {
 
     // ---- the control stream
 
-    /// Reads the peer's control stream on after its type, and tells its settings and its fault.
+    /// Reads the peer's control stream on after its type, and returns its settings and its fault.
     pub fn control_walk(&mut self, id: StreamId) -> Result<ControlWalk, OutOfMemory>
         ensures now { IfOk result (λ walk. walk ≡ control_now self.old id) }
         ensures same { OnOk result ((k : ℕ) → control_now self.new k ≡ control_now self.old k) }
@@ -189,7 +189,7 @@ impl Inbox {
 
     // ---- a session's stream
 
-    /// Reads a session's stream on, and tells whether the peer ended the session.
+    /// Reads a session's stream on, and returns whether the peer ended the session.
     pub fn has_session_end(&mut self, id: StreamId) -> Result<bool, OutOfMemory>
         ensures now { IfOk result (λ so. so ≡ is_over (session_now self.old id)) }
         ensures same { OnOk result ((k : ℕ) → session_now self.new k ≡ session_now self.old k) }

@@ -19,7 +19,7 @@ use wt_turn::loss::LossReason;
 use wt_turn::turn::Turn;
 use wt_wire::error::OutOfMemory;
 
-/// What the transport tells about datagrams.
+/// What the transport reports about datagrams.
 fn read_fact(word: &[u8]) -> Option<DatagramFact>
     ensures { result ≡ fact_of word.now }
 {

@@ -8,7 +8,7 @@ use std::thread::{Threads, join};
 use wt_shared::{Connection, Gate, History, Shared, SharedError, Told, close_shared};
 use wt_turn::{Answer, Call, Reply, Turn};
 
-/// Makes what the transport tells turns of the connection, and wakes whoever waits for them.
+/// Makes what the transport reports turns of the connection, and wakes whoever waits for them.
 fn feed<R: Wait>(rt: &R, shared: &Shared, events: &[Turn]) -> bool {
     for event in events {
         let is_fed = shared.kept().lock(rt).step(event).is_ok();

@@ -65,7 +65,7 @@ fn a_flood_of_datagrams_of_another_session(rt: HostRuntime) {
     writes(&rt, alloc, script.as_str(), text.as_str());
 }
 
-/// A request, cut after so many digits.
+/// A request, cut after `size` digits.
 fn cut_request(rt: &impl Abort, alloc: Global, size: usize) -> String {
     let line = SESSION.lines().nth(5).expect(rt, "the line of the request");
     let cut = line.get(..size).expect(rt, "no place");

@@ -106,7 +106,7 @@ request 0 3a617574686f72697479=68 3a6d6574686f64=434f4e4e454354 3a70617468=2f \
 session 0 ; send 0 010f000027003a73746174757303323030
 ";
 
-/// A remark of so many bytes.
+/// A remark of `size` bytes.
 fn remark(rt: &impl Abort, alloc: Global, size: usize) -> Vec<u8> {
     vec![in alloc; b'#'; size].expect(rt, "no memory")
 }
@@ -136,6 +136,32 @@ fn a_script_has_a_greatest_length(rt: HostRuntime) {
     ends(&rt, alloc, "large 1", longer.as_slice(), NEVER, 7, text);
 }
 
+/// What the sink takes of this script's run, which is answered this status, where its write of this number fails.
+fn traced(
+    rt: &impl Abort,
+    alloc: Global,
+    script: &[u8],
+    failing_write: u64,
+    status: u8,
+) -> MemSink {
+    let script = script.to_vec(alloc).expect(rt, "no memory");
+    let failing = vec![in alloc; failing_write].expect(rt, "no memory");
+    let mut source = MemSource::new(script, Vec::new(alloc));
+    let mut sink = MemSink::new(alloc, failing);
+    let got = answers(rt, alloc, "trace", &mut source, &mut sink);
+    assert!(rt; got == status);
+    sink
+}
+
+#[test]
+fn a_sink_may_fail_at_its_only_write(rt: HostRuntime) {
+    let session = SESSION.as_bytes();
+    let sink = traced(&rt, rt.alloc(), session, 0, 5);
+    assert!(rt; sink.written().is_empty());
+    let sink = traced(&rt, rt.alloc(), session, 1, 0);
+    assert_eq!(rt; sink.written(), SESSION_TEXT.as_bytes());
+}
+
 /// A stream that the session accepts.
 const STREAM: &str = "peer_uni\nbytes 6 405400\naccept_uni\n";
 
@@ -144,13 +170,7 @@ const STREAM: &str = "peer_uni\nbytes 6 405400\naccept_uni\n";
 fn long_run(rt: &impl Abort, alloc: Global, failing_write: u64, status: u8) -> MemSink {
     let front = long(rt, alloc, SESSION, STREAM, 1);
     let script = long(rt, alloc, front.as_str(), "bytes 6 68\nread 6 1\n", 6_000);
-    let script = script.as_bytes().to_vec(alloc).expect(rt, "no memory");
-    let failing = vec![in alloc; failing_write].expect(rt, "no memory");
-    let mut source = MemSource::new(script, Vec::new(alloc));
-    let mut sink = MemSink::new(alloc, failing);
-    let got = answers(rt, alloc, "trace", &mut source, &mut sink);
-    assert!(rt; got == status);
-    sink
+    traced(rt, alloc, script.as_bytes(), failing_write, status)
 }
 
 fn long_text(rt: &impl Abort, alloc: Global) -> String {

@@ -106,7 +106,7 @@ impl Transport {
         self.is_open && self.can_send(id) && self.stream(id).may_send()
     }
 
-    /// Sends as many of the bytes as credit is left for, and tells how many (RFC 9000, section 4.1).
+    /// Sends as many of the bytes as credit is left for, and returns how many (RFC 9000, section 4.1).
     pub fn send(&mut self, id: StreamId, bytes: &[u8]) -> Result<usize, OutOfMemory>
         requires { IsTrue (may_send_now self.old id) }
         ensures count { IfOk result (λ n. n ≡ length (covered_now self.old id bytes.now)) }

@@ -143,7 +143,7 @@ fn read(
     }
 }
 
-/// An early end tells the bytes that it leaves in the buffer's front; no other error leaves any.
+/// An early end reports the bytes that it leaves in the buffer's front; no other error leaves any.
 fn read_exact(
     rt: &impl Abort,
     alloc: Global,

@@ -38,7 +38,7 @@ pub fn plays(rt: &impl Abort, alloc: Global, transport: &mut Transport, rows: &s
     }
 }
 
-/// Plays the same rows so many times.
+/// Plays the same rows `times` times.
 pub fn repeats(rt: &impl Abort, alloc: Global, transport: &mut Transport, times: u32, rows: &str) {
     for _ in 0..times {
         plays(rt, alloc, transport, rows);

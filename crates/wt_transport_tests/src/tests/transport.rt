@@ -15,7 +15,7 @@ fn send(rt: &impl Abort, transport: &mut Transport, id: StreamId, bytes: &[u8]) 
     transport.send(id, bytes).expect(rt, "no memory")
 }
 
-/// Consumes so many bytes, and tells how many are unread then.
+/// Consumes `count` bytes, and returns how many are unread then.
 fn consume(rt: &impl Abort, transport: &mut Transport, id: StreamId, count: usize) -> u64 {
     let unread = transport.unread(id);
     assert!(rt; count as u64 <= unread);
