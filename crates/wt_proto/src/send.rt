@@ -3,7 +3,7 @@ use crate::control_walk::ControlWalk;
 use crate::reader::{BiReader, ControlReader, FrameReader, UniReader};
 use crate::response_walk::ResponseWalk;
 use crate::session_walk::SessionWalk;
-use crate::stream_header::StreamHeader;
+use crate::stream_header::{StreamHeader, StreamKind};
 use crate::verdict::Verdict;
 
 fn is_send<T: Send>() {}
@@ -20,4 +20,5 @@ pub fn all_are_send() {
     is_send::<SessionWalk>();
     is_send::<ResponseWalk>();
     is_send::<StreamHeader>();
+    is_send::<StreamKind>();
 }
