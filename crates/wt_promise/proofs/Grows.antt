@@ -166,6 +166,18 @@ pub data Adds (side : Side) (h : History) (found : List Finding) : List Finding 
   ASettings : settings_came found ≡ false → Adds side h found (SettingsRead ∷ [])
   AFault : (code : ErrorCode) → Adds side h found (Faulted code ∷ [])
 
+of-fault : (P : List Finding → Type 0) → P [] → ((code : ErrorCode) → P (Faulted code ∷ [])) → (b : Bool) (code : ErrorCode) → P (fault_if b code)
+of-fault P none one true code = one code
+of-fault P none one false code = none
+
+-- what holds of nothing and of a fault alone holds of the fault of a stream
+pub of-stream-fault : (P : List Finding → Type 0) → P [] → ((code : ErrorCode) → P (Faulted code ∷ [])) → (found : List Finding) (v : Verdict) → P (stream_fault found v)
+of-stream-fault P none one found (verdicts.Fault code) = one code
+of-stream-fault P none one found (verdicts.Control offset) = of-fault P none one (is_some (first_of control_in found)) h3.StreamCreation
+of-stream-fault P none one found (verdicts.Encoder offset) = of-fault P none one (is_some (first_of encoder_in found)) h3.StreamCreation
+of-stream-fault P none one found (verdicts.Decoder offset) = of-fault P none one (is_some (first_of decoder_in found)) h3.StreamCreation
+of-stream-fault P none one found v = none
+
 fault-adds : (side : Side) (h : History) (found : List Finding) (b : Bool) (code : ErrorCode) → Adds side h found (fault_if b code)
 fault-adds side h found true code = AFault code
 fault-adds side h found false code = Nothing

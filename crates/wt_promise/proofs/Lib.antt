@@ -12,4 +12,7 @@ pub mod Grows
 pub mod Actions
 pub mod OpenStays
 pub mod Owed
+pub mod Datagrams
+pub mod HandedOut
+pub mod ReadPieces
 pub mod Theorems

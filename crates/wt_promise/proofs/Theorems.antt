@@ -6,15 +6,17 @@ use Rattle.wt_wire.specs.declared.side.Side.{Side}
 use Rattle.wt_meaning.specs.History.{History}
 use Rattle.wt_meaning.specs.Lawful.{is_lawful}
 use Rattle.wt_meaning.specs.Meaning.{meaning, next, run}
-use Rattle.wt_promise.specs.Promise.{AllLawful, BiAccepted, CutsFreely, DatagramReceived, EndsRightly, GivesWhatWaits, IsHistory, NothingAfterEnd, OpenExactly, OwedGoesOut, PendingExactly, UniAccepted}
+use Rattle.wt_promise.specs.Promise.{AllLawful, BiAccepted, CutsFreely, DatagramReceived, DatagramsInOrder, EndsRightly, GivesWhatWaits, IsHistory, NothingAfterEnd, OpenExactly, OwedGoesOut, PendingExactly, ReadsInOrder, UniAccepted}
 use Rattle.wt_promise.proofs.Accepted.{bi-accepted, datagram-received, uni-accepted}
 use Rattle.wt_promise.proofs.Ended.{nothing-after-end}
 use Rattle.wt_promise.proofs.Lists.{cuts-freely, run_from-lawful}
 use Rattle.wt_promise.proofs.Polls.{call-waits}
 use Rattle.wt_promise.proofs.ReadEnds.{ends-rightly}
+use Rattle.wt_promise.proofs.Datagrams.{datagrams-in-order}
 use Rattle.wt_promise.proofs.Gives.{gives-what-waits}
 use Rattle.wt_promise.proofs.OpenStays.{open-exactly}
 use Rattle.wt_promise.proofs.Owed.{owed-goes-out}
+use Rattle.wt_promise.proofs.ReadPieces.{reads-in-order}
 use Rattle.wt_turn.specs.declared.call.Call.TheVariants as calls
 use Rattle.wt_turn.specs.declared.reply.Reply.TheVariants as replies
 use Rattle.wt_turn.specs.declared.turn.Turn.TheVariants as turns
@@ -51,3 +53,9 @@ open_theorem = open-exactly
 
 pub owed_theorem : (side : Side) (h : History) (turn : Turn) → OwedGoesOut side h turn (next side h turn)
 owed_theorem = owed-goes-out
+
+pub reads_theorem : (side : Side) (h : History) → IsHistory side h → ReadsInOrder side h
+reads_theorem = reads-in-order
+
+pub datagrams_theorem : (side : Side) (h : History) → IsHistory side h → DatagramsInOrder side h
+datagrams_theorem = datagrams-in-order

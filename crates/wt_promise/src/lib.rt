@@ -6,7 +6,7 @@ ghost use Rattle.std.specs.Prelude.{◌≡◌, ℕ, List, Option, [], true};
 ghost use Rattle.wt_meaning.specs.History.{History};
 ghost use Rattle.wt_meaning.specs.Lawful.{is_lawful};
 ghost use Rattle.wt_meaning.specs.Meaning.{meaning, next, run};
-ghost use Rattle.wt_promise.specs.Promise.{AllLawful, BiAccepted, CutsFreely, DatagramReceived, EndsRightly, GivesWhatWaits, IsHistory, NothingAfterEnd, OpenExactly, OwedGoesOut, PendingExactly, UniAccepted};
+ghost use Rattle.wt_promise.specs.Promise.{AllLawful, BiAccepted, CutsFreely, DatagramReceived, DatagramsInOrder, EndsRightly, GivesWhatWaits, IsHistory, NothingAfterEnd, OpenExactly, OwedGoesOut, PendingExactly, ReadsInOrder, UniAccepted};
 ghost use Rattle.wt_turn.specs.declared.call.Call.{Call};
 ghost use Rattle.wt_turn.specs.declared.turn.Turn.{Turn};
 ghost use Rattle.wt_turn.specs.declared.call.Call.TheVariants as calls;
@@ -64,4 +64,10 @@ pub fn connections_stay_open_exactly()
 /// What a finding owes goes out in the answer in which it is found, where the turn leaves the connection open.
 pub fn what_is_owed_goes_out()
     ensures owed { (side : Side) (h : History) (turn : Turn) → OwedGoesOut side h turn (next side h turn) }
+{}
+
+/// What was read of a stream is a prefix of what follows its header, and the datagrams that a session received are the first of those that were admitted for it.
+pub fn what_is_received_is_in_order()
+    ensures reads { (side : Side) (h : History) → IsHistory side h → ReadsInOrder side h }
+    ensures datagrams { (side : Side) (h : History) → IsHistory side h → DatagramsInOrder side h }
 {}

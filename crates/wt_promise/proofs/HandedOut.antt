@@ -1,0 +1,204 @@
+-- A stream that was handed out was classified, or isn't the peer's.
+use Rattle.std.specs.Prelude.{[], ◌*◌, ◌++◌, ◌+◌, ◌==◌, ◌∷◌, ◌||◌, ◌≡◌, Bool, List, None, Option, Some, false, if◌then◌else◌, is_some, not, true, ℕ}
+use Rattle.std.specs.List.{list_any}
+use Rattle.std.specs.Option.{option_or}
+use Rattle.std.proofs.Common.{◌∙◌, ap, refl, sym}
+use Rattle.std.proofs.Math.Nat.{mul-add-mod_self_left}
+use Rattle.std.proofs.lemmas.Bool.{eqb-true}
+use Rattle.wt_meaning.specs.Calls.{being_opened, in_session, open_stream, opened_by, opening_ends, opening_for, opening_rows, stream_header}
+use Rattle.wt_meaning.specs.Findings.{Classified, Finding, first_of, is_classified, verdict_in, verdict_of}
+use Rattle.wt_meaning.specs.Handshakes.{head_left, is_refused, lacks_credit, send}
+use Rattle.wt_meaning.specs.History.{History, Pair, hands_out, is_handed_out, may_open, next_id, stream_count}
+use Rattle.wt_meaning.specs.Meaning.{next}
+use Rattle.wt_meaning.specs.Moments.{findings, stream_fault}
+use Rattle.wt_meaning.specs.Rows.{first_row}
+use Rattle.wt_meaning.specs.Sends.{admits}
+use Rattle.wt_meaning.specs.Windows.{is_gone, named}
+use Rattle.wt_promise.proofs.Accepted.{bi-accepted, or-true, uni-accepted}
+use Rattle.wt_promise.proofs.Grows.{AClassified, ADatagram, AClosed, ADequeued, AFault, ASettings, Adds, Nothing, findings-add, findings-keep, first_of-append, first_of-stays, is_peers, news, of-stream-fault}
+use Rattle.wt_promise.proofs.Tables.{by-row, by-session, fits, fits-own, no-row}
+use Rattle.wt_promise.specs.Promise.{IsHistory}
+use Rattle.wt_proto.specs.declared.verdict.Verdict.{Verdict}
+use Rattle.wt_seam_spec.specs.Streams.{local_bi, local_uni}
+use Rattle.wt_turn.specs.declared.answer.Answer.{Answer}
+use Rattle.wt_turn.specs.declared.call.Call.{Call}
+use Rattle.wt_turn.specs.declared.connection_error.ConnectionError.{ConnectionError}
+use Rattle.wt_turn.specs.declared.reply.Reply.{Reply}
+use Rattle.wt_turn.specs.declared.turn.Turn.{Turn}
+use Rattle.wt_wire.specs.Ids.{is_bidirectional}
+use Rattle.wt_wire.specs.declared.side.Side.{Side}
+use Rattle.wt_wire.specs.declared.side.Side.TheVariants.{Client, Server}
+use Rattle.wt_proto.specs.declared.verdict.Verdict.TheVariants as verdicts
+use Rattle.wt_turn.specs.declared.call.Call.TheVariants as calls
+use Rattle.wt_turn.specs.declared.reply.Reply.TheVariants as replies
+use Rattle.wt_turn.specs.declared.turn.Turn.TheVariants as turns
+
+-- ---- only streams of the peer are classified
+
+abbrev OnlyPeers : Side → ℕ → List Finding → Type 0
+OnlyPeers side k found = is_classified found k ≡ true → is_peers side k ≡ true
+
+-- what adds no verdict classifies nothing more
+same-verdict : (found new : List Finding) (k : ℕ) → first_of (verdict_in k) new ≡ None → verdict_of (found ++ new) k ≡ verdict_of found k
+same-verdict found new k e = first_of-append (verdict_in k) found new ∙ ap (option_or (verdict_of found k)) e ∙ or-none (verdict_of found k)
+  where
+    or-none : (o : Option Verdict) → option_or o None ≡ o
+    or-none None = refl
+    or-none (Some v) = refl
+
+fault-no-verdict : (k : ℕ) (found : List Finding) (v : Verdict) → first_of (verdict_in k) (stream_fault found v) ≡ None
+fault-no-verdict k = of-stream-fault (λ (fs : List Finding). first_of (verdict_in k) fs ≡ None) refl (λ code. refl)
+
+only-peers-step : (side : Side) (h : History) (k : ℕ) (found new : List Finding) → Adds side h found new → OnlyPeers side k found → OnlyPeers side k (found ++ new)
+only-peers-step side h k found [] Nothing g e = g (sym (ap is_some (same-verdict found [] k refl)) ∙ e)
+only-peers-step side h k found new (ADequeued j p) g e = g (sym (ap is_some (same-verdict found new k refl)) ∙ e)
+only-peers-step side h k found new (ADatagram n s payload c) g e = g (sym (ap is_some (same-verdict found new k refl)) ∙ e)
+only-peers-step side h k found new (AClosed s code reason b l) g e = g (sym (ap is_some (same-verdict found new k refl)) ∙ e)
+only-peers-step side h k found new (ASettings c) g e = g (sym (ap is_some (same-verdict found new k refl)) ∙ e)
+only-peers-step side h k found new (AFault code) g e = g (sym (ap is_some (same-verdict found new k refl)) ∙ e)
+only-peers-step side h k found new (AClassified j v more p d c w m) g e = by (j == k) refl
+  where
+    by : (b : Bool) → (j == k) ≡ b → is_peers side k ≡ true
+    by true q = ap (is_peers side) (sym (eqb-true j k q)) ∙ p
+    by false q = g (sym (ap is_some (same-verdict found new k (rw (q, m) (fault-no-verdict k found v)))) ∙ e)
+
+pub only-peers : (side : Side) (h : History) (k : ℕ) → is_classified (findings side h) k ≡ true → is_peers side k ≡ true
+unfolding findings
+only-peers side [] k e = absurd (cc e)
+only-peers side (p ∷ h) k e = findings-keep side p h (OnlyPeers side k) (λ found new a n g. only-peers-step side (p ∷ h) k found new a g) (only-peers side h k) e
+
+-- ---- a verdict stays
+
+pub verdict-stays : (side : Side) (p : Pair) (h : History) (k : ℕ) (v : Verdict) → verdict_of (findings side h) k ≡ Some v → verdict_of (findings side (p ∷ h)) k ≡ Some v
+verdict-stays side p h k v e = ap (λ (found : List Finding). verdict_of found k) (findings-add side p h) ∙ first_of-stays (verdict_in k) (findings side h) (news side p h) v e
+
+pub classified-stays : (side : Side) (p : Pair) (h : History) (k : ℕ) → is_classified (findings side h) k ≡ true → is_classified (findings side (p ∷ h)) k ≡ true
+classified-stays side p h k e = by (verdict_of (findings side h) k) refl e
+  where
+    by : (o : Option Verdict) → verdict_of (findings side h) k ≡ o → is_some o ≡ true → is_classified (findings side (p ∷ h)) k ≡ true
+    by None i q = absurd (cc q)
+    by (Some v) i q = ap is_some (verdict-stays side p h k v i)
+
+-- an admitted stream is classified
+pub admitted-classified : (s k : ℕ) (found : List Finding) → list_any (admits s k) found ≡ true → is_classified found k ≡ true
+admitted-classified s k [] e = absurd (cc e)
+admitted-classified s k (Classified id (verdicts.WebTransport t offset) true ∷ found) e = by (id == k) refl (admitted-classified s k found)
+  where
+    by : (b : Bool) → (id == k) ≡ b → (list_any (admits s k) found ≡ true → is_classified found k ≡ true) → is_classified (Classified id (verdicts.WebTransport t offset) true ∷ found) k ≡ true
+    by true i again = rw i refl
+    by false i again = rw i (let r = rw i at e in again r)
+admitted-classified s k (x ∷ found) e = by (verdict_in k x) (admitted-classified s k found e)
+  where
+    by : (o : Option Verdict) → is_classified found k ≡ true → is_some (option_or o (verdict_of found k)) ≡ true
+    by None i = i
+    by (Some v) i = refl
+
+-- ---- a stream that this end opens isn't the peer's
+
+apart : (side : Side) (n : ℕ) → (is_peers side (4 * n + local_uni side) ≡ false) × (is_peers side (4 * n + local_bi side) ≡ false)
+apart Client n = (rw (mul-add-mod_self_left 4 n 2) refl, rw (mul-add-mod_self_left 4 n 0) refl)
+apart Server n = (rw (mul-add-mod_self_left 4 n 3) refl, rw (mul-add-mod_self_left 4 n 1) refl)
+
+-- the stream that the answer begins to open isn't the peer's
+abbrev OpensLocal : Side → ℕ → Turn → Answer → Type 0
+OpensLocal side k turn a = is_some (opened_by k turn a.reply) ≡ true → is_peers side k ≡ false
+
+opens-local : (side : Side) (h : History) (k kind : ℕ) (turn : Turn) → ((id : ℕ) → is_some (opened_by k turn (replies.Opening id)) ≡ true → (id == k) ≡ true) → is_peers side (next_id side h kind) ≡ false
+    → (opened_by k turn replies.NoSession ≡ None) → ((e : ConnectionError) → opened_by k turn (replies.Failed e) ≡ None) → opened_by k turn replies.Pending ≡ None
+    → (name : Option ℕ) → OpensLocal side k turn (first_row (in_session name (open_stream side h kind)))
+opens-local side h k kind turn same p n f w name =
+    (by-session (OpensLocal side k turn) name (open_stream side h kind) (λ e. absurd (let r = rw n at e in cc r))
+    (λ s q. by-row (OpensLocal side k turn) (is_gone h (findings side h) s) _ [] _ (λ i e. absurd (let r = rw f at e in cc r))
+    (λ i. by-row (OpensLocal side k turn) _ _ [] _ (λ j e. absurd (let r = rw f at e in cc r))
+    (λ j. by-row (OpensLocal side k turn) (may_open side h kind) (replies.Opening (next_id side h kind)) _ []
+    (λ m e. ap (is_peers side) (sym (eqb-true (next_id side h kind) k (same (next_id side h kind) e))) ∙ p) (λ m. no-row (OpensLocal side k turn) (λ e. absurd (let r = rw w at e in cc r))))))).first
+
+pub opened-local : (side : Side) (h : History) → IsHistory side h → (k : ℕ) → is_some (first_of (λ (p : Pair). opened_by k p.turn p.answer.reply) h) ≡ true → is_peers side k ≡ false
+opened-local side [] i k e = absurd (cc e)
+opened-local side (p ∷ h) i k e = by (opened_by k p.turn p.answer.reply) refl e (opened-local side h i.2 k)
+  where
+    if-some : (b : Bool) (name : Option ℕ) → is_some (if b then Some name else None) ≡ true → b ≡ true
+    if-some true name q = refl
+    if-some false name q = absurd (cc q)
+
+    here : (turn : Turn) → OpensLocal side k turn (next side h turn)
+    here (turns.Call (calls.OpenUni name)) =
+        opens-local side h k (local_uni side) (turns.Call (calls.OpenUni name)) (λ id q. if-some (id == k) name q) (apart side (stream_count side h (local_uni side))).0 refl (λ x. refl) refl (named h name)
+    here (turns.Call (calls.OpenBi name)) =
+        opens-local side h k (local_bi side) (turns.Call (calls.OpenBi name)) (λ id q. if-some (id == k) name q) (apart side (stream_count side h (local_bi side))).1 refl (λ x. refl) refl (named h name)
+    here turn = λ q. absurd (cc q)
+
+    by : (o : Option (Option ℕ)) → opened_by k p.turn p.answer.reply ≡ o → is_some (option_or o (first_of (λ (q : Pair). opened_by k q.turn q.answer.reply) h)) ≡ true
+        → (is_some (first_of (λ (q : Pair). opened_by k q.turn q.answer.reply) h) ≡ true → is_peers side k ≡ false) → is_peers side k ≡ false
+    by None q r again = again r
+    by (Some name) q r again = here p.turn (ap (λ (a : Answer). is_some (opened_by k p.turn a.reply)) (sym i.1) ∙ ap is_some q)
+
+-- ---- handed out
+
+-- the stream was classified, or isn't the peer's
+abbrev pub Settled : Side → History → ℕ → Type 0
+Settled side h k = (is_classified (findings side h) k || not (is_peers side k)) ≡ true
+
+pub settled-stays : (side : Side) (p : Pair) (h : History) (k : ℕ) → Settled side h k → Settled side (p ∷ h) k
+settled-stays side p h k e = by (is_classified (findings side h) k) refl e
+  where
+    by : (b : Bool) → is_classified (findings side h) k ≡ b → (b || not (is_peers side k)) ≡ true → Settled side (p ∷ h) k
+    by true i q = ap (λ (b : Bool). b || not (is_peers side k)) (classified-stays side p h k i)
+    by false i q = ap (λ (b : Bool). is_classified (findings side (p ∷ h)) k || b) q ∙ or-true (is_classified (findings side (p ∷ h)) k)
+
+-- what a poll of an opening gives is the stream that it names, which is being opened
+abbrev pub GivesOpened : Side → History → ℕ → ℕ → Answer → Type 0
+GivesOpened side h k id a = hands_out k a.reply ≡ true → ((id == k) ≡ true) × (is_some (being_opened h id) ≡ true)
+
+pub gives-opened : (side : Side) (h : History) (k id : ℕ) (x : Option (Option ℕ)) → being_opened h id ≡ x → GivesOpened side h k id (first_row (opening_for side h id x))
+gives-opened side h k id None q = λ e. absurd (cc e)
+gives-opened side h k id (Some name) q =
+    (by-session P (named h name) (λ (s : ℕ). opening_rows side h id s (left s)) (λ e. absurd (cc e))
+    (λ s r. by-row P _ _ [] _ (λ i e. absurd (cc e)) (λ i. by-row P (is_refused h id (left s)) _ [] _ (λ j e. absurd (cc e))
+    (λ j. by-row P (lacks_credit h id (left s)) replies.Pending (send h id (left s)) _ (λ m e. absurd (cc e)) (λ m. by-row P true _ _ [] (λ t. ready (is_bidirectional id)) (λ t. no-row P (λ e. absurd (cc t)))))))).first
+  where
+    P : Answer → Type 0
+    P = GivesOpened side h k id
+
+    left : ℕ → List ℕ
+    left s = head_left h id (stream_header id s)
+
+    ready : (b : Bool) → hands_out k (if b then replies.BiReady id else replies.SendReady id) ≡ true → ((id == k) ≡ true) × (is_some (being_opened h id) ≡ true)
+    ready true e = (e, ap is_some q)
+    ready false e = (e, ap is_some q)
+
+-- what is being opened was begun
+pub being-begun : (h : History) (k : ℕ) → is_some (being_opened h k) ≡ true → is_some (first_of (λ (p : Pair). opened_by k p.turn p.answer.reply) h) ≡ true
+being-begun h k e = by (list_any (λ (p : Pair). opening_ends k p.turn p.answer.reply) h) e
+  where
+    by : (b : Bool) → is_some (if b then None else first_of (λ (p : Pair). opened_by k p.turn p.answer.reply) h) ≡ true → is_some (first_of (λ (p : Pair). opened_by k p.turn p.answer.reply) h) ≡ true
+    by true q = absurd (cc q)
+    by false q = q
+
+-- a reply that hands out a stream is one of four calls'
+hands : (side : Side) (h : History) → IsHistory side h → (k : ℕ) (call : Call) (r : Reply) → (next side h (turns.Call call)).reply ≡ r → fits call r ≡ true → hands_out k r ≡ true → Settled side h k
+hands side h i k (calls.AcceptUni name) (replies.Uni id) q f e =
+    let a = uni-accepted side h name id q in ap (λ (b : Bool). b || not (is_peers side k)) (ap (is_classified (findings side h)) (sym (eqb-true id k e)) ∙ admitted-classified a.0 id (findings side h) a.2.header)
+hands side h i k (calls.AcceptBi name) (replies.Bi id) q f e =
+    let a = bi-accepted side h name id q in ap (λ (b : Bool). b || not (is_peers side k)) (ap (is_classified (findings side h)) (sym (eqb-true id k e)) ∙ admitted-classified a.0 id (findings side h) a.2.header)
+hands side h i k (calls.PollOpening id) r q f e =
+    let g = (by-session (GivesOpened side h k id) (named h None) (λ (s : ℕ). opening_for side h id (being_opened h id)) (λ x. absurd (cc x)) (λ s x. record { first = gives-opened side h k id (being_opened h id) refl })).first (ap (hands_out k) q ∙ e) in
+    let n = opened-local side h i k (ap (λ (j : ℕ). is_some (first_of (λ (p : Pair). opened_by j p.turn p.answer.reply) h)) (sym (eqb-true id k g.0)) ∙ being-begun h id g.1) in
+    rw n (or-true (is_classified (findings side h) k))
+hands side h i k call (replies.Uni id) q f e = absurd (cc f)
+hands side h i k call (replies.Bi id) q f e = absurd (cc f)
+hands side h i k call (replies.SendReady id) q f e = absurd (cc f)
+hands side h i k call (replies.BiReady id) q f e = absurd (cc f)
+hands side h i k call r q f e = absurd (cc e)
+
+pub handed-out : (side : Side) (h : History) → IsHistory side h → (k : ℕ) → is_handed_out h k ≡ true → Settled side h k
+handed-out side [] i k e = absurd (cc e)
+handed-out side (p ∷ h) i k e = by (hands_out k p.answer.reply) refl e (handed-out side h i.2 k)
+  where
+    here : (turn : Turn) → hands_out k (next side h turn).reply ≡ true → Settled side h k
+    here (turns.Call call) q = hands side h i.2 k call (next side h (turns.Call call)).reply refl (fits-own side h call) q
+    here turn q = absurd (cc q)
+
+    by : (b : Bool) → hands_out k p.answer.reply ≡ b → (b || is_handed_out h k) ≡ true → (is_handed_out h k ≡ true → Settled side h k) → Settled side (p ∷ h) k
+    by true q r again = settled-stays side p h k (here p.turn (ap (λ (a : Answer). hands_out k a.reply) (sym i.1) ∙ q))
+    by false q r again = settled-stays side p h k (again r)
