@@ -15,4 +15,6 @@ pub mod Owed
 pub mod Datagrams
 pub mod HandedOut
 pub mod ReadPieces
+pub mod Phases
+pub mod Few
 pub mod Theorems

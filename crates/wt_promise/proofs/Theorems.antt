@@ -6,7 +6,7 @@ use Rattle.wt_wire.specs.declared.side.Side.{Side}
 use Rattle.wt_meaning.specs.History.{History}
 use Rattle.wt_meaning.specs.Lawful.{is_lawful}
 use Rattle.wt_meaning.specs.Meaning.{meaning, next, run}
-use Rattle.wt_promise.specs.Promise.{AllLawful, BiAccepted, CutsFreely, DatagramReceived, DatagramsInOrder, EndsRightly, GivesWhatWaits, IsHistory, NothingAfterEnd, OpenExactly, OwedGoesOut, PendingExactly, ReadsInOrder, UniAccepted}
+use Rattle.wt_promise.specs.Promise.{AllLawful, BiAccepted, CutsFreely, DatagramReceived, DatagramsInOrder, EndsRightly, FewLive, GivesWhatWaits, IsHistory, NothingAfterEnd, OpenExactly, OwedGoesOut, PendingExactly, ReadsInOrder, UniAccepted}
 use Rattle.wt_promise.proofs.Accepted.{bi-accepted, datagram-received, uni-accepted}
 use Rattle.wt_promise.proofs.Ended.{nothing-after-end}
 use Rattle.wt_promise.proofs.Lists.{cuts-freely, run_from-lawful}
@@ -17,6 +17,7 @@ use Rattle.wt_promise.proofs.Gives.{gives-what-waits}
 use Rattle.wt_promise.proofs.OpenStays.{open-exactly}
 use Rattle.wt_promise.proofs.Owed.{owed-goes-out}
 use Rattle.wt_promise.proofs.ReadPieces.{reads-in-order}
+use Rattle.wt_promise.proofs.Few.{few-live}
 use Rattle.wt_turn.specs.declared.call.Call.TheVariants as calls
 use Rattle.wt_turn.specs.declared.reply.Reply.TheVariants as replies
 use Rattle.wt_turn.specs.declared.turn.Turn.TheVariants as turns
@@ -59,3 +60,6 @@ reads_theorem = reads-in-order
 
 pub datagrams_theorem : (side : Side) (h : History) → IsHistory side h → DatagramsInOrder side h
 datagrams_theorem = datagrams-in-order
+
+pub few_theorem : (side : Side) (h : History) → IsHistory side h → FewLive side h
+few_theorem = few-live

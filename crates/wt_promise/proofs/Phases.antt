@@ -1,0 +1,351 @@
+-- The phases of a handshake: a session that a reply gives is new, and was asked for.
+use Rattle.std.specs.Prelude.{[], ◌&&◌, ◌+◌, ◌==◌, ◌∷◌, ◌||◌, ◌≡◌, Bool, List, None, Option, Some, codes, false, filter, filter_map, if◌then◌else◌, is_some, length, not, suc, true, unwrap_or, ℕ}
+use Rattle.std.specs.List.{list_any}
+use Rattle.std.specs.Option.{option_or}
+use Rattle.std.proofs.Common.{◌∙◌, ap, arith, refl, sym}
+use Rattle.std.proofs.lemmas.Bool.{eq-eqb, eqb-true}
+use Rattle.wt_meaning.specs.Findings.{first_of, settings_came}
+use Rattle.wt_meaning.specs.Handshakes.{acceptance_frame, begun_by, head_left, is_refused, lacks_credit, last_begun, next_request, poll_rows, rejection, response_to, send, was_given}
+use Rattle.wt_meaning.specs.History.{History, Pair, is_open}
+use Rattle.wt_meaning.specs.Lawful.{all_answered, begins, fails_incoming, gives_request, has_request, is_client, is_first, is_lawful, is_of_request, is_pending, is_response, is_waiting, may_call, polls}
+use Rattle.wt_meaning.specs.Meaning.{next}
+use Rattle.wt_meaning.specs.Moments.{findings}
+use Rattle.wt_meaning.specs.Rows.{first_row}
+use Rattle.wt_meaning.specs.Windows.{is_established, last_request, queued_request, request_in, requests, session_in}
+use Rattle.wt_promise.proofs.Accepted.{and-right, or-true}
+use Rattle.wt_promise.proofs.Tables.{by-row, by-value, fits, fits-own, no-row, rejects-pass}
+use Rattle.wt_promise.specs.Promise.{IsHistory}
+use Rattle.wt_turn.specs.declared.answer.Answer.{Answer}
+use Rattle.wt_turn.specs.declared.call.Call.{Call}
+use Rattle.wt_turn.specs.declared.reply.Reply.{Reply}
+use Rattle.wt_turn.specs.declared.turn.Turn.{Turn}
+use Rattle.wt_wire.specs.HeaderList.{Fields}
+use Rattle.wt_wire.specs.declared.side.Side.{Side}
+use Rattle.wt_wire.specs.declared.side.Side.TheVariants.{Client, Server}
+use Rattle.wt_turn.specs.declared.call.Call.TheVariants as calls
+use Rattle.wt_turn.specs.declared.reply.Reply.TheVariants as replies
+use Rattle.wt_turn.specs.declared.turn.Turn.TheVariants as turns
+
+-- ---- replies
+
+-- a call that is neither of a request nor polls gives no request and no session
+pub quiet-reply : (c : Call) (r : Reply) → fits c r ≡ true → polls (turns.Call c) ≡ false → is_of_request (turns.Call c) ≡ false → (gives_request r ≡ false) × (session_in r ≡ None)
+quiet-reply calls.Incoming r f p q = absurd (cc q)
+quiet-reply (calls.Accept headers) r f p q = absurd (cc p)
+quiet-reply calls.Handshake r f p q = absurd (cc p)
+quiet-reply c (replies.Request id headers) f p q = absurd (cc f)
+quiet-reply c (replies.Session id) f p q = absurd (cc f)
+quiet-reply c r f p q = (refl, refl)
+
+-- a call that polls gives no request
+pub polled-reply : (c : Call) (r : Reply) → fits c r ≡ true → polls (turns.Call c) ≡ true → gives_request r ≡ false
+polled-reply calls.Incoming r f p = absurd (cc p)
+polled-reply c (replies.Request id headers) f p = absurd (cc f)
+polled-reply c r f p = refl
+
+-- what is Pending gives no session
+pending-no-session : (r : Reply) → is_pending r ≡ true → session_in r ≡ None
+pending-no-session replies.Pending e = refl
+pending-no-session r e = absurd (cc e)
+
+pub none-request : (r : Reply) → gives_request r ≡ false → request_in r ≡ None
+none-request (replies.Request id headers) e = absurd (cc e)
+none-request r e = refl
+
+-- ---- which session a reply gives
+
+-- the session is that of the request that was given last
+abbrev pub IsLast : History → Answer → Type 0
+IsLast h a = (s : ℕ) → session_in a.reply ≡ Some s → s ≡ unwrap_or (last_request h) 0
+
+pub accept-gives-last : (side : Side) (h : History) (headers : Fields) → IsLast h (first_row (response_to side h (calls.Accept headers)))
+accept-gives-last side h headers =
+    (by-row (IsLast h) (not (is_open h)) _ [] _ (λ c s e. absurd (cc e))
+    (λ c. by-row (IsLast h) (is_refused h (unwrap_or (last_request h) 0) left) _ _ _ (λ d s e. absurd (cc e))
+    (λ d. by-row (IsLast h) (lacks_credit h (unwrap_or (last_request h) 0) left) replies.Pending _ _ (λ f s e. absurd (cc e))
+    (λ f. by-row (IsLast h) true (replies.Session (unwrap_or (last_request h) 0)) (send h (unwrap_or (last_request h) 0) left) [] (λ g s e. cc e) (λ g. no-row (IsLast h) (λ s e. absurd (cc g))))))).first
+  where
+    left : List ℕ
+    left = head_left h (unwrap_or (last_request h) 0) (acceptance_frame headers)
+
+abbrev no-session : Reply → Bool
+no-session r = not (is_some (session_in r))
+
+none-given : (h : History) (a : Answer) → no-session a.reply ≡ true → IsLast h a
+none-given h a n s e = absurd (let r : false ≡ true = sym (ap (λ (o : Option ℕ). not (is_some o)) e) ∙ n in cc r)
+
+rejection-gives-none : (side : Side) (h : History) (digits : List ℕ) → IsLast h (first_row (rejection side h digits))
+rejection-gives-none side h digits = none-given h (first_row (rejection side h digits)) (rejects-pass no-session refl refl side h digits).first
+
+pub poll-gives-last : (side : Side) (h : History) (c : Call) → is_response c ≡ true → IsLast h (first_row (poll_rows side h (Some c)))
+poll-gives-last side h (calls.Accept headers) r = accept-gives-last side h headers
+poll-gives-last side h calls.Forbidden r = rejection-gives-none side h (codes "403")
+poll-gives-last side h calls.NotFound r = rejection-gives-none side h (codes "404")
+poll-gives-last side h calls.TooManyRequests r = rejection-gives-none side h (codes "429")
+poll-gives-last side h c r = absurd (cc r)
+
+-- a server begins responses alone
+pub server-begun : (h : History) → IsHistory Server h → (c : Call) → last_begun h ≡ Some c → is_response c ≡ true
+server-begun [] i c e = absurd (cc e)
+server-begun (p ∷ h) i c e = by p.turn i.0 (begun_by p.turn) refl e (server-begun h i.2 c)
+  where
+    is-response : (d : Call) → may_call Server h d ≡ true → begins d ≡ true → is_response d ≡ true
+    is-response (calls.Connect options lookup outcome) l b = absurd (cc l)
+    is-response d l b = b
+
+    by : (turn : Turn) → is_lawful Server h turn ≡ true → (o : Option Call) → begun_by turn ≡ o → option_or o (last_begun h) ≡ Some c → (last_begun h ≡ Some c → is_response c ≡ true) → is_response c ≡ true
+    by turn l None q r again = again r
+    by (turns.Call d) l (Some b) q r again = of (begins d) refl q
+      where
+        of : (x : Bool) → begins d ≡ x → (if x then Some d else None) ≡ Some b → is_response c ≡ true
+        of true y z = let same : d ≡ c = cc (z, r) in rw (sym same) (is-response d l y)
+        of false y z = absurd (cc z)
+    by turn l (Some b) q r again = absurd (cc q)
+
+-- ---- what was given
+
+pub given-monotone : (p : Pair) (h : History) (k : ℕ) → was_given h k ≡ true → was_given (p ∷ h) k ≡ true
+given-monotone p h k e = by (requests p) refl
+  where
+    by : (o : Option ℕ) → requests p ≡ o → was_given (p ∷ h) k ≡ true
+    by None q = rw q e
+    by (Some t) q = rw (q, e) (or-true (t == k))
+
+pub last-given : (h : History) (k : ℕ) → last_request h ≡ Some k → was_given h k ≡ true
+last-given [] k e = absurd (cc e)
+last-given (p ∷ h) k e = by (requests p) refl e (last-given h k)
+  where
+    by : (o : Option ℕ) → requests p ≡ o → option_or o (last_request h) ≡ Some k → (last_request h ≡ Some k → was_given h k ≡ true) → was_given (p ∷ h) k ≡ true
+    by None q r again = rw q (again r)
+    by (Some t) q r again = let same : t ≡ k = cc r in rw (q, eq-eqb t k same) refl
+
+-- a request that is given wasn't given before
+abbrev pub NewRequest : History → Answer → Type 0
+NewRequest h a = (k : ℕ) → request_in a.reply ≡ Some k → was_given h k ≡ false
+
+first-new : (h : History) (qs : List (ℕ × Fields)) (q : ℕ × Fields) → first_of (λ (x : ℕ × Fields). if was_given h x.0 then None else Some x) qs ≡ Some q → was_given h q.0 ≡ false
+first-new h [] q e = absurd (cc e)
+first-new h (x ∷ qs) q e = by (was_given h x.0) refl e (first-new h qs q)
+  where
+    by : (b : Bool) → was_given h x.0 ≡ b → option_or (if b then None else Some x) (first_of (λ (y : ℕ × Fields). if was_given h y.0 then None else Some y) qs) ≡ Some q
+        → (first_of (λ (y : ℕ × Fields). if was_given h y.0 then None else Some y) qs ≡ Some q → was_given h q.0 ≡ false) → was_given h q.0 ≡ false
+    by true i r again = again r
+    by false i r again = let same : x ≡ q = cc r in ap (λ (y : ℕ × Fields). was_given h y.0) (sym same) ∙ i
+
+pub incoming-new : (side : Side) (h : History) → NewRequest h (next side h (turns.Call calls.Incoming))
+incoming-new side h =
+    (by-value (NewRequest h) (next_request side h) (λ (q : ℕ × Fields). replies.Request q.0 q.1) [] _ (λ q e k r. let same : q.0 ≡ k = cc r in ap (was_given h) (sym same) ∙ first (settings_came (findings side h)) q e)
+    (λ n. by-row (NewRequest h) (not (is_open h)) _ [] [] (λ c k e. absurd (cc e)) (λ c. no-row (NewRequest h) (λ k e. absurd (cc e))))).first
+  where
+    first : (b : Bool) (q : ℕ × Fields) → (if b then first_of (λ (x : ℕ × Fields). if was_given h x.0 then None else Some x) (filter_map queued_request (findings side h)) else None) ≡ Some q → was_given h q.0 ≡ false
+    first true q e = first-new h (filter_map queued_request (findings side h)) q e
+    first false q e = absurd (cc e)
+
+-- ---- a server's phases
+
+abbrev pub bit : Bool → ℕ
+bit true = 1
+bit false = 0
+
+abbrev pub given_count : History → ℕ
+given_count h = length (filter (λ (p : Pair). gives_request p.answer.reply) h)
+
+abbrev pub answered_count : History → ℕ
+answered_count h = length (filter (λ (p : Pair). polls p.turn && not (is_pending p.answer.reply)) h)
+
+pub record Phase (h : History) : Type 0 where
+  pub count : given_count h ≡ answered_count h + (bit (has_request h) + bit (is_waiting h))
+  pub apart : has_request h ≡ true → is_waiting h ≡ false
+  pub known : (s : ℕ) → is_established h s ≡ true → was_given h s ≡ true
+  pub asked : (has_request h || is_waiting h) ≡ true → (r : ℕ) × (last_request h ≡ Some r) × (is_established h r ≡ false)
+
+-- nothing is established where the reply gives no session
+pub same-established : (p : Pair) (h : History) (s : ℕ) → session_in p.answer.reply ≡ None → is_established (p ∷ h) s ≡ is_established h s
+same-established p h s e = rw e refl
+
+pub same-last : (p : Pair) (h : History) → gives_request p.answer.reply ≡ false → last_request (p ∷ h) ≡ last_request h
+same-last p h e = rw (none-request p.answer.reply e) refl
+
+quiet-phase : (p : Pair) (h : History) → polls p.turn ≡ false → is_of_request p.turn ≡ false → gives_request p.answer.reply ≡ false → session_in p.answer.reply ≡ None → Phase h → Phase (p ∷ h)
+quiet-phase p h a b c d f = record {
+  count = rw (a, b, c) f.count;
+  apart = rw (a, b) f.apart;
+  known = λ s e. given-monotone p h s (f.known s (sym (same-established p h s d) ∙ e));
+  asked = λ e. let r = f.asked (let q = rw (a, b) at e in q) in (r.0, same-last p h c ∙ r.1, same-established p h r.0 d ∙ r.2);
+}
+
+-- a poll of a request that was asked for
+polled-phase : (p : Pair) (h : History) → polls p.turn ≡ true → has_request (p ∷ h) ≡ false → gives_request p.answer.reply ≡ false → IsLast h p.answer → (has_request h || is_waiting h) ≡ true → Phase h → Phase (p ∷ h)
+polled-phase p h a b c last w f = record {
+  count = rw (b, c, a) (counted (has_request h) (is_waiting h) (is_pending p.answer.reply) f.apart w f.count);
+  apart = λ e. absurd (let r : true ≡ false = sym e ∙ b in cc r);
+  known = known;
+  asked = asked;
+}
+  where
+    counted : (q w n : Bool) → (q ≡ true → w ≡ false) → (q || w) ≡ true → given_count h ≡ answered_count h + (bit q + bit w)
+        → given_count h ≡ length (if not n then p ∷ filter (λ (x : Pair). polls x.turn && not (is_pending x.answer.reply)) h else filter (λ (x : Pair). polls x.turn && not (is_pending x.answer.reply)) h) + (0 + bit n)
+    counted true true n x y z = absurd (let r = x refl in cc r)
+    counted true false true x y z = z
+    counted true false false x y z = z ∙ omega arith
+    counted false true true x y z = z
+    counted false true false x y z = z ∙ omega arith
+    counted false false n x y z = absurd (cc y)
+
+    r : (k : ℕ) × (last_request h ≡ Some k) × (is_established h k ≡ false)
+    r = f.asked w
+
+    known : (s : ℕ) → is_established (p ∷ h) s ≡ true → was_given (p ∷ h) s ≡ true
+    known s e = by (session_in p.answer.reply) refl
+      where
+        by : (o : Option ℕ) → session_in p.answer.reply ≡ o → was_given (p ∷ h) s ≡ true
+        by None q = given-monotone p h s (f.known s (sym (same-established p h s q) ∙ e))
+        by (Some t) q = of (t == s) refl
+          where
+            of : (b : Bool) → (t == s) ≡ b → was_given (p ∷ h) s ≡ true
+            of true i = given-monotone p h s (last-given h s (r.1 ∙ ap (λ (n : ℕ). Some n) (sym (ap (λ (o : Option ℕ). unwrap_or o 0) r.1) ∙ sym (last t q) ∙ eqb-true t s i)))
+            of false i = given-monotone p h s (f.known s (let m = rw (q, i) at e in m))
+
+    asked : (has_request (p ∷ h) || is_waiting (p ∷ h)) ≡ true → (k : ℕ) × (last_request (p ∷ h) ≡ Some k) × (is_established (p ∷ h) k ≡ false)
+    asked e = let n : is_pending p.answer.reply ≡ true = let m = rw (b, a) at e in m in
+        (r.0, same-last p h c ∙ r.1, same-established p h r.0 (pending-no-session p.answer.reply n) ∙ r.2)
+
+-- a server asks for a request where none is left to answer
+pub idle-of : (h : History) → Phase h → all_answered h ≡ true → (has_request h ≡ false) × (is_waiting h ≡ false)
+idle-of h f all = nothing (has_request h) (is_waiting h) f.count (eqb-true (given_count h) (answered_count h) all)
+  where
+    nothing : (q w : Bool) → given_count h ≡ answered_count h + (bit q + bit w) → given_count h ≡ answered_count h → (q ≡ false) × (w ≡ false)
+    nothing true w e g = absurd (omega (arith, e, g))
+    nothing false true e g = absurd (omega (arith, e, g))
+    nothing false false e g = (refl, refl)
+
+incoming-phase : (p : Pair) (h : History) → polls p.turn ≡ false → is_of_request p.turn ≡ true → session_in p.answer.reply ≡ None → NewRequest h p.answer → all_answered h ≡ true → Phase h → Phase (p ∷ h)
+incoming-phase p h a b d new all f = by p.answer.reply refl
+  where
+    idle : (has_request h ≡ false) × (is_waiting h ≡ false)
+    idle = idle-of h f all
+
+    known : (s : ℕ) → is_established (p ∷ h) s ≡ true → was_given (p ∷ h) s ≡ true
+    known s e = given-monotone p h s (f.known s (sym (same-established p h s d) ∙ e))
+
+    fresh : (k : ℕ) → was_given h k ≡ false → is_established h k ≡ false
+    fresh k n = of (is_established h k) refl
+      where
+        of : (x : Bool) → is_established h k ≡ x → x ≡ false
+        of true e = absurd (let r : true ≡ false = sym (f.known k e) ∙ n in cc r)
+        of false e = refl
+
+    by : (r : Reply) → p.answer.reply ≡ r → Phase (p ∷ h)
+    by (replies.Request id headers) e = record {
+      count = rw (e, a, b, idle.1) (ap suc (eqb-true (given_count h) (answered_count h) all) ∙ omega arith);
+      apart = λ x. rw a idle.1;
+      known = known;
+      asked = λ x. (id, rw e refl, same-established p h id d ∙ fresh id (new id (ap request_in e)));
+    }
+    by r e = record {
+      count = rw (e, a, b, idle.1) (eqb-true (given_count h) (answered_count h) all ∙ omega arith);
+      apart = λ x. rw a idle.1;
+      known = known;
+      asked = λ x. absurd (let m = rw (e, a, b, idle.1) at x in cc m);
+    }
+
+phase-after : (p : Pair) (h : History) → IsHistory Server (p ∷ h) → Phase h → Phase (p ∷ h)
+phase-after p h i before = by p.turn refl
+  where
+    reply-of : (turn : Turn) → p.turn ≡ turn → p.answer ≡ next Server h turn
+    reply-of turn e = i.1 ∙ ap (next Server h) e
+
+    lawful : (turn : Turn) → p.turn ≡ turn → is_lawful Server h turn ≡ true
+    lawful turn e = ap (is_lawful Server h) (sym e) ∙ i.0
+
+    fit : (c : Call) → p.turn ≡ turns.Call c → fits c p.answer.reply ≡ true
+    fit c e = ap (λ (a : Answer). fits c a.reply) (reply-of (turns.Call c) e) ∙ fits-own Server h c
+
+    response : (c : Call) → p.turn ≡ turns.Call c → is_response c ≡ true → polls (turns.Call c) ≡ true → is_of_request (turns.Call c) ≡ true → has_request h ≡ true → IsLast h (next Server h (turns.Call c)) → Phase (p ∷ h)
+    response c e r a b q last =
+        let n = polled-reply c p.answer.reply (fit c e) a in
+        polled-phase p h (ap polls e ∙ a) (ap (λ (x : Bool). if x then gives_request p.answer.reply else has_request h) (ap is_of_request e ∙ b) ∙ n) n (rw (reply-of (turns.Call c) e) last) (rw q refl) before
+
+    by : (turn : Turn) → p.turn ≡ turn → Phase (p ∷ h)
+    by (turns.Call calls.Incoming) e =
+        incoming-phase p h (ap polls e) (ap is_of_request e) (none p.answer.reply (fit calls.Incoming e)) (rw (reply-of (turns.Call calls.Incoming) e) (incoming-new Server h)) (last-part (lawful (turns.Call calls.Incoming) e)) before
+      where
+        none : (r : Reply) → fits calls.Incoming r ≡ true → session_in r ≡ None
+        none (replies.Session id) f = absurd (cc f)
+        none r f = refl
+
+        last-part : may_call Server h calls.Incoming ≡ true → all_answered h ≡ true
+        last-part l = and-right (not (is_client Server) && not (is_first h) && not (list_any (λ (x : Pair). fails_incoming x.turn x.answer.reply) h)) (all_answered h) l
+    by (turns.Call (calls.Accept headers)) e = response (calls.Accept headers) e refl refl refl (and-right (not (is_first h)) (has_request h) (lawful (turns.Call (calls.Accept headers)) e)) (accept-gives-last Server h headers)
+    by (turns.Call calls.Forbidden) e = response calls.Forbidden e refl refl refl (and-right (not (is_first h)) (has_request h) (lawful (turns.Call calls.Forbidden) e)) (rejection-gives-none Server h (codes "403"))
+    by (turns.Call calls.NotFound) e = response calls.NotFound e refl refl refl (and-right (not (is_first h)) (has_request h) (lawful (turns.Call calls.NotFound) e)) (rejection-gives-none Server h (codes "404"))
+    by (turns.Call calls.TooManyRequests) e =
+        response calls.TooManyRequests e refl refl refl (and-right (not (is_first h)) (has_request h) (lawful (turns.Call calls.TooManyRequests) e)) (rejection-gives-none Server h (codes "429"))
+    by (turns.Call calls.Handshake) e =
+        let w : is_waiting h ≡ true = lawful (turns.Call calls.Handshake) e in let q = unasked (has_request h) before.apart w in let n = polled-reply calls.Handshake p.answer.reply (fit calls.Handshake e) refl in
+        polled-phase p h (ap polls e) (ap (λ (x : Bool). if x then gives_request p.answer.reply else has_request h) (ap is_of_request e) ∙ q) n (rw (reply-of (turns.Call calls.Handshake) e) (polled (last_begun h) refl)) (rw w (or-true (has_request h))) before
+      where
+        unasked : (b : Bool) → (b ≡ true → is_waiting h ≡ false) → is_waiting h ≡ true → b ≡ false
+        unasked true f w = absurd (let r : true ≡ false = sym w ∙ f refl in cc r)
+        unasked false f w = refl
+
+        polled : (o : Option Call) → last_begun h ≡ o → IsLast h (first_row (poll_rows Server h o))
+        polled None q = λ s x. absurd (cc x)
+        polled (Some c) q = poll-gives-last Server h c (server-begun h i.2 c q)
+    by (turns.Call (calls.Connect options lookup outcome)) e = absurd (let l = lawful (turns.Call (calls.Connect options lookup outcome)) e in cc l)
+    by (turns.Call c) e = let q = quiet-reply c p.answer.reply (fit c e) refl refl in quiet-phase p h (ap polls e) (ap is_of_request e) q.0 q.1 before
+    by turn e = quiet-phase p h (ap polls e) (ap is_of_request e) (ap (λ (a : Answer). gives_request a.reply) (reply-of turn e)) (ap (λ (a : Answer). session_in a.reply) (reply-of turn e)) before
+
+pub phase : (h : History) → IsHistory Server h → Phase h
+phase [] i = record { count = refl; apart = λ e. refl; known = λ s e. absurd (cc e); asked = λ e. absurd (cc e) }
+phase (p ∷ h) i = phase-after p h i (phase h i.2)
+
+-- ---- a client establishes one session
+
+waits-after : (p : Pair) (h : History) → IsHistory Client (p ∷ h) → is_waiting (p ∷ h) ≡ true → (s : ℕ) → (is_waiting h ≡ true → is_established h s ≡ false) → is_established (p ∷ h) s ≡ false
+waits-after p h i w s again = by p.turn refl
+  where
+    reply-of : (turn : Turn) → p.turn ≡ turn → p.answer ≡ next Client h turn
+    reply-of turn e = i.1 ∙ ap (next Client h) e
+
+    lawful : (turn : Turn) → p.turn ≡ turn → is_lawful Client h turn ≡ true
+    lawful turn e = ap (is_lawful Client h) (sym e) ∙ i.0
+
+    fit : (c : Call) → p.turn ≡ turns.Call c → fits c p.answer.reply ≡ true
+    fit c e = ap (λ (a : Answer). fits c a.reply) (reply-of (turns.Call c) e) ∙ fits-own Client h c
+
+    waited : polls p.turn ≡ false → is_waiting h ≡ true
+    waited a = let r = rw a at w in r
+
+    response : (c : Call) → may_call Client h c ≡ true → is_response c ≡ true → ⊥
+    response (calls.Accept headers) l r = absurd (let m = and-right (not (is_first h)) false l in cc m)
+    response calls.Forbidden l r = absurd (let m = and-right (not (is_first h)) false l in cc m)
+    response calls.NotFound l r = absurd (let m = and-right (not (is_first h)) false l in cc m)
+    response calls.TooManyRequests l r = absurd (let m = and-right (not (is_first h)) false l in cc m)
+    response c l r = absurd (cc r)
+
+    by : (turn : Turn) → p.turn ≡ turn → is_established (p ∷ h) s ≡ false
+    by (turns.Call (calls.Connect options lookup outcome)) e =
+        same-established p h s (none p.answer.reply (fit (calls.Connect options lookup outcome) e)) ∙ first h (lawful (turns.Call (calls.Connect options lookup outcome)) e)
+      where
+        none : (r : Reply) → fits (calls.Connect options lookup outcome) r ≡ true → session_in r ≡ None
+        none (replies.Session id) f = absurd (cc f)
+        none r f = refl
+
+        first : (x : History) → is_first x ≡ true → is_established x s ≡ false
+        first [] q = refl
+        first (y ∷ x) q = absurd (cc q)
+    by (turns.Call calls.Handshake) e =
+        same-established p h s (pending-no-session p.answer.reply (let r = rw e at w in r)) ∙ again (lawful (turns.Call calls.Handshake) e)
+    by (turns.Call (calls.Accept headers)) e = absurd (response (calls.Accept headers) (lawful (turns.Call (calls.Accept headers)) e) refl)
+    by (turns.Call calls.Forbidden) e = absurd (response calls.Forbidden (lawful (turns.Call calls.Forbidden) e) refl)
+    by (turns.Call calls.NotFound) e = absurd (response calls.NotFound (lawful (turns.Call calls.NotFound) e) refl)
+    by (turns.Call calls.TooManyRequests) e = absurd (response calls.TooManyRequests (lawful (turns.Call calls.TooManyRequests) e) refl)
+    by (turns.Call calls.Incoming) e = absurd (let l = lawful (turns.Call calls.Incoming) e in cc l)
+    by (turns.Call c) e = let q = quiet-reply c p.answer.reply (fit c e) refl refl in same-established p h s q.1 ∙ again (waited (ap polls e))
+    by turn e = same-established p h s (ap (λ (a : Answer). session_in a.reply) (reply-of turn e)) ∙ again (waited (ap polls e))
+
+-- while a client's connect waits, none is established
+pub client-waits : (h : History) → IsHistory Client h → is_waiting h ≡ true → (s : ℕ) → is_established h s ≡ false
+client-waits [] i w s = refl
+client-waits (p ∷ h) i w s = waits-after p h i w s (λ x. client-waits h i.2 x s)
