@@ -17,4 +17,5 @@ pub mod HandedOut
 pub mod ReadPieces
 pub mod Phases
 pub mod Few
+pub mod ResultKept
 pub mod Theorems

@@ -6,7 +6,7 @@ use Rattle.wt_wire.specs.declared.side.Side.{Side}
 use Rattle.wt_meaning.specs.History.{History}
 use Rattle.wt_meaning.specs.Lawful.{is_lawful}
 use Rattle.wt_meaning.specs.Meaning.{meaning, next, run}
-use Rattle.wt_promise.specs.Promise.{AllLawful, BiAccepted, CutsFreely, DatagramReceived, DatagramsInOrder, EndsRightly, FewLive, GivesWhatWaits, IsHistory, NothingAfterEnd, OpenExactly, OwedGoesOut, PendingExactly, ReadsInOrder, UniAccepted}
+use Rattle.wt_promise.specs.Promise.{AllLawful, BiAccepted, CutsFreely, DatagramReceived, DatagramsInOrder, EndsRightly, FewLive, GivesWhatWaits, IsHistory, NothingAfterEnd, OpenExactly, OwedGoesOut, PendingExactly, ReadsInOrder, ResultStays, UniAccepted}
 use Rattle.wt_promise.proofs.Accepted.{bi-accepted, datagram-received, uni-accepted}
 use Rattle.wt_promise.proofs.Ended.{nothing-after-end}
 use Rattle.wt_promise.proofs.Lists.{cuts-freely, run_from-lawful}
@@ -18,6 +18,7 @@ use Rattle.wt_promise.proofs.OpenStays.{open-exactly}
 use Rattle.wt_promise.proofs.Owed.{owed-goes-out}
 use Rattle.wt_promise.proofs.ReadPieces.{reads-in-order}
 use Rattle.wt_promise.proofs.Few.{few-live}
+use Rattle.wt_promise.proofs.ResultKept.{result-stays}
 use Rattle.wt_turn.specs.declared.call.Call.TheVariants as calls
 use Rattle.wt_turn.specs.declared.reply.Reply.TheVariants as replies
 use Rattle.wt_turn.specs.declared.turn.Turn.TheVariants as turns
@@ -63,3 +64,6 @@ datagrams_theorem = datagrams-in-order
 
 pub few_theorem : (side : Side) (h : History) → IsHistory side h → FewLive side h
 few_theorem = few-live
+
+pub result_theorem : (side : Side) (h : History) (turn : Turn) → IsHistory side h → is_lawful side h turn ≡ true → ResultStays side h turn (next side h turn)
+result_theorem = result-stays

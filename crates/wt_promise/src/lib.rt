@@ -6,7 +6,7 @@ ghost use Rattle.std.specs.Prelude.{◌≡◌, ℕ, List, Option, [], true};
 ghost use Rattle.wt_meaning.specs.History.{History};
 ghost use Rattle.wt_meaning.specs.Lawful.{is_lawful};
 ghost use Rattle.wt_meaning.specs.Meaning.{meaning, next, run};
-ghost use Rattle.wt_promise.specs.Promise.{AllLawful, BiAccepted, CutsFreely, DatagramReceived, DatagramsInOrder, EndsRightly, FewLive, GivesWhatWaits, IsHistory, NothingAfterEnd, OpenExactly, OwedGoesOut, PendingExactly, ReadsInOrder, UniAccepted};
+ghost use Rattle.wt_promise.specs.Promise.{AllLawful, BiAccepted, CutsFreely, DatagramReceived, DatagramsInOrder, EndsRightly, FewLive, GivesWhatWaits, IsHistory, NothingAfterEnd, OpenExactly, OwedGoesOut, PendingExactly, ReadsInOrder, ResultStays, UniAccepted};
 ghost use Rattle.wt_turn.specs.declared.call.Call.{Call};
 ghost use Rattle.wt_turn.specs.declared.turn.Turn.{Turn};
 ghost use Rattle.wt_turn.specs.declared.call.Call.TheVariants as calls;
@@ -75,4 +75,9 @@ pub fn what_is_received_is_in_order()
 /// At most 4 sessions live.
 pub fn few_sessions_live()
     ensures few { (side : Side) (h : History) → IsHistory side h → FewLive side h }
+{}
+
+/// How a session ended stays so, from its own end or the connection's on.
+pub fn results_stay()
+    ensures result { (side : Side) (h : History) (turn : Turn) → IsHistory side h → is_lawful side h turn ≡ true → ResultStays side h turn (next side h turn) }
 {}
