@@ -94,7 +94,7 @@ pub none-sent : (test : Action → Bool) (k : ℕ) (bytes : List ℕ) → ((p : 
 none-sent test k [] e = refl
 none-sent test k (b ∷ bytes) e = rw (e (b ∷ bytes)) refl
 
-none-control : (test : Action → Bool) (side : Side) (h : History) → test (actions.Opened (local_uni side)) ≡ false → ((p : List ℕ) → test (actions.Send (local_uni side) p) ≡ false) → list_any test (control_actions side h) ≡ false
+pub none-control : (test : Action → Bool) (side : Side) (h : History) → test (actions.Opened (local_uni side)) ≡ false → ((p : List ℕ) → test (actions.Send (local_uni side) p) ≡ false) → list_any test (control_actions side h) ≡ false
 none-control test side h o s = by (nat_le 1 (unis_allowed (events h)))
   where
     by : (b : Bool) → list_any test (if b then action_if (local_count (actions_out h) (local_uni side) == 0) (actions.Opened (local_uni side))

@@ -6,7 +6,7 @@ ghost use Rattle.std.specs.Prelude.{◌≡◌, ℕ, List, Option, [], true};
 ghost use Rattle.wt_meaning.specs.History.{History};
 ghost use Rattle.wt_meaning.specs.Lawful.{is_lawful};
 ghost use Rattle.wt_meaning.specs.Meaning.{meaning, next, run};
-ghost use Rattle.wt_promise.specs.Promise.{AllLawful, BiAccepted, CutsFreely, DatagramReceived, DatagramsInOrder, EndsRightly, FewLive, GivesWhatWaits, IsHistory, NothingAfterEnd, OpenExactly, OwedGoesOut, PendingExactly, ReadsInOrder, ResultStays, UniAccepted};
+ghost use Rattle.wt_promise.specs.Promise.{AllLawful, BiAccepted, CutsFreely, DatagramReceived, DatagramsInOrder, EndsRightly, FewLive, GivesWhatWaits, IsHistory, NothingAfterEnd, OpenExactly, OwedGoesOut, PendingExactly, ReadsInOrder, ResultStays, SendsInOrder, SettingsGoOut, SilentAfterReset, UniAccepted};
 ghost use Rattle.wt_turn.specs.declared.call.Call.{Call};
 ghost use Rattle.wt_turn.specs.declared.turn.Turn.{Turn};
 ghost use Rattle.wt_turn.specs.declared.call.Call.TheVariants as calls;
@@ -80,4 +80,19 @@ pub fn few_sessions_live()
 /// How a session ended stays so, from its own end or the connection's on.
 pub fn results_stay()
     ensures result { (side : Side) (h : History) (turn : Turn) → IsHistory side h → is_lawful side h turn ≡ true → ResultStays side h turn (next side h turn) }
+{}
+
+/// While the connection is open and the peer allows a unidirectional stream, this end's control stream is open and has as much of its bytes as credit allows.
+pub fn settings_go_out()
+    ensures settings { (side : Side) (h : History) → IsHistory side h → SettingsGoOut side h }
+{}
+
+/// What went out on a stream is a prefix of its head and of what writes accepted, and all of it once the head is out.
+pub fn sends_are_in_order()
+    ensures order { (side : Side) (h : History) → IsHistory side h → (k : ℕ) → SendsInOrder side h k }
+{}
+
+/// Nothing goes out on a stream after its reset.
+pub fn nothing_goes_out_after_a_reset()
+    ensures silent { (side : Side) (h : History) (turn : Turn) → IsHistory side h → is_lawful side h turn ≡ true → SilentAfterReset h (next side h turn) }
 {}
