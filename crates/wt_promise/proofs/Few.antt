@@ -178,7 +178,7 @@ queue-stays side p h k e =
     ∙ ap (λ (b : Bool). b || has (filter_map queued_request (news side p h)) k) e
 
 -- only an Incoming is answered with a request
-given-by-incoming : (c : Call) (id : ℕ) (headers : Fields) → fits c (replies.Request id headers) ≡ true → c ≡ calls.Incoming
+pub given-by-incoming : (c : Call) (id : ℕ) (headers : Fields) → fits c (replies.Request id headers) ≡ true → c ≡ calls.Incoming
 given-by-incoming calls.Incoming id headers f = refl
 given-by-incoming c id headers f = absurd (cc f)
 

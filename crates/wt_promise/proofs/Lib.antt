@@ -38,4 +38,5 @@ pub mod OwnCalls
 pub mod MomentActs
 pub mod WasReset
 pub mod Silent
+pub mod Established
 pub mod Theorems
