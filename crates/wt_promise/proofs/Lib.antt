@@ -39,4 +39,7 @@ pub mod MomentActs
 pub mod WasReset
 pub mod Silent
 pub mod Established
+pub mod GoneSends
+pub mod GoneByCall
+pub mod GoneTold
 pub mod Theorems

@@ -6,7 +6,7 @@ use Rattle.wt_wire.specs.declared.side.Side.{Side}
 use Rattle.wt_meaning.specs.History.{History}
 use Rattle.wt_meaning.specs.Lawful.{is_lawful}
 use Rattle.wt_meaning.specs.Meaning.{meaning, next, run}
-use Rattle.wt_promise.specs.Promise.{AllLawful, BiAccepted, CutsFreely, DatagramReceived, DatagramsInOrder, EndsRightly, EstablishedRightly, FewLive, GivesWhatWaits, IsHistory, NothingAfterEnd, OpenExactly, OwedGoesOut, PendingExactly, ReadsInOrder, ResultStays, SendsInOrder, SettingsGoOut, SilentAfterReset, UniAccepted}
+use Rattle.wt_promise.specs.Promise.{AllLawful, BiAccepted, CutsFreely, DatagramReceived, DatagramsInOrder, EndsRightly, EstablishedRightly, FewLive, GivesWhatWaits, GoneIsTold, IsHistory, NothingAfterEnd, OpenExactly, OwedGoesOut, PendingExactly, ReadsInOrder, ResultStays, SendsInOrder, SettingsGoOut, SilentAfterReset, UniAccepted}
 use Rattle.wt_promise.proofs.Accepted.{bi-accepted, datagram-received, uni-accepted}
 use Rattle.wt_promise.proofs.Ended.{nothing-after-end}
 use Rattle.wt_promise.proofs.Lists.{cuts-freely, run_from-lawful}
@@ -23,6 +23,7 @@ use Rattle.wt_promise.proofs.SettingsOut.{settings-go-out}
 use Rattle.wt_promise.proofs.InOrder.{sends-in-order}
 use Rattle.wt_promise.proofs.Silent.{silent-after-reset}
 use Rattle.wt_promise.proofs.Established.{established-rightly}
+use Rattle.wt_promise.proofs.GoneTold.{gone-told}
 use Rattle.wt_turn.specs.declared.call.Call.TheVariants as calls
 use Rattle.wt_turn.specs.declared.reply.Reply.TheVariants as replies
 use Rattle.wt_turn.specs.declared.turn.Turn.TheVariants as turns
@@ -83,3 +84,6 @@ silent_theorem = silent-after-reset
 
 pub established_theorem : (side : Side) (h : History) (turn : Turn) → IsHistory side h → is_lawful side h turn ≡ true → EstablishedRightly side h turn (next side h turn)
 established_theorem = established-rightly
+
+pub gone_theorem : (side : Side) (h : History) (turn : Turn) → GoneIsTold side h turn (next side h turn)
+gone_theorem = gone-told

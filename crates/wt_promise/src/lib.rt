@@ -6,7 +6,7 @@ ghost use Rattle.std.specs.Prelude.{◌≡◌, ℕ, List, Option, [], true};
 ghost use Rattle.wt_meaning.specs.History.{History};
 ghost use Rattle.wt_meaning.specs.Lawful.{is_lawful};
 ghost use Rattle.wt_meaning.specs.Meaning.{meaning, next, run};
-ghost use Rattle.wt_promise.specs.Promise.{AllLawful, BiAccepted, CutsFreely, DatagramReceived, DatagramsInOrder, EndsRightly, EstablishedRightly, FewLive, GivesWhatWaits, IsHistory, NothingAfterEnd, OpenExactly, OwedGoesOut, PendingExactly, ReadsInOrder, ResultStays, SendsInOrder, SettingsGoOut, SilentAfterReset, UniAccepted};
+ghost use Rattle.wt_promise.specs.Promise.{AllLawful, BiAccepted, CutsFreely, DatagramReceived, DatagramsInOrder, EndsRightly, EstablishedRightly, FewLive, GivesWhatWaits, GoneIsTold, IsHistory, NothingAfterEnd, OpenExactly, OwedGoesOut, PendingExactly, ReadsInOrder, ResultStays, SendsInOrder, SettingsGoOut, SilentAfterReset, UniAccepted};
 ghost use Rattle.wt_turn.specs.declared.call.Call.{Call};
 ghost use Rattle.wt_turn.specs.declared.turn.Turn.{Turn};
 ghost use Rattle.wt_turn.specs.declared.call.Call.TheVariants as calls;
@@ -100,4 +100,9 @@ pub fn nothing_goes_out_after_a_reset()
 /// A session is established on an open connection, once the peer's SETTINGS and a CONNECT or a 2xx came and the whole frame of its request or response is out, and only once.
 pub fn sessions_are_established_rightly()
     ensures established { (side : Side) (h : History) (turn : Turn) → IsHistory side h → is_lawful side h turn ≡ true → EstablishedRightly side h turn (next side h turn) }
+{}
+
+/// Where a session becomes gone, each of its streams that still runs is told in the same answer.
+pub fn streams_of_a_gone_session_are_told()
+    ensures told { (side : Side) (h : History) (turn : Turn) → GoneIsTold side h turn (next side h turn) }
 {}

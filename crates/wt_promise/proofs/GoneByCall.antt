@@ -1,0 +1,119 @@
+-- A session that a call makes gone: what goes out for its streams is in the call's own actions.
+use Rattle.std.specs.Prelude.{[], ◌||◌, ◌≡◌, Bool, List, None, Option, Some, codes, false, if◌then◌else◌, is_some, not, true, unwrap_or, ℕ}
+use Rattle.std.specs.List.{list_any}
+use Rattle.std.proofs.Common.{◌∙◌, ap, refl, subst, sym}
+use Rattle.url.specs.Parser.{parse_url}
+use Rattle.wt_meaning.specs.Calls.{rows_of}
+use Rattle.wt_meaning.specs.Handshakes.{connect_on, head_left, is_refused, lacks_credit, last_begun, poll_rows, rejection, response_to}
+use Rattle.wt_meaning.specs.History.{History, events, is_open, was_finished}
+use Rattle.wt_meaning.specs.Meaning.{own_answer}
+use Rattle.wt_meaning.specs.Moments.{findings}
+use Rattle.wt_meaning.specs.Rows.{first_row}
+use Rattle.wt_meaning.specs.Sends.{session_finish, session_gone_actions}
+use Rattle.wt_meaning.specs.Targets.{target_of}
+use Rattle.wt_meaning.specs.Windows.{gone_in, is_gone, is_number, last_request, named}
+use Rattle.wt_message.specs.FixedBytes.{response_bytes}
+use Rattle.wt_promise.proofs.Owed.{has-left, has-right}
+use Rattle.wt_promise.proofs.Stays.{number-of}
+use Rattle.wt_promise.proofs.Tables.{accepts-pass, by-row, connect-passes, fits, fits-own, is_rejected, no-row}
+use Rattle.wt_promise.proofs.Waiting.{named-established}
+use Rattle.wt_seam_spec.specs.Reports.{is_acknowledged, stop_of}
+use Rattle.wt_turn.specs.declared.action.Action.{Action}
+use Rattle.wt_turn.specs.declared.answer.Answer.{Answer}
+use Rattle.wt_turn.specs.declared.call.Call.{Call}
+use Rattle.wt_turn.specs.declared.reply.Reply.{Reply}
+use Rattle.wt_turn.specs.declared.turn.Turn.{Turn}
+use Rattle.wt_wire.specs.declared.side.Side.{Side}
+use Rattle.wt_turn.specs.declared.call.Call.TheVariants as calls
+use Rattle.wt_turn.specs.declared.reply.Reply.TheVariants as replies
+use Rattle.wt_turn.specs.declared.turn.Turn.TheVariants as turns
+
+abbrev Tells : Side → History → ℕ → (Action → Bool) → Answer → Type 0
+Tells side h s test a = is_rejected a.reply ≡ true → last_request h ≡ Some s → list_any test (session_gone_actions side h (findings side h) s) ≡ true → list_any test a.actions ≡ true
+
+rejection-tells : (test : Action → Bool) (side : Side) (h : History) (s : ℕ) (digits : List ℕ) → is_open h ≡ true → Tells side h s test (first_row (rejection side h digits))
+rejection-tells test side h s digits o =
+    (by-row P (not (is_open h)) replies.Rejected [] _ (λ c. absurd (let r = rw o at c in cc r))
+    (λ c. by-row P (is_refused h r left) replies.Rejected _ _ (λ d q l t. has-left test (session_gone_actions side h (findings side h) r) _ (mine l t))
+    (λ d. by-row P (lacks_credit h r left) replies.Pending _ _ (λ e q. absurd (cc q))
+    (λ e. by-row P (not (was_finished h r)) replies.Pending _ _ (λ f q. absurd (cc q))
+    (λ f. by-row P (is_some (stop_of (events h) r) || is_acknowledged (events h) r) replies.Rejected _ [] (λ g q l t. has-left test (session_gone_actions side h (findings side h) r) _ (mine l t)) (λ g. no-row P (λ q. absurd (cc q)))))))).first
+  where
+    P : Answer → Type 0
+    P = Tells side h s test
+
+    r : ℕ
+    r = unwrap_or (last_request h) 0
+
+    left : List ℕ
+    left = head_left h r (response_bytes digits)
+
+    mine : last_request h ≡ Some s → list_any test (session_gone_actions side h (findings side h) s) ≡ true → list_any test (session_gone_actions side h (findings side h) r) ≡ true
+    mine l t = ap (λ (x : Option ℕ). list_any test (session_gone_actions side h (findings side h) (unwrap_or x 0))) l ∙ t
+
+-- a reply that isn't Rejected tells nothing
+not-rejected : (test : Action → Bool) (side : Side) (h : History) (s : ℕ) (a : Answer) → not (is_rejected a.reply) ≡ true → Tells side h s test a
+not-rejected test side h s a n q = absurd (let r = rw q at n in cc r)
+
+abbrev spared : Reply → Bool
+spared r = not (is_rejected r)
+
+polls-tell : (test : Action → Bool) (side : Side) (h : History) (s : ℕ) (begun : Option Call) → is_open h ≡ true → Tells side h s test (first_row (poll_rows side h begun))
+polls-tell test side h s None o = λ q. absurd (cc q)
+polls-tell test side h s (Some (calls.Connect options lookup outcome)) o =
+    not-rejected test side h s (first_row (connect_on side h (target_of (parse_url None options.0) options.1 lookup outcome))) (connect-passes spared refl (λ e. refl) (λ n. refl) side h (target_of (parse_url None options.0) options.1 lookup outcome)).first
+polls-tell test side h s (Some (calls.Accept headers)) o = not-rejected test side h s (first_row (response_to side h (calls.Accept headers))) (accepts-pass spared refl (λ e. refl) (λ n. refl) side h headers).first
+polls-tell test side h s (Some calls.Forbidden) o = rejection-tells test side h s (codes "403") o
+polls-tell test side h s (Some calls.NotFound) o = rejection-tells test side h s (codes "404") o
+polls-tell test side h s (Some calls.TooManyRequests) o = rejection-tells test side h s (codes "429") o
+polls-tell test side h s (Some c) o = λ q. absurd (cc q)
+
+-- the call of a reply that rejects
+data RejectedCall (c : Call) : Type 0 where
+  ByForbidden : c ≡ calls.Forbidden → RejectedCall c
+  ByNotFound : c ≡ calls.NotFound → RejectedCall c
+  ByTooMany : c ≡ calls.TooManyRequests → RejectedCall c
+  ByPoll : c ≡ calls.Handshake → RejectedCall c
+
+of-rejected : (c : Call) → fits c replies.Rejected ≡ true → RejectedCall c
+of-rejected calls.Forbidden f = ByForbidden refl
+of-rejected calls.NotFound f = ByNotFound refl
+of-rejected calls.TooManyRequests f = ByTooMany refl
+of-rejected calls.Handshake f = ByPoll refl
+of-rejected c f = absurd (cc f)
+
+rejected-call : (c : Call) (r : Reply) → fits c r ≡ true → is_rejected r ≡ true → RejectedCall c
+rejected-call c replies.Rejected f e = of-rejected c f
+rejected-call c r f e = absurd (cc e)
+
+rejected-by : (test : Action → Bool) (side : Side) (h : History) (s : ℕ) (call : Call) → is_open h ≡ true → Tells side h s test (first_row (rows_of side h call))
+rejected-by test side h s call o q = by (rejected-call call (first_row (rows_of side h call)).reply (fits-own side h call) q) q
+  where
+    as-call : (d : Call) → call ≡ d → Tells side h s test (first_row (rows_of side h d)) → Tells side h s test (first_row (rows_of side h call))
+    as-call d x t = subst (λ (y : Call). Tells side h s test (first_row (rows_of side h y))) (sym x) t
+
+    by : RejectedCall call → Tells side h s test (first_row (rows_of side h call))
+    by (ByForbidden x) = as-call calls.Forbidden x (rejection-tells test side h s (codes "403") o)
+    by (ByNotFound x) = as-call calls.NotFound x (rejection-tells test side h s (codes "404") o)
+    by (ByTooMany x) = as-call calls.TooManyRequests x (rejection-tells test side h s (codes "429") o)
+    by (ByPoll x) = as-call calls.Handshake x (polls-tell test side h s (last_begun h) o)
+
+-- an ending of the session
+end-tells : (test : Action → Bool) (side : Side) (h : History) (name : Option ℕ) (s : ℕ) → is_open h ≡ true → named h name ≡ Some s → is_gone h (findings side h) s ≡ false
+    → list_any test (session_gone_actions side h (findings side h) s) ≡ true → list_any test (own_answer side h (turns.Call (calls.EndSession name))).actions ≡ true
+end-tells test side h name s o n g t = rw (n, o, named-established h name s n, g) (has-right test (session_finish h s) (session_gone_actions side h (findings side h) s) t)
+
+-- whatever a call makes gone, it tells
+pub call-tells : (test : Action → Bool) (side : Side) (h : History) (turn : Turn) (s : ℕ) → is_open h ≡ true → is_gone h (findings side h) s ≡ false → is_number s (gone_in h turn (own_answer side h turn).reply) ≡ true
+    → list_any test (session_gone_actions side h (findings side h) s) ≡ true → list_any test (own_answer side h turn).actions ≡ true
+call-tells test side h (turns.Call call) s o g n t = by call (first_row (rows_of side h call)).reply refl refl n
+  where
+    if-open : (b : Bool) (x : Option ℕ) → is_number s (if b then x else None) ≡ true → x ≡ Some s
+    if-open true x q = number-of s x q
+    if-open false x q = absurd (cc q)
+
+    by : (c : Call) (r : Reply) → call ≡ c → (first_row (rows_of side h call)).reply ≡ r → is_number s (gone_in h (turns.Call c) r) ≡ true → list_any test (first_row (rows_of side h call)).actions ≡ true
+    by c replies.Rejected e f q = rejected-by test side h s call o (ap is_rejected f) (number-of s (last_request h) q) t
+    by (calls.EndSession name) r e f q = rw e (end-tells test side h name s o (if-open (is_open h) (named h name) q) g t)
+    by c r e f q = absurd (cc q)
+call-tells test side h turn s o g n t = absurd (cc n)
