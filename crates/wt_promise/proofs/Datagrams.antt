@@ -61,7 +61,7 @@ received-by : (h : History) (s : ℕ) (turn : Turn) (r : Reply) → receives h s
 received-by h s (turns.Call (calls.ReceiveDatagram name)) (replies.Datagram payload) e = record { name = name; payload = payload; is_call = refl; is_reply = refl; of_it = e }
 received-by h s turn r e = absurd (cc e)
 
-numbered : (s : ℕ) (o : Option ℕ) → is_number s o ≡ true → o ≡ Some s
+pub numbered : (s : ℕ) (o : Option ℕ) → is_number s o ≡ true → o ≡ Some s
 numbered s None e = absurd (cc e)
 numbered s (Some m) e = ap (λ (n : ℕ). Some n) (eqb-true m s e)
 

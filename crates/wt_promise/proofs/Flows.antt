@@ -5,7 +5,6 @@ use Rattle.std.specs.Option.{option_or}
 use Rattle.std.proofs.Common.{◌∙◌, ap, refl, subst, sym}
 use Rattle.std.proofs.lemmas.Bool.{eqb-true}
 use Rattle.std.proofs.lemmas.List.{append-nil}
-use Rattle.std.proofs.lemmas.List.Folds.{list_any-append}
 use Rattle.wt_meaning.specs.Calls.{being_opened, opened_by, stream_header}
 use Rattle.wt_meaning.specs.Findings.{first_of}
 use Rattle.wt_meaning.specs.Handshakes.{begun_by, head_left, is_nothing, lacks_credit}
@@ -20,14 +19,14 @@ use Rattle.wt_promise.proofs.Begun.{PolledStream, begun, begun-for, begun-now, b
 use Rattle.wt_promise.proofs.BytesOut.{bytes_on, out-add}
 use Rattle.wt_promise.proofs.ControlKept.{begun-opening, own-bytes}
 use Rattle.wt_promise.proofs.Flow.{Flow, InHead, clash, flow-as, flow-given, flow-new, flow-on, flow-whole, flow-write}
-use Rattle.wt_promise.proofs.Grows.{findings-add, is_peers, news}
+use Rattle.wt_promise.proofs.Grows.{is_peers}
 use Rattle.wt_promise.proofs.HandedOut.{opened-local}
 use Rattle.wt_promise.proofs.Heads.{HeadStep, New, Same, accepted-before, begun-not-admitted, begun-not-opened, head-other, head-step}
 use Rattle.wt_promise.proofs.Sent.{Given, Opening, Polled, Quiet, Sent, Wrote, going, head_stream, is_accept}
 use Rattle.wt_promise.proofs.SentCalls.{sent-own}
 use Rattle.wt_promise.proofs.Stays.{named-stays}
 use Rattle.wt_promise.proofs.Tables.{fits, fits-own}
-use Rattle.wt_promise.proofs.Verdicts.{admitted-peers}
+use Rattle.wt_promise.proofs.Verdicts.{admitted-later, admitted-peers}
 use Rattle.wt_promise.specs.Promise.{IsHistory, accepted, accepted_by, begun_on, frame_or, head_of, head_on, header_for, header_on}
 use Rattle.wt_seam_spec.specs.Streams.{local_uni}
 use Rattle.wt_turn.specs.declared.answer.Answer.{Answer}
@@ -118,7 +117,7 @@ accepted-head side p h i k s n e = head-other side (p ∷ h) k n ∙ ap (λ (x :
     opened x = first_of (λ (q : Pair). opened_by k q.turn q.answer.reply) x
 
     stays : list_any (admits s k) (findings side (p ∷ h)) ≡ true
-    stays = ap (list_any (admits s k)) (findings-add side p h) ∙ list_any-append (admits s k) (findings side h) (news side p h) ∙ ap (λ (b : Bool). b || list_any (admits s k) (news side p h)) e
+    stays = admitted-later side p h s k e
 
     none : (x : Option Call) → begun_on (p ∷ h) k ≡ x → x ≡ None
     none None q = refl

@@ -6,6 +6,7 @@ use Rattle.url.specs.Parser.{parse_url}
 use Rattle.wt_meaning.specs.Calls.{rows_of}
 use Rattle.wt_meaning.specs.Handshakes.{connect_on, head_left, is_refused, lacks_credit, last_begun, poll_rows, rejection, response_to}
 use Rattle.wt_meaning.specs.History.{History, events, is_open, was_finished}
+use Rattle.wt_meaning.specs.Lawful.{is_response}
 use Rattle.wt_meaning.specs.Meaning.{own_answer}
 use Rattle.wt_meaning.specs.Moments.{findings}
 use Rattle.wt_meaning.specs.Rows.{first_row}
@@ -13,8 +14,9 @@ use Rattle.wt_meaning.specs.Sends.{session_finish, session_gone_actions}
 use Rattle.wt_meaning.specs.Targets.{target_of}
 use Rattle.wt_meaning.specs.Windows.{gone_in, is_gone, is_number, last_request, named}
 use Rattle.wt_message.specs.FixedBytes.{response_bytes}
+use Rattle.wt_promise.proofs.Datagrams.{numbered}
 use Rattle.wt_promise.proofs.Owed.{has-left, has-right}
-use Rattle.wt_promise.proofs.Stays.{number-of}
+use Rattle.wt_promise.proofs.ResultKept.{APolled, AResponse, Rejecting, is-rejection, rejecting}
 use Rattle.wt_promise.proofs.Tables.{accepts-pass, by-row, connect-passes, fits, fits-own, is_rejected, no-row}
 use Rattle.wt_promise.proofs.Waiting.{named-established}
 use Rattle.wt_seam_spec.specs.Reports.{is_acknowledged, stop_of}
@@ -68,35 +70,19 @@ polls-tell test side h s (Some calls.NotFound) o = rejection-tells test side h s
 polls-tell test side h s (Some calls.TooManyRequests) o = rejection-tells test side h s (codes "429") o
 polls-tell test side h s (Some c) o = λ q. absurd (cc q)
 
--- the call of a reply that rejects
-data RejectedCall (c : Call) : Type 0 where
-  ByForbidden : c ≡ calls.Forbidden → RejectedCall c
-  ByNotFound : c ≡ calls.NotFound → RejectedCall c
-  ByTooMany : c ≡ calls.TooManyRequests → RejectedCall c
-  ByPoll : c ≡ calls.Handshake → RejectedCall c
-
-of-rejected : (c : Call) → fits c replies.Rejected ≡ true → RejectedCall c
-of-rejected calls.Forbidden f = ByForbidden refl
-of-rejected calls.NotFound f = ByNotFound refl
-of-rejected calls.TooManyRequests f = ByTooMany refl
-of-rejected calls.Handshake f = ByPoll refl
-of-rejected c f = absurd (cc f)
-
-rejected-call : (c : Call) (r : Reply) → fits c r ≡ true → is_rejected r ≡ true → RejectedCall c
-rejected-call c replies.Rejected f e = of-rejected c f
-rejected-call c r f e = absurd (cc e)
+responses-tell : (test : Action → Bool) (side : Side) (h : History) (s : ℕ) (c : Call) → is_open h ≡ true → is_response c ≡ true → Tells side h s test (first_row (rows_of side h c))
+responses-tell test side h s (calls.Accept headers) o r = polls-tell test side h s (Some (calls.Accept headers)) o
+responses-tell test side h s calls.Forbidden o r = rejection-tells test side h s (codes "403") o
+responses-tell test side h s calls.NotFound o r = rejection-tells test side h s (codes "404") o
+responses-tell test side h s calls.TooManyRequests o r = rejection-tells test side h s (codes "429") o
+responses-tell test side h s c o r = absurd (cc r)
 
 rejected-by : (test : Action → Bool) (side : Side) (h : History) (s : ℕ) (call : Call) → is_open h ≡ true → Tells side h s test (first_row (rows_of side h call))
-rejected-by test side h s call o q = by (rejected-call call (first_row (rows_of side h call)).reply (fits-own side h call) q) q
+rejected-by test side h s call o q = by (rejecting call (ap (fits call) (sym (is-rejection (first_row (rows_of side h call)).reply q)) ∙ fits-own side h call)) q
   where
-    as-call : (d : Call) → call ≡ d → Tells side h s test (first_row (rows_of side h d)) → Tells side h s test (first_row (rows_of side h call))
-    as-call d x t = subst (λ (y : Call). Tells side h s test (first_row (rows_of side h y))) (sym x) t
-
-    by : RejectedCall call → Tells side h s test (first_row (rows_of side h call))
-    by (ByForbidden x) = as-call calls.Forbidden x (rejection-tells test side h s (codes "403") o)
-    by (ByNotFound x) = as-call calls.NotFound x (rejection-tells test side h s (codes "404") o)
-    by (ByTooMany x) = as-call calls.TooManyRequests x (rejection-tells test side h s (codes "429") o)
-    by (ByPoll x) = as-call calls.Handshake x (polls-tell test side h s (last_begun h) o)
+    by : Rejecting call → Tells side h s test (first_row (rows_of side h call))
+    by (AResponse r) = responses-tell test side h s call o r
+    by (APolled x) = subst (λ (c : Call). Tells side h s test (first_row (rows_of side h c))) (sym x) (polls-tell test side h s (last_begun h) o)
 
 -- an ending of the session
 end-tells : (test : Action → Bool) (side : Side) (h : History) (name : Option ℕ) (s : ℕ) → is_open h ≡ true → named h name ≡ Some s → is_gone h (findings side h) s ≡ false
@@ -109,11 +95,11 @@ pub call-tells : (test : Action → Bool) (side : Side) (h : History) (turn : Tu
 call-tells test side h (turns.Call call) s o g n t = by call (first_row (rows_of side h call)).reply refl refl n
   where
     if-open : (b : Bool) (x : Option ℕ) → is_number s (if b then x else None) ≡ true → x ≡ Some s
-    if-open true x q = number-of s x q
+    if-open true x q = numbered s x q
     if-open false x q = absurd (cc q)
 
     by : (c : Call) (r : Reply) → call ≡ c → (first_row (rows_of side h call)).reply ≡ r → is_number s (gone_in h (turns.Call c) r) ≡ true → list_any test (first_row (rows_of side h call)).actions ≡ true
-    by c replies.Rejected e f q = rejected-by test side h s call o (ap is_rejected f) (number-of s (last_request h) q) t
+    by c replies.Rejected e f q = rejected-by test side h s call o (ap is_rejected f) (numbered s (last_request h) q) t
     by (calls.EndSession name) r e f q = rw e (end-tells test side h name s o (if-open (is_open h) (named h name) q) g t)
     by c r e f q = absurd (cc q)
 call-tells test side h turn s o g n t = absurd (cc n)

@@ -95,6 +95,12 @@ same-findings side h turn =
     ap (λ (f : List Finding). if is_open h then f else findings side h)
     (same-moments side turn (own_answer side h turn).reply (next side h turn).actions (own_answer side h turn).actions h [] (own_answer side h turn).reply (findings side h) (opened-next side h turn))
 
+-- and has the same news
+pub same-news : (side : Side) (h : History) (turn : Turn) → news side (record { turn = turn; answer = own_answer side h turn }) h ≡ news side (record { turn = turn; answer = next side h turn }) h
+same-news side h turn =
+    sym (news-dropped side (record { turn = turn; answer = own_answer side h turn }) h) ∙ ap (drop (length (findings side h))) (sym (same-findings side h turn))
+    ∙ news-dropped side (record { turn = turn; answer = next side h turn }) h
+
 -- ---- open
 
 -- while the connection is open nothing found is a fault

@@ -2,7 +2,7 @@
 use Rattle.std.specs.Prelude.{[], ◌&&◌, ◌++◌, ◌==◌, ◌||◌, ◌∷◌, ◌≡◌, Bool, Err, List, None, Ok, Option, Result, Some, codes, false, filter, flat_map, if◌then◌else◌, not, take, true, unwrap_or, ℕ}
 use Rattle.std.specs.List.{list_any}
 use Rattle.std.proofs.Common.{◌∙◌, ap, refl, sym}
-use Rattle.std.proofs.lemmas.Bool.{eq-eqb, eqb-true}
+use Rattle.std.proofs.lemmas.Bool.{eq-eqb, eqb-true, not-false}
 use Rattle.std.proofs.lemmas.List.Folds.{list_any-append}
 use Rattle.url.specs.Parser.{parse_url}
 use Rattle.wt_meaning.specs.Calls.{being_opened, in_session, is_living}
@@ -83,11 +83,7 @@ pub of-session : (side : Side) (h : History) (k : ℕ) (turn : Turn) (name : Opt
 of-session side h k turn name rows f = by-session (OwnActs side h k turn) name rows (neither side h k turn replies.NoSession [] refl refl) f
 
 pub of-half : (side : Side) (h : History) (k : ℕ) (turn : Turn) (has : Bool) (rows : List Row) → (has ≡ true → OfRows (OwnActs side h k turn) rows) → OfRows (OwnActs side h k turn) (where_has has rows)
-of-half side h k turn has rows f = by-row (OwnActs side h k turn) (not has) replies.NoStream [] rows (λ q. neither side h k turn replies.NoStream [] refl refl) (λ q. f (is-so has q))
-  where
-    is-so : (b : Bool) → not b ≡ false → b ≡ true
-    is-so true e = refl
-    is-so false e = absurd (cc e)
+of-half side h k turn has rows f = by-row (OwnActs side h k turn) (not has) replies.NoStream [] rows (λ q. neither side h k turn replies.NoStream [] refl refl) (λ q. f (not-false has q))
 
 -- actions that send on this stream alone, and reset none
 pub on-stream : (side : Side) (h : History) (k id : ℕ) (turn : Turn) (r : Reply) (own : List Action) → ((id == k) ≡ false → list_any (sends_on k) own ≡ false) → list_any (is_reset_of k) own ≡ false

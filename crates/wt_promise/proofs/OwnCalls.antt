@@ -2,7 +2,7 @@
 use Rattle.std.specs.Prelude.{[], ◌&&◌, ◌++◌, ◌/◌, ◌==◌, ◌||◌, ◌∷◌, ◌≡◌, Bool, Err, List, None, Ok, Option, Result, Some, codes, false, if◌then◌else◌, is_some, length, not, true, ℕ}
 use Rattle.std.specs.List.{list_any}
 use Rattle.std.proofs.Common.{◌∙◌, ap, refl, sym}
-use Rattle.std.proofs.lemmas.Bool.{eq-eqb, eqb-true}
+use Rattle.std.proofs.lemmas.Bool.{eq-eqb, eqb-true, not-false}
 use Rattle.std.proofs.lemmas.List.Folds.{list_any-append}
 use Rattle.url.specs.Parser.{parse_url}
 use Rattle.wt_meaning.specs.Calls.{being_opened, first_datagram, first_waiting, is_living, open_stream, opening_for, refused_by, rows_of, stream_header}
@@ -57,11 +57,7 @@ opening-acts side h k id (Some name) e =
 
     part : (s : ℕ) → named h name ≡ Some s → not (is_open h && is_living side h s) ≡ false → (r : Reply) → OwnActs side h k turn (answer r (send h id (left s)))
     part s m live r = on-stream side h k id turn r (send h id (left s)) (sends-other h k id (left s)) (sends-no-reset h k id (left s))
-        (λ q. Opens name s (ap (being_opened h) (sym q) ∙ e) m (and-right (is_open h) (is_living side h s) (is-so (is_open h && is_living side h s) live)))
-      where
-        is-so : (b : Bool) → not b ≡ false → b ≡ true
-        is-so true x = refl
-        is-so false x = absurd (cc x)
+        (λ q. Opens name s (ap (being_opened h) (sym q) ∙ e) m (and-right (is_open h) (is_living side h s) (not-false (is_open h && is_living side h s) live)))
 
 -- rows before those of a write
 writes-act : (side : Side) (h : History) (k id : ℕ) (turn : Turn) (rows : List Row) → (is_closed h id ≡ false → OfRows (OwnActs side h k turn) rows) → OfRows (OwnActs side h k turn) (write_rows h id rows)

@@ -36,18 +36,18 @@ use Rattle.wt_turn.specs.declared.turn.Turn.TheVariants as turns
 -- ---- a rejection makes no established session gone
 
 -- a response, or the poll of one
-data Rejecting (c : Call) : Type 0 where
+pub data Rejecting (c : Call) : Type 0 where
   AResponse : is_response c ≡ true → Rejecting c
   APolled : c ≡ calls.Handshake → Rejecting c
 
-rejecting : (c : Call) → fits c replies.Rejected ≡ true → Rejecting c
+pub rejecting : (c : Call) → fits c replies.Rejected ≡ true → Rejecting c
 rejecting calls.Forbidden f = AResponse refl
 rejecting calls.NotFound f = AResponse refl
 rejecting calls.TooManyRequests f = AResponse refl
 rejecting calls.Handshake f = APolled refl
 rejecting c f = absurd (cc f)
 
-is-rejection : (r : Reply) → is_rejected r ≡ true → r ≡ replies.Rejected
+pub is-rejection : (r : Reply) → is_rejected r ≡ true → r ≡ replies.Rejected
 is-rejection replies.Rejected q = refl
 is-rejection r q = absurd (cc q)
 

@@ -2,7 +2,7 @@
 use Rattle.std.specs.Prelude.{[], ◌++◌, ◌==◌, ◌∷◌, ◌≡◌, Bool, Err, List, None, Ok, Option, Result, Some, codes, false, if◌then◌else◌, not, take, true, unwrap_or, ℕ}
 use Rattle.std.specs.Option.{option_or}
 use Rattle.std.proofs.Common.{◌∙◌, ap, refl, sym}
-use Rattle.std.proofs.lemmas.Bool.{eqb-true}
+use Rattle.std.proofs.lemmas.Bool.{eqb-true, not-false}
 use Rattle.std.proofs.lemmas.List.{append-nil}
 use Rattle.url.specs.Parser.{parse_url}
 use Rattle.wt_meaning.specs.Calls.{being_opened, in_session, opening_for, stream_header}
@@ -120,11 +120,7 @@ nothing side h k turn n = no-row (Sent side h k turn) (Quiet refl n refl)
 
 pub quiet-half : (side : Side) (h : History) (k : ℕ) (turn : Turn) (has : Bool) (rows : List Row) → accepted_by k turn replies.NoStream ≡ [] → (has ≡ true → OfRows (Sent side h k turn) rows)
     → OfRows (Sent side h k turn) (where_has has rows)
-quiet-half side h k turn has rows n f = by-row (Sent side h k turn) (not has) replies.NoStream [] rows (λ q. Quiet refl n refl) (λ q. f (is-so has q))
-  where
-    is-so : (b : Bool) → not b ≡ false → b ≡ true
-    is-so true e = refl
-    is-so false e = absurd (cc e)
+quiet-half side h k turn has rows n f = by-row (Sent side h k turn) (not has) replies.NoStream [] rows (λ q. Quiet refl n refl) (λ q. f (not-false has q))
 
 -- ---- handshakes
 

@@ -1,6 +1,7 @@
 -- What stands where a reply gives a session: the rows of an acceptance and of a connect.
 use Rattle.std.specs.Prelude.{[], ◌&&◌, ◌++◌, ◌≡◌, Bool, Err, List, None, Ok, Option, Result, Some, codes, false, is_some, not, true, unwrap_or, ℕ}
 use Rattle.std.proofs.Common.{refl, sym}
+use Rattle.std.proofs.lemmas.Bool.{not-false}
 use Rattle.url.specs.Parser.{parse_url}
 use Rattle.wt_meaning.specs.Findings.{settings_came}
 use Rattle.wt_meaning.specs.Handshakes.{acceptance_frame, connect_on, head_left, is_opened, is_refused, is_success, lacks_credit, poll_rows, rejection, response_ended, response_fault, response_incomplete, response_rows, response_to, send}
@@ -37,16 +38,12 @@ pub record AcceptGives (h : History) (headers : Fields) (s : ℕ) (a : Answer) :
 abbrev AcceptIf : History → Fields → Answer → Type 0
 AcceptIf h headers a = (s : ℕ) → session_in a.reply ≡ Some s → AcceptGives h headers s a
 
-not-not : (b : Bool) → not b ≡ false → b ≡ true
-not-not true e = refl
-not-not false e = absurd (cc e)
-
 pub accept-gives : (side : Side) (h : History) (headers : Fields) → AcceptIf h headers (first_row (response_to side h (calls.Accept headers)))
 accept-gives side h headers =
     (by-row (AcceptIf h headers) (not (is_open h)) _ [] _ (λ c s e. absurd (cc e))
     (λ o. by-row (AcceptIf h headers) (is_refused h r left) _ _ _ (λ d s e. absurd (cc e))
     (λ d. by-row (AcceptIf h headers) (lacks_credit h r left) replies.Pending _ _ (λ f s e. absurd (cc e))
-    (λ f. by-row (AcceptIf h headers) true (replies.Session r) (send h r left) [] (λ g s e. record { is_last = cc e; open_then = not-not (is_open h) o; full = f; acts = refl })
+    (λ f. by-row (AcceptIf h headers) true (replies.Session r) (send h r left) [] (λ g s e. record { is_last = cc e; open_then = not-false (is_open h) o; full = f; acts = refl })
     (λ g. no-row (AcceptIf h headers) (λ s e. absurd (cc e))))))).first
   where
     r : ℕ
@@ -78,7 +75,7 @@ response-gives side h frame own walk w settled full acts =
     (λ y. by-row P (response_incomplete walk) replies.Pending own _ (λ z s e. absurd (cc e))
     (λ z. by-row P (not (is_success walk)) _ _ _ (λ u s e. absurd (cc e))
     (λ u. by-row P (not (is_open h)) _ own _ (λ v s e. absurd (cc e))
-    (λ v. by-row P true (replies.Session 0) own [] (λ t s e. record { is_zero = cc e; open_then = not-not (is_open h) v; settings = settled; full = full; success = rw (sym w) (not-not (is_success walk) u); acts = acts })
+    (λ v. by-row P true (replies.Session 0) own [] (λ t s e. record { is_zero = cc e; open_then = not-false (is_open h) v; settings = settled; full = full; success = rw (sym w) (not-false (is_success walk) u); acts = acts })
     (λ t. no-row P (λ s e. absurd (cc e)))))))))
   where
     P : Answer → Type 0
@@ -92,7 +89,7 @@ connect-gives side h (Ok t) =
     (λ g. by-value P t.reserved _ _ _ (λ y q s e. absurd (cc e)) (λ q. by-row P _ _ [] _ (λ i s e. absurd (cc e)) (λ i. by-row P _ replies.Pending [] _ (λ j s e. absurd (cc e)) (λ j. by-row P _ _ [] _ (λ k s e. absurd (cc e))
     (λ k. by-row P (is_refused h 0 (head_left h 0 t.frame)) _ _ _ (λ m s e. absurd (cc e))
     (λ m. by-row P (lacks_credit h 0 (head_left h 0 t.frame)) replies.Pending _ _ (λ n s e. absurd (cc e))
-    (λ n. response-gives side h t.frame _ (response_walk_of (contents h 0) (end_of (events h) 0)) refl (not-not (settings_came (findings side h)) g) n refl))))))))))
+    (λ n. response-gives side h t.frame _ (response_walk_of (contents h 0) (end_of (events h) 0)) refl (not-false (settings_came (findings side h)) g) n refl))))))))))
   where
     P : Answer → Type 0
     P = ConnectIf side h t.frame

@@ -1,9 +1,8 @@
 -- Nothing goes out on a stream after its reset.
-use Rattle.std.specs.Prelude.{[], ◌==◌, ◌||◌, ◌∷◌, ◌≡◌, Bool, None, Option, Some, drop, false, if◌then◌else◌, is_some, length, not, true, unwrap_or, ℕ}
+use Rattle.std.specs.Prelude.{[], ◌==◌, ◌||◌, ◌∷◌, ◌≡◌, Bool, None, Option, Some, false, if◌then◌else◌, is_some, not, true, unwrap_or, ℕ}
 use Rattle.std.specs.List.{list_any}
 use Rattle.std.proofs.Common.{◌∙◌, ap, refl, subst, sym}
 use Rattle.std.proofs.lemmas.Bool.{eqb-true}
-use Rattle.std.proofs.lemmas.List.Folds.{list_any-append}
 use Rattle.wt_meaning.specs.Calls.{being_opened, is_living, opened_by, opening_ends, opening_for}
 use Rattle.wt_meaning.specs.Findings.{first_of}
 use Rattle.wt_meaning.specs.Halves.{is_closed}
@@ -23,18 +22,18 @@ use Rattle.wt_promise.proofs.Few.{APoll, AnAccept, SessionCall, gone-later, sess
 use Rattle.wt_promise.proofs.Flow.{clash}
 use Rattle.wt_promise.proofs.Flows.{bi-admits, uni-admits}
 use Rattle.wt_promise.proofs.Fresh.{client-begun}
-use Rattle.wt_promise.proofs.Grows.{findings-add, is_peers, news, news-dropped}
+use Rattle.wt_promise.proofs.Grows.{is_peers}
 use Rattle.wt_promise.proofs.HandedOut.{GivesOpened, gives-opened, opened-local}
 use Rattle.wt_promise.proofs.Heads.{begun-kept, begun-not-admitted, begun-not-opened}
 use Rattle.wt_promise.proofs.MomentActs.{Control, MomentSends, OfClosed, closed-lived, closes_session, moment-sends, or-either}
-use Rattle.wt_promise.proofs.OpenStays.{same-findings}
+use Rattle.wt_promise.proofs.OpenStays.{same-news}
 use Rattle.wt_promise.proofs.OwnActs.{Ends, Opens, Polls, SendsWhy, Writes}
 use Rattle.wt_promise.proofs.OwnCalls.{own-acts}
 use Rattle.wt_promise.proofs.Phases.{client-waits, phase, same-established}
 use Rattle.wt_promise.proofs.Sent.{going, head_stream}
 use Rattle.wt_promise.proofs.Sessions.{Accepted, Connected, PollGives, poll-gives}
 use Rattle.wt_promise.proofs.Tables.{by-session, fits, fits-own}
-use Rattle.wt_promise.proofs.Verdicts.{admitted-peers}
+use Rattle.wt_promise.proofs.Verdicts.{admitted-later, admitted-peers}
 use Rattle.wt_promise.proofs.WasReset.{Admitted, ByHand, Closed, Later, Opened, WasReset, WithSession, opened-first, was-reset}
 use Rattle.wt_promise.specs.Promise.{IsHistory, SilentAfterReset, sends_on}
 use Rattle.wt_seam_spec.specs.Streams.{local_uni}
@@ -77,12 +76,6 @@ client-zero (p ∷ h) i s e = by (session_in p.answer.reply) refl (client-zero h
 pub established-begun : (side : Side) (h : History) → IsHistory side h → (s : ℕ) → is_established h s ≡ true → BegunFor side h s
 established-begun Client h i s e = client-zero h i s e
 established-begun Server h i s e = (phase h i).known s e
-
--- ---- what was admitted stays so
-
-admitted-later : (side : Side) (p : Pair) (h : History) (s k : ℕ) → list_any (admits s k) (findings side h) ≡ true → list_any (admits s k) (findings side (p ∷ h)) ≡ true
-admitted-later side p h s k e =
-    ap (list_any (admits s k)) (findings-add side p h) ∙ list_any-append (admits s k) (findings side h) (news side p h) ∙ ap (λ (b : Bool). b || list_any (admits s k) (news side p h)) e
 
 -- ---- such a stream isn't reset while its session lives
 
@@ -218,14 +211,8 @@ silent-moment side h turn k i l r (OfClosed e) =
     p : Pair
     p = record { turn = turn; answer = next side h turn }
 
-    q : Pair
-    q = record { turn = turn; answer = own_answer side h turn }
-
-    same-news : news side q h ≡ news side p h
-    same-news = sym (news-dropped side q h) ∙ ap (drop (length (findings side h))) (sym (same-findings side h turn)) ∙ news-dropped side p h
-
     lived : lives (p ∷ h) (findings side h) k ≡ true
-    lived = closed-lived side p h k (ap (list_any (closes_session k)) (sym same-news) ∙ e)
+    lived = closed-lived side p h k (ap (list_any (closes_session k)) (sym (same-news side h turn)) ∙ e)
 
 pub silent-after-reset : (side : Side) (h : History) (turn : Turn) → IsHistory side h → is_lawful side h turn ≡ true → SilentAfterReset h (next side h turn)
 silent-after-reset side h turn i l k r = by (list_any (sends_on k) (next side h turn).actions) refl

@@ -3,7 +3,7 @@ use Rattle.std.specs.Prelude.{[], ◌%◌, ◌++◌, ◌/◌, ◌==◌, ◌||◌
 use Rattle.std.specs.List.{list_any}
 use Rattle.std.specs.Option.{option_or}
 use Rattle.std.proofs.Common.{◌∙◌, ap, arith, refl}
-use Rattle.std.proofs.lemmas.Bool.{eq-eqb, eqb-true, lt-ltb, ltb-true}
+use Rattle.std.proofs.lemmas.Bool.{eq-eqb, lt-ltb, ltb-true}
 use Rattle.std.proofs.lemmas.List.Folds.{list_any-append}
 use Rattle.wt_meaning.specs.Findings.{Finding}
 use Rattle.wt_meaning.specs.History.{History, Pair, actions_out, all_events, exists, stream_count}
@@ -12,6 +12,7 @@ use Rattle.wt_meaning.specs.Sends.{admits, is_of_session, opens_for}
 use Rattle.wt_meaning.specs.Windows.{establishes, is_established, is_gone, is_number, named}
 use Rattle.wt_promise.proofs.Accepted.{and-left, and-right, or-true}
 use Rattle.wt_promise.proofs.Actions.{opened-out}
+use Rattle.wt_promise.proofs.Datagrams.{numbered}
 use Rattle.wt_promise.proofs.Few.{gone-later, gone-more}
 use Rattle.wt_promise.proofs.Grows.{findings-add, news}
 use Rattle.wt_seam_spec.specs.Joined.{newest_first}
@@ -74,12 +75,8 @@ named-stays p h (Some t) s e = by (is_established h t) refl e
     by true q r = rw (established-stays p h t q) r
     by false q r = absurd (cc r)
 
-pub number-of : (s : ℕ) (o : Option ℕ) → is_number s o ≡ true → o ≡ Some s
-number-of s None e = absurd (cc e)
-number-of s (Some m) e = ap (λ (n : ℕ). Some n) (eqb-true m s e)
-
 number-stays : (p : Pair) (h : History) (name : Option ℕ) (s : ℕ) → is_number s (named h name) ≡ true → is_number s (named (p ∷ h) name) ≡ true
-number-stays p h name s e = rw (named-stays p h name s (number-of s (named h name) e)) (eq-eqb s s refl)
+number-stays p h name s e = rw (named-stays p h name s (numbered s (named h name) e)) (eq-eqb s s refl)
 
 pub opens-stays : (p : Pair) (h : History) (s k : ℕ) (turn : Turn) (r : Reply) → opens_for h s k turn r ≡ true → opens_for (p ∷ h) s k turn r ≡ true
 opens-stays p h s k (turns.Call (calls.OpenUni name)) (replies.Opening id) e =

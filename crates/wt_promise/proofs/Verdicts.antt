@@ -31,10 +31,6 @@ use Rattle.wt_turn.specs.declared.call.Call.TheVariants as calls
 use Rattle.wt_turn.specs.declared.reply.Reply.TheVariants as replies
 use Rattle.wt_turn.specs.declared.turn.Turn.TheVariants as turns
 
-or-else : (a b : Bool) → (a || b) ≡ true → a ≡ false → b ≡ true
-or-else true b e f = absurd (cc f)
-or-else false b e f = e
-
 -- ---- what holds of the verdict of each finding that passes a test
 
 -- the finding's verdict is the stream's
@@ -153,9 +149,13 @@ pub data HandedBy (side : Side) (h : History) (k : ℕ) : Type 0 where
   ByAccept : (s : ℕ) → list_any (admits s k) (findings side h) ≡ true → HandedBy side h k
   ByOpening : is_some (first_of (λ (p : Pair). opened_by k p.turn p.answer.reply) h) ≡ true → HandedBy side h k
 
+-- what was admitted stays so
+pub admitted-later : (side : Side) (p : Pair) (h : History) (s k : ℕ) → list_any (admits s k) (findings side h) ≡ true → list_any (admits s k) (findings side (p ∷ h)) ≡ true
+admitted-later side p h s k e =
+    ap (list_any (admits s k)) (findings-add side p h) ∙ list_any-append (admits s k) (findings side h) (news side p h) ∙ ap (λ (b : Bool). b || list_any (admits s k) (news side p h)) e
+
 pub handed-stays : (side : Side) (p : Pair) (h : History) (k : ℕ) → HandedBy side h k → HandedBy side (p ∷ h) k
-handed-stays side p h k (ByAccept s e) =
-    ByAccept s (ap (list_any (admits s k)) (findings-add side p h) ∙ list_any-append (admits s k) (findings side h) (news side p h) ∙ ap (λ (b : Bool). b || list_any (admits s k) (news side p h)) e)
+handed-stays side p h k (ByAccept s e) = ByAccept s (admitted-later side p h s k e)
 handed-stays side p h k (ByOpening e) = ByOpening (by (opened_by k p.turn p.answer.reply))
   where
     by : (o : Option (Option ℕ)) → is_some (option_or o (first_of (λ (q : Pair). opened_by k q.turn q.answer.reply) h)) ≡ true

@@ -1,5 +1,5 @@
 -- Why a stream was reset: the application had it, its session was closed, or it was one of a session that became gone.
-use Rattle.std.specs.Prelude.{[], ◌++◌, ◌==◌, ◌||◌, ◌∷◌, ◌≡◌, Bool, List, None, Option, Some, drop, false, if◌then◌else◌, length, true, ℕ}
+use Rattle.std.specs.Prelude.{[], ◌++◌, ◌==◌, ◌||◌, ◌∷◌, ◌≡◌, Bool, List, None, Option, Some, false, if◌then◌else◌, true, ℕ}
 use Rattle.std.specs.List.{list_any}
 use Rattle.std.specs.Option.{option_or}
 use Rattle.std.proofs.Common.{◌∙◌, ap, refl, subst, sym}
@@ -14,15 +14,16 @@ use Rattle.wt_meaning.specs.Sends.{admits, is_of_session, moment_actions, opens_
 use Rattle.wt_meaning.specs.Windows.{is_established, is_gone, is_gone_by_call, is_number, makes_gone, named}
 use Rattle.wt_promise.proofs.Accepted.{and-left, and-right, or-true}
 use Rattle.wt_promise.proofs.Actions.{any-next}
+use Rattle.wt_promise.proofs.Datagrams.{numbered}
 use Rattle.wt_promise.proofs.Fresh.{was-opened}
-use Rattle.wt_promise.proofs.Grows.{findings-add, news, news-dropped}
+use Rattle.wt_promise.proofs.Grows.{findings-add, news}
 use Rattle.wt_promise.proofs.Heads.{opened-once}
 use Rattle.wt_promise.proofs.MomentActs.{Closing, Going, NewReset, closed-gone, closed-lived, closes_session, moment-resets, or-either}
-use Rattle.wt_promise.proofs.OpenStays.{same-findings}
+use Rattle.wt_promise.proofs.OpenStays.{same-findings, same-news}
 use Rattle.wt_promise.proofs.Opened.{pair-is}
 use Rattle.wt_promise.proofs.OwnActs.{GoneBy, Held, ResetsWhy}
 use Rattle.wt_promise.proofs.OwnCalls.{own-acts}
-use Rattle.wt_promise.proofs.Stays.{any-newest, established-stays, gone-stays, named-stays, number-of}
+use Rattle.wt_promise.proofs.Stays.{any-newest, established-stays, gone-stays, named-stays}
 use Rattle.wt_promise.specs.Promise.{IsHistory}
 use Rattle.wt_turn.specs.declared.answer.Answer.{Answer}
 use Rattle.wt_turn.specs.declared.reply.Reply.{Reply}
@@ -50,9 +51,9 @@ opened-first side (p ∷ h) i k name (Later q g o) =
 -- the name by which a pair opens the stream for a session
 opens-named : (full : History) (s k : ℕ) (turn : Turn) (r : Reply) → opens_for full s k turn r ≡ true → (name : Option ℕ) × (opened_by k turn r ≡ Some name) × (named full name ≡ Some s)
 opens-named full s k (turns.Call (calls.OpenUni name)) (replies.Opening id) e =
-    (name, ap (λ (b : Bool). if b then Some name else None) (and-left (id == k) (is_number s (named full name)) e), number-of s (named full name) (and-right (id == k) (is_number s (named full name)) e))
+    (name, ap (λ (b : Bool). if b then Some name else None) (and-left (id == k) (is_number s (named full name)) e), numbered s (named full name) (and-right (id == k) (is_number s (named full name)) e))
 opens-named full s k (turns.Call (calls.OpenBi name)) (replies.Opening id) e =
-    (name, ap (λ (b : Bool). if b then Some name else None) (and-left (id == k) (is_number s (named full name)) e), number-of s (named full name) (and-right (id == k) (is_number s (named full name)) e))
+    (name, ap (λ (b : Bool). if b then Some name else None) (and-left (id == k) (is_number s (named full name)) e), numbered s (named full name) (and-right (id == k) (is_number s (named full name)) e))
 opens-named full s k turn r e = absurd (cc e)
 
 opened-in : (full : History) (s k : ℕ) (h : History) → list_any (λ (p : Pair). opens_for full s k p.turn p.answer.reply) h ≡ true → (name : Option ℕ) × OpenedIn k name h × (named full name ≡ Some s)
@@ -125,9 +126,6 @@ new-reset side h turn i l k e =
     q : Pair
     q = record { turn = turn; answer = own }
 
-    same-news : news side q h ≡ news side p h
-    same-news = sym (news-dropped side q h) ∙ ap (drop (length (findings side h))) (sym (same-findings side h turn)) ∙ news-dropped side p h
-
     by-call : ResetsWhy side h k turn own.reply → WasReset side (p ∷ h) k
     by-call (Held x) = reset-stays side p h k (ByHand x)
     by-call (GoneBy s o n) =
@@ -136,11 +134,11 @@ new-reset side h turn i l k e =
 
     by-moment : NewReset (q ∷ h) k (findings side (q ∷ h)) (news side q h) → WasReset side (p ∷ h) k
     by-moment (Closing c) =
-        let d : list_any (closes_session k) (news side p h) ≡ true = ap (list_any (closes_session k)) (sym same-news) ∙ c in
+        let d : list_any (closes_session k) (news side p h) ≡ true = ap (list_any (closes_session k)) (sym (same-news side h turn)) ∙ c in
         Closed (and-left (is_established (p ∷ h) k) _ (closed-lived side p h k d)) (found-gone side p h k (closed-gone k (news side p h) d))
     by-moment (Going s m o) =
         WithSession s (subst (λ (xs : List Finding). Of (p ∷ h) xs s k) (sym (same-findings side h turn)) (of-actions q p h (findings side (q ∷ h)) s k refl refl (of-is (q ∷ h) (findings side (q ∷ h)) s k o)))
-        (found-gone side p h s (ap (list_any (makes_gone s)) (sym same-news) ∙ m))
+        (found-gone side p h s (ap (list_any (makes_gone s)) (sym (same-news side h turn)) ∙ m))
 
 pub was-reset : (side : Side) (h : History) → IsHistory side h → (k : ℕ) → list_any (is_reset_of k) (actions_out h) ≡ true → WasReset side h k
 was-reset side [] i k e = absurd (cc e)
