@@ -29,7 +29,7 @@ use Rattle.wt_promise.proofs.Heads.{accepted-before, begun-kept, head-other}
 use Rattle.wt_promise.proofs.Sent.{going, head_stream, if-bytes, send-bytes}
 use Rattle.wt_promise.proofs.Sessions.{AcceptGives, Accepted, ConnectGives, Connected, PollGives, accept-gives, is_connect, poll-gives}
 use Rattle.wt_promise.proofs.Tables.{by-row, by-value, fits, fits-own, no-row}
-use Rattle.wt_promise.specs.Promise.{EstablishedFor, EstablishedRightly, IsHistory, accepted, begun_on, frame_or, head_of, head_on, header_on}
+use Rattle.wt_promise.specs.Promise.{EstablishedFor, EstablishedRightly, IsHistory, accepted, begun_on, frame_or, head_of, head_on, header_on, is_acceptance}
 use Rattle.wt_proto.specs.ResponseWalk.{response_walk_of}
 use Rattle.wt_seam_spec.specs.Reports.{end_of}
 use Rattle.wt_seam_spec.specs.Streams.{local_count, local_uni}
@@ -135,12 +135,15 @@ no-request : (r : Reply) (s : ℕ) → session_in r ≡ Some s → request_in r 
 no-request (replies.Session id) s e = refl
 no-request r s e = absurd (cc e)
 
+all-three : (a b c : Bool) → a ≡ true → b ≡ true → c ≡ true → (a && b && c) ≡ true
+all-three a b c e f g = rw (e, f, g) refl
+
 -- of a response
 by-response : (h : History) (turn : Turn) (headers : Fields) (s : ℕ) → IsHistory Server h → is_lawful Server h turn ≡ true → polls turn ≡ true → going h turn ≡ Some (calls.Accept headers) → session_in (next Server h turn).reply ≡ Some s
     → AcceptGives h headers s (own_answer Server h turn) → EstablishedFor Server h (with_pair h turn (next Server h turn)) s
 by-response h turn headers s i l q g e a = record {
   settings = given-settings Server h i r.0 r.2;
-  asked = ap (λ (o : Option ℕ). is_number s (option_or o (last_request h))) (no-request (next Server h turn).reply s e) ∙ ap (is_number s) r.1 ∙ eq-eqb r.0 s (sym same);
+  asked = all-three true (is_number s (last_request (with_pair h turn (next Server h turn)))) (is_acceptance (last_begun (with_pair h turn (next Server h turn)))) refl given (ap is_acceptance g);
   frame = frame-out Server h turn (calls.Accept headers) s i l q g (sym a.is_last) bytes full ∙ sym (ap head_of g);
   open_before = a.open_then;
   new = new-session Server h turn i l s e;
@@ -152,6 +155,9 @@ by-response h turn headers s i l q g e a = record {
     same : s ≡ r.0
     same = a.is_last ∙ ap (λ (o : Option ℕ). unwrap_or o 0) r.1
 
+    given : is_number s (last_request (with_pair h turn (next Server h turn))) ≡ true
+    given = ap (λ (o : Option ℕ). is_number s (option_or o (last_request h))) (no-request (next Server h turn).reply s e) ∙ ap (is_number s) r.1 ∙ eq-eqb r.0 s (sym same)
+
     bytes : bytes_on s (own_answer Server h turn).actions ≡ take (credit_left h s) (head_left h s (head_of (Some (calls.Accept headers))))
     bytes = ap (bytes_on s) a.acts ∙ ap (λ (j : ℕ). bytes_on s (send h j (head_left h j (head_of (Some (calls.Accept headers)))))) (sym a.is_last)
         ∙ send-bytes s s (take (credit_left h s) (head_left h s (head_of (Some (calls.Accept headers)))))
@@ -159,9 +165,6 @@ by-response h turn headers s i l q g e a = record {
 
     full : lacks_credit h s (head_left h s (head_of (Some (calls.Accept headers)))) ≡ false
     full = ap (λ (j : ℕ). lacks_credit h j (head_left h j (head_of (Some (calls.Accept headers))))) a.is_last ∙ a.full
-
-all-three : (a b c : Bool) → a ≡ true → b ≡ true → c ≡ true → (a && b && c) ≡ true
-all-three a b c e f g = rw (e, f, g) refl
 
 -- of a connect
 by-connect : (h : History) (call c : Call) (s : ℕ) → IsHistory Client h → is_lawful Client h (turns.Call call) ≡ true → polls (turns.Call call) ≡ true → going h (turns.Call call) ≡ Some c → is_connect c ≡ true

@@ -67,9 +67,15 @@ head_of (Some calls.NotFound) = response_bytes (codes "404")
 head_of (Some calls.TooManyRequests) = response_bytes (codes "429")
 head_of _ = []
 
--- a server's session is that of the request that was given last; a client's is on the stream that its connect opened, and a 2xx came
+-- it is a response of status 200
+abbrev pub is_acceptance : Option Call → Bool
+is_acceptance (Some (calls.Accept headers)) = true
+is_acceptance _ = false
+
+-- a server's session is that of the request that was given last, and the response that was begun last accepts; a
+-- client's is on the stream that its connect opened, and a 2xx came
 abbrev pub is_asked_for : Side → History → ℕ → Bool
-is_asked_for Server h s = is_number s (last_request h)
+is_asked_for Server h s = is_number s (last_request h) && is_acceptance (last_begun h)
 is_asked_for Client h s = s == 0 && is_opened h && is_success (response_walk_of (contents h 0) (end_of (events h) 0))
 
 -- what a session rests on: SETTINGS came, it was asked for, the whole frame went out, the connection is open, and it is new
