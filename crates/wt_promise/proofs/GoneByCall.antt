@@ -1,20 +1,25 @@
 -- A session that a call makes gone: what goes out for its streams is in the call's own actions.
-use Rattle.std.specs.Prelude.{[], ◌||◌, ◌≡◌, Bool, List, None, Option, Some, codes, false, if◌then◌else◌, is_some, not, true, unwrap_or, ℕ}
+use Rattle.std.specs.Prelude.{[], ◌&&◌, ◌==◌, ◌||◌, ◌∷◌, ◌≡◌, Bool, List, None, Option, Some, codes, false, if◌then◌else◌, is_some, nat_lt, not, true, unwrap_or, ℕ}
 use Rattle.std.specs.List.{list_any}
 use Rattle.std.proofs.Common.{◌∙◌, ap, refl, subst, sym}
+use Rattle.std.proofs.lemmas.Bool.{eqb-true}
+use Rattle.std.proofs.lemmas.List.Folds.{list_any-append}
 use Rattle.url.specs.Parser.{parse_url}
 use Rattle.wt_meaning.specs.Calls.{rows_of}
+use Rattle.wt_meaning.specs.Findings.{Classified, Finding}
 use Rattle.wt_meaning.specs.Handshakes.{connect_on, head_left, is_refused, lacks_credit, last_begun, poll_rows, rejection, response_to}
-use Rattle.wt_meaning.specs.History.{History, events, is_open, was_finished}
+use Rattle.wt_meaning.specs.History.{History, Pair, events, is_open, was_finished}
 use Rattle.wt_meaning.specs.Lawful.{is_response}
 use Rattle.wt_meaning.specs.Meaning.{own_answer}
-use Rattle.wt_meaning.specs.Moments.{findings}
+use Rattle.wt_meaning.specs.Moments.{findings, keeps}
 use Rattle.wt_meaning.specs.Rows.{first_row}
-use Rattle.wt_meaning.specs.Sends.{session_finish, session_gone_actions}
+use Rattle.wt_meaning.specs.Sends.{admits, session_finish, session_gone_actions}
 use Rattle.wt_meaning.specs.Targets.{target_of}
-use Rattle.wt_meaning.specs.Windows.{gone_in, is_gone, is_number, last_request, named}
+use Rattle.wt_meaning.specs.Windows.{gone_in, is_gone, is_gone_by_call, is_number, last_request, makes_gone, named, streams_in_window}
 use Rattle.wt_message.specs.FixedBytes.{response_bytes}
+use Rattle.wt_promise.proofs.Accepted.{and-left, not-true}
 use Rattle.wt_promise.proofs.Datagrams.{numbered}
+use Rattle.wt_promise.proofs.Grows.{AClassified, AClosed, ADatagram, ADequeued, AFault, ASettings, Adds, Nothing, findings-keep, of-stream-fault}
 use Rattle.wt_promise.proofs.Owed.{has-left, has-right}
 use Rattle.wt_promise.proofs.ResultKept.{APolled, AResponse, Rejecting, is-rejection, rejecting}
 use Rattle.wt_promise.proofs.Tables.{accepts-pass, by-row, connect-passes, fits, fits-own, is_rejected, no-row}
@@ -26,6 +31,7 @@ use Rattle.wt_turn.specs.declared.call.Call.{Call}
 use Rattle.wt_turn.specs.declared.reply.Reply.{Reply}
 use Rattle.wt_turn.specs.declared.turn.Turn.{Turn}
 use Rattle.wt_wire.specs.declared.side.Side.{Side}
+use Rattle.wt_proto.specs.declared.verdict.Verdict.TheVariants as verdicts
 use Rattle.wt_turn.specs.declared.call.Call.TheVariants as calls
 use Rattle.wt_turn.specs.declared.reply.Reply.TheVariants as replies
 use Rattle.wt_turn.specs.declared.turn.Turn.TheVariants as turns
@@ -103,3 +109,39 @@ call-tells test side h (turns.Call call) s o g n t = by call (first_row (rows_of
     by (calls.EndSession name) r e f q = rw e (end-tells test side h name s o (if-open (is_open h) (named h name) q) g t)
     by c r e f q = absurd (cc q)
 call-tells test side h turn s o g n t = absurd (cc n)
+
+-- ---- what a call made gone admits no stream
+
+none-admitted : (side : Side) (h : History) (s k : ℕ) → is_gone_by_call h s ≡ true → (found new : List Finding) → Adds side h found new → list_any (admits s k) new ≡ false
+none-admitted side h s k g found [] Nothing = refl
+none-admitted side h s k g found new (ADequeued j p) = refl
+none-admitted side h s k g found new (ADatagram n t payload c) = refl
+none-admitted side h s k g found new (AClosed t code reason b l) = refl
+none-admitted side h s k g found new (ASettings c) = refl
+none-admitted side h s k g found new (AFault code) = refl
+none-admitted side h s k g found new (AClassified j (verdicts.WebTransport t offset) more p d c w m) = by (keeps h found (verdicts.WebTransport t offset)) (t == s) refl refl
+  where
+    none-more : list_any (admits s k) more ≡ false
+    none-more = ap (list_any (admits s k)) m
+
+    not-both : (a b : Bool) → b ≡ false → ((a && false) || b) ≡ false
+    not-both true b e = e
+    not-both false b e = e
+
+    by : (b same : Bool) → keeps h found (verdicts.WebTransport t offset) ≡ b → (t == s) ≡ same → list_any (admits s k) (Classified j (verdicts.WebTransport t offset) b ∷ more) ≡ false
+    by false same x q = none-more
+    by true false x q = ap (λ (b : Bool). (j == k && b) || list_any (admits s k) more) q ∙ not-both (j == k) (list_any (admits s k) more) none-more
+    by true true x q =
+        let gone : is_gone h found t ≡ true = ap (is_gone h found) (eqb-true t s q) ∙ ap (λ (b : Bool). b || list_any (makes_gone s) found) g in
+        let living : is_gone h found t ≡ false = not-true (is_gone h found t) (and-left (not (is_gone h found t)) (nat_lt (streams_in_window h found t) 16) x) in
+        absurd (let r : true ≡ false = sym gone ∙ living in cc r)
+none-admitted side h s k g found new (AClassified j v more p d c w m) = ap (list_any (admits s k)) m ∙ of-stream-fault (λ (fs : List Finding). list_any (admits s k) fs ≡ false) refl (λ code. refl) found v
+
+pub admits-no-more : (side : Side) (p : Pair) (h : History) (s k : ℕ) → is_gone_by_call (p ∷ h) s ≡ true → list_any (admits s k) (findings side (p ∷ h)) ≡ list_any (admits s k) (findings side h)
+admits-no-more side p h s k g =
+    findings-keep side p h (λ (found : List Finding). list_any (admits s k) found ≡ list_any (admits s k) (findings side h))
+    (λ found new a n e. list_any-append (admits s k) found new ∙ ap (λ (b : Bool). list_any (admits s k) found || b) (none-admitted side (p ∷ h) s k g found new a) ∙ or-false (list_any (admits s k) found) ∙ e) refl
+  where
+    or-false : (b : Bool) → (b || false) ≡ b
+    or-false true = refl
+    or-false false = refl

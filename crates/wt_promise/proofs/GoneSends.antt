@@ -3,11 +3,13 @@ use Rattle.std.specs.Prelude.{[], ◌%◌, ◌*◌, ◌++◌, ◌+◌, ◌/◌, 
 use Rattle.std.specs.List.{list_any}
 use Rattle.std.proofs.Common.{◌∙◌, ap, append_assoc, arith, refl, sym}
 use Rattle.std.proofs.lemmas.Bool.{eq-eqb, eqb-true, ltb-false, ltb-true}
+use Rattle.std.proofs.lemmas.List.{append-nil}
 use Rattle.wt_meaning.specs.Findings.{Classified, Finding, SessionClosed}
 use Rattle.wt_meaning.specs.History.{History, exists, stream_count}
 use Rattle.wt_meaning.specs.Sends.{actions_for, actions_for_all, is_of_session, numbers_from, session_finish, session_gone_actions, stream_gone_actions, stream_ids}
 use Rattle.wt_meaning.specs.Windows.{makes_gone}
 use Rattle.wt_promise.proofs.Owed.{has-left, has-right}
+use Rattle.wt_promise.specs.Promise.{until_gone}
 use Rattle.wt_turn.specs.declared.action.Action.{Action}
 use Rattle.wt_wire.specs.declared.side.Side.{Side}
 use Rattle.wt_proto.specs.declared.verdict.Verdict.TheVariants as verdicts
@@ -80,14 +82,40 @@ gone-sends test side h s seen t (Classified id (verdicts.Request headers offset)
     has-right test (actions.StopOut id 0x10b ∷ []) (session_gone_actions side h seen id) (ap (λ (j : ℕ). list_any test (session_gone_actions side h seen j)) (eqb-true id s e) ∙ t)
 gone-sends test side h s seen t f e = absurd (cc e)
 
--- (of what was seen before, the session's streams stay)
-pub gone-among : (test : Action → Bool) (side : Side) (h : History) (s : ℕ) (found : List Finding) → ((more : List Finding) → list_any test (session_gone_actions side h (found ++ more) s) ≡ true)
-    → (seen new : List Finding) → list_any (makes_gone s) new ≡ true → list_any test (actions_for_all side h (found ++ seen) new) ≡ true
-gone-among test side h s found t seen [] e = absurd (cc e)
-gone-among test side h s found t seen (f ∷ new) e =
-    by (makes_gone s f) refl e (λ r. ap (λ (xs : List Finding). list_any test (actions_for_all side h xs new)) (append_assoc found seen (f ∷ [])) ∙ gone-among test side h s found t (seen ++ f ∷ []) new r)
+-- (of the streams that are its own in front of what makes it gone)
+pub gone-among : (test : Action → Bool) (side : Side) (h : History) (s : ℕ) (seen new : List Finding) → list_any test (session_gone_actions side h (seen ++ until_gone s new) s) ≡ true → list_any (makes_gone s) new ≡ true
+    → list_any test (actions_for_all side h seen new) ≡ true
+gone-among test side h s seen [] t e = absurd (cc e)
+gone-among test side h s seen (f ∷ new) t e = by (makes_gone s f) refl e t (gone-among test side h s (seen ++ f ∷ []) new)
   where
-    by : (b : Bool) → makes_gone s f ≡ b → (b || list_any (makes_gone s) new) ≡ true → (list_any (makes_gone s) new ≡ true → list_any test (actions_for_all side h ((found ++ seen) ++ f ∷ []) new) ≡ true)
-        → list_any test (actions_for_all side h (found ++ seen) (f ∷ new)) ≡ true
-    by true i r later = has-left test (actions_for side h (found ++ seen) f) _ (gone-sends test side h s (found ++ seen) (t seen) f i)
-    by false i r later = has-right test (actions_for side h (found ++ seen) f) _ (later r)
+    by : (b : Bool) → makes_gone s f ≡ b → (b || list_any (makes_gone s) new) ≡ true → list_any test (session_gone_actions side h (seen ++ (if b then [] else f ∷ until_gone s new)) s) ≡ true
+        → (list_any test (session_gone_actions side h ((seen ++ f ∷ []) ++ until_gone s new) s) ≡ true → list_any (makes_gone s) new ≡ true → list_any test (actions_for_all side h (seen ++ f ∷ []) new) ≡ true)
+        → list_any test (actions_for_all side h seen (f ∷ new)) ≡ true
+    by true i r q later = has-left test (actions_for side h seen f) _ (gone-sends test side h s seen (ap (λ (xs : List Finding). list_any test (session_gone_actions side h xs s)) (sym (append-nil seen)) ∙ q) f i)
+    by false i r q later =
+        has-right test (actions_for side h seen f) _ (later (ap (λ (xs : List Finding). list_any test (session_gone_actions side h xs s)) (append_assoc seen (f ∷ []) (until_gone s new)) ∙ q) r)
+
+-- ---- what is found in front of it
+
+-- it is all that was found before, and some of what is new
+pub until-append : (s : ℕ) (found new : List Finding) → list_any (makes_gone s) found ≡ false → until_gone s (found ++ new) ≡ found ++ until_gone s new
+until-append s [] new e = refl
+until-append s (f ∷ found) new e = by (makes_gone s f) e (until-append s found new)
+  where
+    by : (b : Bool) → (b || list_any (makes_gone s) found) ≡ false → (list_any (makes_gone s) found ≡ false → until_gone s (found ++ new) ≡ found ++ until_gone s new)
+        → (if b then [] else f ∷ until_gone s (found ++ new)) ≡ f ∷ (found ++ until_gone s new)
+    by true q again = absurd (cc q)
+    by false q again = ap (λ (xs : List Finding). f ∷ xs) (again q)
+
+-- and no more than what is found
+pub until-any : (test : Finding → Bool) (s : ℕ) (found : List Finding) → list_any test (until_gone s found) ≡ true → list_any test found ≡ true
+until-any test s [] e = absurd (cc e)
+until-any test s (f ∷ found) e = by (makes_gone s f) e (until-any test s found)
+  where
+    by : (b : Bool) → list_any test (if b then [] else f ∷ until_gone s found) ≡ true → (list_any test (until_gone s found) ≡ true → list_any test found ≡ true) → (test f || list_any test found) ≡ true
+    by true q again = absurd (cc q)
+    by false q again = either (test f) q
+      where
+        either : (c : Bool) → (c || list_any test (until_gone s found)) ≡ true → (c || list_any test found) ≡ true
+        either true r = refl
+        either false r = again r

@@ -11,17 +11,17 @@ use Rattle.wt_meaning.specs.History.{History, Pair, actions_out, answers_reset, 
 use Rattle.wt_meaning.specs.Meaning.{next, own_answer, with_pair}
 use Rattle.wt_meaning.specs.Moments.{findings}
 use Rattle.wt_meaning.specs.Rows.{answer}
-use Rattle.wt_meaning.specs.Sends.{action_if, actions_for_all, moment_actions, stream_gone_actions}
+use Rattle.wt_meaning.specs.Sends.{action_if, admits, is_of_session, moment_actions, stream_gone_actions}
 use Rattle.wt_meaning.specs.Windows.{gone_in, is_gone_by_call, is_number, makes_gone}
 use Rattle.wt_promise.proofs.Accepted.{and-left, and-right, or-true}
 use Rattle.wt_promise.proofs.Actions.{AnyPiece, any-next}
-use Rattle.wt_promise.proofs.GoneByCall.{call-tells}
-use Rattle.wt_promise.proofs.GoneSends.{gone-among, in-gone}
+use Rattle.wt_promise.proofs.GoneByCall.{admits-no-more, call-tells}
+use Rattle.wt_promise.proofs.GoneSends.{gone-among, in-gone, until-any, until-append}
 use Rattle.wt_promise.proofs.Grows.{findings-add, news}
 use Rattle.wt_promise.proofs.Owed.{has-right, moment-has}
 use Rattle.wt_promise.proofs.Stays.{any-newest, exists-stays, of-session-stays}
 use Rattle.wt_promise.proofs.Tables.{by-row, no-row}
-use Rattle.wt_promise.specs.Promise.{GoneIsTold, StreamTold, ends_sending, leaves_open, resets_with, stops_with}
+use Rattle.wt_promise.specs.Promise.{GoneIsTold, StreamTold, ends_sending, leaves_open, resets_with, stops_with, until_gone}
 use Rattle.wt_seam_spec.specs.Reports.{end_of, is_running}
 use Rattle.wt_seam_spec.specs.Sent.{finishes}
 use Rattle.wt_seam_spec.specs.Streams.{local_uni, peer_uni}
@@ -162,6 +162,20 @@ gone-told side h turn s k o way g later m = by (is_number s (gone_in h turn own.
     runs e = let f = and-left (can_receive side h k && is_running (end_of (events (p ∷ h)) k)) (not (is_given_up (p ∷ h) k)) e in
         (and-left (can_receive side h k) (is_running (end_of (events (p ∷ h)) k)) f, and-right (can_receive side h k) (is_running (end_of (events (p ∷ h)) k)) f, and-right (can_receive side h k && is_running (end_of (events (p ∷ h)) k)) (not (is_given_up (p ∷ h) k)) e)
 
+    -- its streams, where a call makes it gone
+    before-call : is_number s (gone_in h turn own.reply) ≡ true → is_of_session h (findings side h) s k ≡ true
+    before-call n = by-either (list_any (admits s k) (until_gone s (findings side (with_pair h turn a)))) refl m
+      where
+        opened : Bool
+        opened = is_of_session h [] s k
+
+        by-either : (b : Bool) → list_any (admits s k) (until_gone s (findings side (with_pair h turn a))) ≡ b → (b || opened) ≡ true → (list_any (admits s k) (findings side h) || opened) ≡ true
+        by-either true i r =
+            let mine : list_any (admits s k) (findings side h) ≡ true
+            = sym (admits-no-more side (record { turn = turn; answer = a }) h s k (ap (λ (b : Bool). b || is_gone_by_call h s) n)) ∙ until-any (admits s k) s (findings side (with_pair h turn a)) i in
+            ap (λ (b : Bool). b || opened) mine
+        by-either false i r = ap (λ (b : Bool). list_any (admits s k) (findings side h) || b) r ∙ or-true (list_any (admits s k) (findings side h))
+
     -- by a call
     told-by-call : is_number s (gone_in h turn own.reply) ≡ true → StreamTold side h (with_pair h turn a) own a k
     told-by-call n = record { receiving = receiving; sending = sending }
@@ -172,7 +186,7 @@ gone-told side h turn s k o way g later m = by (is_number s (gone_in h turn own.
         receiving : (can_receive side h k && is_running (end_of (events (with_pair h turn a)) k) && not (is_given_up (with_pair h turn a) k)) ≡ true → list_any (stops_with k 0x170d7b68) a.actions ≡ true
         receiving e = let r = runs e in
             in-answer (stops_with k 0x170d7b68) (λ i x y. refl) (call-tells (stops_with k 0x170d7b68) side h turn s o g n
-            (in-gone (stops_with k 0x170d7b68) side h (findings side h) s k (and-left (exists side h k) _ r.0) m
+            (in-gone (stops_with k 0x170d7b68) side h (findings side h) s k (and-left (exists side h k) _ r.0) (before-call n)
             (stops-told side h k (both (can_receive side h k && is_running (end_of (events h) k)) (not (is_given_up h k))
             (both (can_receive side h k) (is_running (end_of (events h) k)) r.0 (ap (λ es. is_running (end_of es k)) (sym same-events) ∙ r.1))
             (ap not (or-last (answers_stop k turn own.reply) (is_given_up h k) (not-true (is_given_up (p ∷ h) k) r.2)))))))
@@ -181,7 +195,7 @@ gone-told side h turn s k o way g later m = by (is_number s (gone_in h turn own.
         sending e =
             ap (λ (b : Bool). b || list_any (ends_sending k) own.actions) (in-answer (resets_with k 0x170d7b68) (λ i x y. refl) (call-tells (resets_with k 0x170d7b68) side h turn s o g n
             (in-gone (resets_with k 0x170d7b68) side h (findings side h) s k
-            (and-left (exists side h k) _ (and-left (can_send side h k) _ (and-left (can_send side h k && not (was_finished h k)) _ e))) m (resets-told side h k e))))
+            (and-left (exists side h k) _ (and-left (can_send side h k) _ (and-left (can_send side h k && not (was_finished h k)) _ e))) (before-call n) (resets-told side h k e))))
 
     -- by what is found
     told-by-finding : leaves_open side h turn ≡ true → is_number s (gone_in h turn own.reply) ≡ false → StreamTold side h (with_pair h turn a) own a k
@@ -193,19 +207,28 @@ gone-told side h turn s k o way g later m = by (is_number s (gone_in h turn own.
         grown : findings side (with_pair h turn a) ≡ findings side h ++ new
         grown = findings-add side (record { turn = turn; answer = a }) h
 
+        none-before : list_any (makes_gone s) (findings side h) ≡ false
+        none-before = or-last (is_gone_by_call h s) (list_any (makes_gone s) (findings side h)) g
+
         found-gone : list_any (makes_gone s) new ≡ true
         found-gone =
             or-else (list_any (makes_gone s) (findings side h)) (list_any (makes_gone s) new)
             (sym (list_any-append (makes_gone s) (findings side h) new) ∙ ap (list_any (makes_gone s)) (sym grown) ∙ or-else (is_number s (gone_in h turn own.reply) || is_gone_by_call h s) _ later
             (rw (n, or-first (is_gone_by_call h s) _ g) refl))
-            (or-last (is_gone_by_call h s) (list_any (makes_gone s) (findings side h)) g)
+            none-before
+
+        front : List Finding
+        front = findings side h ++ until_gone s new
+
+        in-front : is_of_session (p ∷ h) front s k ≡ true
+        in-front =
+            ap (λ (xs : List Finding). is_of_session (p ∷ h) xs s k) (sym (append-nil front))
+            ∙ of-session-stays p h front [] s k (ap (λ (xs : List Finding). is_of_session h xs s k) (sym (ap (until_gone s) grown ∙ until-append s (findings side h) new none-before)) ∙ m)
 
         told : (test : Action → Bool) → AnyPiece test → exists side h k ≡ true → list_any test (stream_gone_actions side (p ∷ h) k) ≡ true → list_any test a.actions ≡ true
         told test any x t =
             moment-has test any side h turn new l grown
-            (ap (λ (xs : List Finding). list_any test (actions_for_all side (p ∷ h) xs new)) (sym (append-nil (findings side h)))
-            ∙ gone-among test side (p ∷ h) s (findings side h)
-            (λ (more : List Finding). in-gone test side (p ∷ h) (findings side h ++ more) s k (exists-stays side p h k x) (of-session-stays p h (findings side h) more s k m) t) [] new found-gone)
+            (gone-among test side (p ∷ h) s (findings side h) new (in-gone test side (p ∷ h) front s k (exists-stays side p h k x) in-front t) found-gone)
 
         receiving : (can_receive side h k && is_running (end_of (events (with_pair h turn a)) k) && not (is_given_up (with_pair h turn a) k)) ≡ true → list_any (stops_with k 0x170d7b68) a.actions ≡ true
         receiving e = let r = runs e in let x = and-left (exists side h k) (not (k % 4 == local_uni side)) r.0 in

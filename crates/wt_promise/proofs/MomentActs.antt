@@ -7,7 +7,7 @@ use Rattle.std.proofs.lemmas.Bool.{eq-eqb, eqb-true}
 use Rattle.std.proofs.lemmas.List.{append-nil}
 use Rattle.std.proofs.lemmas.List.Folds.{list_any-append}
 use Rattle.wt_meaning.specs.Findings.{Classified, Faulted, Finding, SessionClosed}
-use Rattle.wt_meaning.specs.History.{History, Pair, events, is_open, is_reset_of}
+use Rattle.wt_meaning.specs.History.{History, Pair, events, is_open, is_reset, is_reset_of}
 use Rattle.wt_meaning.specs.Moments.{findings, stream_fault}
 use Rattle.wt_meaning.specs.Sends.{actions_for, actions_for_all, admits, control_actions, is_of_session, moment_actions, session_finish, session_gone_actions}
 use Rattle.wt_meaning.specs.Windows.{is_established, is_gone_by_call, lives, makes_gone}
@@ -15,7 +15,7 @@ use Rattle.wt_promise.proofs.Accepted.{or-true}
 use Rattle.wt_promise.proofs.Actions.{none-control, none-if}
 use Rattle.wt_promise.proofs.Flow.{clash}
 use Rattle.wt_promise.proofs.Grows.{AClassified, AClosed, ADatagram, ADequeued, AFault, ASettings, Adds, Nothing, findings-add, findings-keep, news, news-dropped, of-stream-fault}
-use Rattle.wt_promise.proofs.OwnActs.{gone-sends-not, reset-of-session}
+use Rattle.wt_promise.proofs.OwnActs.{gone-sends-not, reset-new, reset-of-session}
 use Rattle.wt_promise.specs.Promise.{sends_on}
 use Rattle.wt_proto.specs.declared.verdict.Verdict.{Verdict}
 use Rattle.wt_seam_spec.specs.Reports.{stop_of}
@@ -83,7 +83,7 @@ all-sends side h k before (f ∷ new) e =
 
 pub data NewReset (h : History) (k : ℕ) (all new : List Finding) : Type 0 where
   Closing : list_any (closes_session k) new ≡ true → NewReset h k all new
-  Going : (s : ℕ) → list_any (makes_gone s) new ≡ true → is_of_session h all s k ≡ true → NewReset h k all new
+  Going : (s : ℕ) → list_any (makes_gone s) new ≡ true → is_of_session h all s k ≡ true → is_reset h k ≡ false → NewReset h k all new
 
 of-more : (h : History) (found later : List Finding) (s k : ℕ) → is_of_session h found s k ≡ true → is_of_session h (found ++ later) s k ≡ true
 of-more h found later s k e = ap (λ (b : Bool). b || opened) (list_any-append (admits s k) found later) ∙ by (list_any (admits s k) found) (list_any (admits s k) later) opened e
@@ -100,7 +100,7 @@ found-resets : (side : Side) (h : History) (k : ℕ) (found : List Finding) (f :
 found-resets side h k found f later e = by f e refl
   where
     gone : (s : ℕ) → makes_gone s f ≡ true → list_any (is_reset_of k) (session_gone_actions side h found s) ≡ true → NewReset h k (found ++ f ∷ later) (f ∷ later)
-    gone s m x = Going s (ap (λ (b : Bool). b || list_any (makes_gone s) later) m) (of-more h found (f ∷ later) s k (reset-of-session side h found s k x))
+    gone s m x = Going s (ap (λ (b : Bool). b || list_any (makes_gone s) later) m) (of-more h found (f ∷ later) s k (reset-of-session side h found s k x)) (reset-new side h found s k x)
 
     same : (n : ℕ) → (n == n) ≡ true
     same n = eq-eqb n n refl
@@ -127,8 +127,8 @@ all-resets side h k before (f ∷ new) e =
   where
     later : NewReset h k ((before ++ f ∷ []) ++ new) new → NewReset h k (before ++ f ∷ new) (f ∷ new)
     later (Closing c) = Closing (ap (λ (b : Bool). closes_session k f || b) c ∙ or-true (closes_session k f))
-    later (Going s m o) =
-        Going s (ap (λ (b : Bool). makes_gone s f || b) m ∙ or-true (makes_gone s f)) (ap (λ (xs : List Finding). is_of_session h xs s k) (sym (append_assoc before (f ∷ []) new)) ∙ o)
+    later (Going s m o n) =
+        Going s (ap (λ (b : Bool). makes_gone s f || b) m ∙ or-true (makes_gone s f)) (ap (λ (xs : List Finding). is_of_session h xs s k) (sym (append_assoc before (f ∷ []) new)) ∙ o) n
 
 -- ---- a moment
 

@@ -102,44 +102,43 @@ own-kind : (side : Side) → opens (local_uni side) (actions.Opened (local_uni s
 own-kind Client = refl
 own-kind Server = refl
 
--- it is open wherever the connection is, and the peer allows one
+-- it is open after each turn that leaves the connection open but for what is found, where the peer allows one
+pub opened-at : (side : Side) (h : History) (turn : Turn) → is_open (with_pair h turn (own_answer side h turn)) ≡ true → nat_le 1 (unis_allowed (events (with_pair h turn (next side h turn)))) ≡ true
+    → (local_count (actions_out (with_pair h turn (next side h turn))) (local_uni side) == 0) ≡ false
+opened-at side h turn o u = not-zero (local_count (actions_out (with_pair h turn (next side h turn))) (local_uni side)) (by (local_count (actions_out (with_pair h turn own)) (local_uni side) == 0) refl)
+  where
+    own : Answer
+    own = own_answer side h turn
+
+    q : Pair
+    q = record { turn = turn; answer = own }
+
+    all : local_count (actions_out (with_pair h turn (next side h turn))) (local_uni side) ≡ opened (local_uni side) own.actions + opened (local_uni side) (moment_actions side (q ∷ h)) + local_count (actions_out h) (local_uni side)
+    all = opened-all side h turn (local_uni side)
+
+    before : local_count (actions_out (q ∷ h)) (local_uni side) ≡ opened (local_uni side) own.actions + local_count (actions_out h) (local_uni side)
+    before = opened-out (local_uni side) own.actions (actions_out h)
+
+    by : (b : Bool) → (local_count (actions_out (q ∷ h)) (local_uni side) == 0) ≡ b → 1 ≤ local_count (actions_out (with_pair h turn (next side h turn))) (local_uni side)
+    by false e = let n = at-least-one (local_count (actions_out (q ∷ h)) (local_uni side)) e in omega (arith, n, all, before)
+    by true e =
+        let m = opened-append (local_uni side) (action_if (local_count (actions_out (q ∷ h)) (local_uni side) == 0) (actions.Opened (local_uni side)) ++ send_of (local_uni side) (take (credit_left (q ∷ h) (local_uni side)) (drop (length (out (q ∷ h) (local_uni side))) local_control_bytes)))
+        (actions_for_all side (q ∷ h) (findings side h) (drop (length (findings side h)) (findings side (q ∷ h)))) in
+        let c = opened-append (local_uni side) (action_if (local_count (actions_out (q ∷ h)) (local_uni side) == 0) (actions.Opened (local_uni side)))
+        (send_of (local_uni side) (take (credit_left (q ∷ h) (local_uni side)) (drop (length (out (q ∷ h) (local_uni side))) local_control_bytes))) in
+        let first : opened (local_uni side) (action_if (local_count (actions_out (q ∷ h)) (local_uni side) == 0) (actions.Opened (local_uni side))) ≡ 1
+        = ap (λ (x : Bool). opened (local_uni side) (action_if x (actions.Opened (local_uni side)))) e ∙ ap (λ (x : Bool). one_more_if x 0) (own-kind side) in
+        let now = ap (opened (local_uni side)) (moment-open side q h o u) in
+        omega (arith, all, m, c, first, now)
+
+-- so wherever the connection is open
 pub control-opened : (side : Side) (h : History) → IsHistory side h → is_open h ≡ true → nat_le 1 (unis_allowed (events h)) ≡ true → (local_count (actions_out h) (local_uni side) == 0) ≡ false
 control-opened side [] i o u = absurd (cc u)
 control-opened side (p ∷ h) i o u =
-    subst (λ (x : Pair). (local_count (actions_out (x ∷ h)) (local_uni side) == 0) ≡ false) same
-    (not-zero (local_count (actions_out (with_pair h p.turn (next side h p.turn))) (local_uni side))
-    (count p.turn (subst (λ (x : Pair). is_open (x ∷ h) ≡ true) (sym same) o) u))
+    subst (λ (x : Pair). (local_count (actions_out (x ∷ h)) (local_uni side) == 0) ≡ false) same (opened-at side h p.turn (open-own side h p.turn (subst (λ (x : Pair). is_open (x ∷ h) ≡ true) (sym same) o)) u)
   where
     same : pair-of p.turn (next side h p.turn) ≡ p
     same = pair-is p (next side h p.turn) i.1
-
-    count : (turn : Turn) → is_open (with_pair h turn (next side h turn)) ≡ true → nat_le 1 (unis_allowed (events (with_pair h turn (next side h turn)))) ≡ true
-        → 1 ≤ local_count (actions_out (with_pair h turn (next side h turn))) (local_uni side)
-    count turn o u = by (local_count (actions_out (with_pair h turn own)) (local_uni side) == 0) refl
-      where
-        own : Answer
-        own = own_answer side h turn
-
-        q : Pair
-        q = record { turn = turn; answer = own }
-
-        all : local_count (actions_out (with_pair h turn (next side h turn))) (local_uni side) ≡ opened (local_uni side) own.actions + opened (local_uni side) (moment_actions side (q ∷ h)) + local_count (actions_out h) (local_uni side)
-        all = opened-all side h turn (local_uni side)
-
-        before : local_count (actions_out (q ∷ h)) (local_uni side) ≡ opened (local_uni side) own.actions + local_count (actions_out h) (local_uni side)
-        before = opened-out (local_uni side) own.actions (actions_out h)
-
-        by : (b : Bool) → (local_count (actions_out (q ∷ h)) (local_uni side) == 0) ≡ b → 1 ≤ local_count (actions_out (with_pair h turn (next side h turn))) (local_uni side)
-        by false e = let n = at-least-one (local_count (actions_out (q ∷ h)) (local_uni side)) e in omega (arith, n, all, before)
-        by true e =
-            let m = opened-append (local_uni side) (action_if (local_count (actions_out (q ∷ h)) (local_uni side) == 0) (actions.Opened (local_uni side)) ++ send_of (local_uni side) (take (credit_left (q ∷ h) (local_uni side)) (drop (length (out (q ∷ h) (local_uni side))) local_control_bytes)))
-            (actions_for_all side (q ∷ h) (findings side h) (drop (length (findings side h)) (findings side (q ∷ h)))) in
-            let c = opened-append (local_uni side) (action_if (local_count (actions_out (q ∷ h)) (local_uni side) == 0) (actions.Opened (local_uni side)))
-            (send_of (local_uni side) (take (credit_left (q ∷ h) (local_uni side)) (drop (length (out (q ∷ h) (local_uni side))) local_control_bytes))) in
-            let first : opened (local_uni side) (action_if (local_count (actions_out (q ∷ h)) (local_uni side) == 0) (actions.Opened (local_uni side))) ≡ 1
-            = ap (λ (x : Bool). opened (local_uni side) (action_if x (actions.Opened (local_uni side)))) e ∙ ap (λ (x : Bool). one_more_if x 0) (own-kind side) in
-            let now = ap (opened (local_uni side)) (moment-open side q h (open-own side h turn o) u) in
-            omega (arith, all, m, c, first, now)
 
 -- ---- a session's stream that is opened
 

@@ -58,6 +58,7 @@ pub data ResetsWhy (side : Side) (h : History) (k : ℕ) (turn : Turn) (r : Repl
 pub record OwnActs (side : Side) (h : History) (k : ℕ) (turn : Turn) (a : Answer) : Type 0 where
   pub sends : list_any (sends_on k) a.actions ≡ true → SendsWhy side h k turn
   pub resets : list_any (is_reset_of k) a.actions ≡ true → ResetsWhy side h k turn a.reply
+  pub once : list_any (is_reset_of k) a.actions ≡ true → is_reset h k ≡ false
 
 -- ---- rows
 
@@ -66,6 +67,7 @@ pub neither : (side : Side) (h : History) (k : ℕ) (turn : Turn) (r : Reply) (o
 neither side h k turn r own s z = record {
   sends = λ e. absurd (clash (list_any (sends_on k) own) e s);
   resets = λ e. absurd (clash (list_any (is_reset_of k) own) e z);
+  once = λ e. absurd (clash (list_any (is_reset_of k) own) e z);
 }
 
 pub plain : (side : Side) (h : History) (k : ℕ) (turn : Turn) (c : Bool) (r : Reply) (own : List Action) (rows : List Row) → list_any (sends_on k) own ≡ false → list_any (is_reset_of k) own ≡ false
@@ -91,6 +93,7 @@ pub on-stream : (side : Side) (h : History) (k id : ℕ) (turn : Turn) (r : Repl
 on-stream side h k id turn r own other z why = record {
   sends = λ e. by (id == k) refl e;
   resets = λ e. absurd (clash (list_any (is_reset_of k) own) e z);
+  once = λ e. absurd (clash (list_any (is_reset_of k) own) e z);
 }
   where
     by : (b : Bool) → (id == k) ≡ b → list_any (sends_on k) own ≡ true → SendsWhy side h k turn
@@ -124,25 +127,44 @@ one-reset side h k j e = by (can_receive side h j && is_running (end_of (events 
     by true false q = absurd (cc q)
     by false false q = absurd (cc q)
 
-among-mine : (side : Side) (h : History) (k : ℕ) (mine : ℕ → Bool) (ids : List ℕ) → list_any (is_reset_of k) (flat_map (stream_gone_actions side h) (filter mine ids)) ≡ true → mine k ≡ true
-among-mine side h k mine [] e = absurd (cc e)
-among-mine side h k mine (j ∷ ids) e = by (mine j) refl e (among-mine side h k mine ids)
+-- and it wasn't reset before
+one-unreset : (side : Side) (h : History) (k j : ℕ) → list_any (is_reset_of k) (stream_gone_actions side h j) ≡ true → is_reset h j ≡ false
+one-unreset side h k j e =
+    by (can_receive side h j && is_running (end_of (events h) j) && not (is_given_up h j)) (can_send side h j && not (was_finished h j)) (is_reset h j) e
   where
-    either : (a b : Bool) → (a || b) ≡ true → (a ≡ true → mine k ≡ true) → (b ≡ true → mine k ≡ true) → mine k ≡ true
+    by : (a b c : Bool) → list_any (is_reset_of k) (action_if a (actions.StopOut j 0x170d7b68) ++ action_if (b && not c) (actions.ResetOut j 0x170d7b68)) ≡ true → c ≡ false
+    by a b false q = refl
+    by true true true q = absurd (cc q)
+    by true false true q = absurd (cc q)
+    by false true true q = absurd (cc q)
+    by false false true q = absurd (cc q)
+
+-- some stream of these ids has the reset
+among-ids : {P : Type 0} (side : Side) (h : History) (k : ℕ) (mine : ℕ → Bool) → ((j : ℕ) → mine j ≡ true → list_any (is_reset_of k) (stream_gone_actions side h j) ≡ true → P) → (ids : List ℕ)
+    → list_any (is_reset_of k) (flat_map (stream_gone_actions side h) (filter mine ids)) ≡ true → P
+among-ids side h k mine f [] e = absurd (cc e)
+among-ids {P = P} side h k mine f (j ∷ ids) e = by (mine j) refl e (among-ids {P = P} side h k mine f ids)
+  where
+    either : (a b : Bool) → (a || b) ≡ true → (a ≡ true → P) → (b ≡ true → P) → P
     either true b q f g = f refl
     either false b q f g = g q
 
     by : (b : Bool) → mine j ≡ b → list_any (is_reset_of k) (flat_map (stream_gone_actions side h) (if b then j ∷ filter mine ids else filter mine ids)) ≡ true
-        → (list_any (is_reset_of k) (flat_map (stream_gone_actions side h) (filter mine ids)) ≡ true → mine k ≡ true) → mine k ≡ true
+        → (list_any (is_reset_of k) (flat_map (stream_gone_actions side h) (filter mine ids)) ≡ true → P) → P
     by false m q again = again q
     by true m q again =
         either (list_any (is_reset_of k) (stream_gone_actions side h j)) (list_any (is_reset_of k) (flat_map (stream_gone_actions side h) (filter mine ids)))
-        (sym (list_any-append (is_reset_of k) (stream_gone_actions side h j) (flat_map (stream_gone_actions side h) (filter mine ids))) ∙ q)
-        (λ x. ap mine (sym (eqb-true j k (one-reset side h k j x))) ∙ m) again
+        (sym (list_any-append (is_reset_of k) (stream_gone_actions side h j) (flat_map (stream_gone_actions side h) (filter mine ids))) ∙ q) (f j m) again
 
 -- a stream that is reset so is one of the session's
 pub reset-of-session : (side : Side) (h : History) (found : List Finding) (s k : ℕ) → list_any (is_reset_of k) (session_gone_actions side h found s) ≡ true → is_of_session h found s k ≡ true
-reset-of-session side h found s k e = among-mine side h k (is_of_session h found s) (stream_ids side h) e
+reset-of-session side h found s k e =
+    among-ids {P = is_of_session h found s k ≡ true} side h k (is_of_session h found s) (λ j m x. ap (is_of_session h found s) (sym (eqb-true j k (one-reset side h k j x))) ∙ m) (stream_ids side h) e
+
+-- and wasn't reset before
+pub reset-new : (side : Side) (h : History) (found : List Finding) (s k : ℕ) → list_any (is_reset_of k) (session_gone_actions side h found s) ≡ true → is_reset h k ≡ false
+reset-new side h found s k e =
+    among-ids {P = is_reset h k ≡ false} side h k (is_of_session h found s) (λ j m x. ap (is_reset h) (sym (eqb-true j k (one-reset side h k j x))) ∙ one-unreset side h k j x) (stream_ids side h) e
 
 pub gone-sends-not : (side : Side) (h : History) (found : List Finding) (s k : ℕ) → list_any (sends_on k) (session_gone_actions side h found s) ≡ false
 gone-sends-not side h found s k = none-gone (sends_on k) (λ j c. refl) (λ j c. refl) side h found s
@@ -209,6 +231,7 @@ rejects-act side h k turn c digits p g i s l =
     rejected more a b = record {
       sends = λ e. absurd (clash (list_any (sends_on k) (gone ++ more)) e (none-append (sends_on k) gone more (gone-sends-not side h (findings side h) r k) a));
       resets = λ e. GoneBy s (ap (λ (j : ℕ). is_of_session h (findings side h) j k) (sym same) ∙ reset-of-session side h (findings side h) r k (front e)) (ap (is_number s) l ∙ eq-eqb s s refl);
+      once = λ e. reset-new side h (findings side h) r k (front e);
     }
       where
         front : list_any (is_reset_of k) (gone ++ more) ≡ true → list_any (is_reset_of k) gone ≡ true

@@ -8,7 +8,7 @@ use Rattle.url.specs.Parser.{parse_url}
 use Rattle.wt_meaning.specs.Calls.{being_opened, first_datagram, first_waiting, is_living, open_stream, opening_for, refused_by, rows_of, stream_header}
 use Rattle.wt_meaning.specs.Halves.{has_receiving, has_sending, is_closed, is_done, reset_code, sent_now, stopped_rows, write_rows}
 use Rattle.wt_meaning.specs.Handshakes.{begin_rows, head_left, is_nothing, is_refused, lacks_credit, last_begun, next_request, send}
-use Rattle.wt_meaning.specs.History.{History, events, is_handed_out, is_open, is_reset_of, may_open, next_id}
+use Rattle.wt_meaning.specs.History.{History, events, is_handed_out, is_open, is_reset, is_reset_of, may_open, next_id, was_finished}
 use Rattle.wt_meaning.specs.Lawful.{is_lawful}
 use Rattle.wt_meaning.specs.Meaning.{own_answer}
 use Rattle.wt_meaning.specs.Moments.{findings}
@@ -20,10 +20,10 @@ use Rattle.wt_message.specs.Datagram.{datagram_bytes}
 use Rattle.wt_promise.proofs.Accepted.{and-left, and-right, not-true}
 use Rattle.wt_promise.proofs.Actions.{none-if}
 use Rattle.wt_promise.proofs.Flow.{clash}
-use Rattle.wt_promise.proofs.OwnActs.{Ends, GoneBy, Held, Opens, OwnActs, ResetsWhy, Writes, accepts-act, done, gone-sends-not, neither, of-half, of-session, on-stream, plain, plain-value, polls-act, rejects-act, reset-of-session, response-request, sends-no-reset, sends-other}
+use Rattle.wt_promise.proofs.OwnActs.{Ends, GoneBy, Held, Opens, OwnActs, Writes, accepts-act, done, gone-sends-not, neither, of-half, of-session, on-stream, plain, plain-value, polls-act, rejects-act, reset-new, reset-of-session, response-request, sends-no-reset, sends-other}
 use Rattle.wt_promise.proofs.Tables.{OfRows, by-row}
 use Rattle.wt_promise.specs.Promise.{IsHistory, sends_on}
-use Rattle.wt_seam_spec.specs.Reports.{datagram_fact, end_of, stop_of}
+use Rattle.wt_seam_spec.specs.Reports.{datagram_fact, end_of, is_acknowledged, stop_of}
 use Rattle.wt_seam_spec.specs.Streams.{local_bi, local_uni, peer_bi, peer_uni}
 use Rattle.wt_turn.specs.declared.action.Action.{Action}
 use Rattle.wt_turn.specs.declared.call.Call.{Call}
@@ -115,26 +115,36 @@ ended-acts side h k name s m = by (is_open h) (is_living side h s) refl refl
         of true q c x = eqb-true s k q
         of false q c x = absurd (clash (list_any (sends_on k) (action_if c (actions.Finish s))) x (none-if (sends_on k) c (actions.Finish s) q))
 
+    of-gone : list_any (is_reset_of k) (finish ++ gone) ≡ true → list_any (is_reset_of k) gone ≡ true
+    of-gone e = last (list_any (is_reset_of k) finish) (list_any (is_reset_of k) gone) (sym (list_any-append (is_reset_of k) finish gone) ∙ e) (none-if (is_reset_of k) (not (is_some (stop_of (events h) s))) (actions.Finish s) refl)
+
     by : (o l : Bool) → is_open h ≡ o → is_living side h s ≡ l → OwnActs side h k turn (answer replies.Done (if o && l then finish ++ gone else []))
     by false l p q = neither side h k turn replies.Done [] refl refl
     by true false p q = neither side h k turn replies.Done [] refl refl
     by true true p q = record {
       sends = λ e. Ends (ap (is_living side h) (sym (finishes-this (first (list_any (sends_on k) finish) (list_any (sends_on k) gone) (sym (list_any-append (sends_on k) finish gone) ∙ e) (gone-sends-not side h (findings side h) s k)))) ∙ q);
-      resets = λ e. GoneBy s (reset-of-session side h (findings side h) s k
-          (last (list_any (is_reset_of k) finish) (list_any (is_reset_of k) gone) (sym (list_any-append (is_reset_of k) finish gone) ∙ e) (none-if (is_reset_of k) (not (is_some (stop_of (events h) s))) (actions.Finish s) refl)))
-          (ap (λ (b : Bool). is_number s (if b then named h name else None)) p ∙ ap (is_number s) m ∙ eq-eqb s s refl);
+      resets = λ e. GoneBy s (reset-of-session side h (findings side h) s k (of-gone e)) (ap (λ (b : Bool). is_number s (if b then named h name else None)) p ∙ ap (is_number s) m ∙ eq-eqb s s refl);
+      once = λ e. reset-new side h (findings side h) s k (of-gone e);
     }
 
 -- a reset
-reset-acts : (side : Side) (h : History) (k id code : ℕ) → is_handed_out h id ≡ true → OwnActs side h k (turns.Call (calls.ResetSend id code)) (answer replies.Done (action_if (is_open h) (actions.ResetOut id code)))
-reset-acts side h k id code held = record {
+reset-acts : (side : Side) (h : History) (k id code : ℕ) → is_handed_out h id ≡ true → is_done h id ≡ false → OwnActs side h k (turns.Call (calls.ResetSend id code)) (answer replies.Done (action_if (is_open h) (actions.ResetOut id code)))
+reset-acts side h k id code held n = record {
   sends = λ e. absurd (clash (list_any (sends_on k) (action_if (is_open h) (actions.ResetOut id code))) e (none-if (sends_on k) (is_open h) (actions.ResetOut id code) refl));
-  resets = λ e. by (id == k) refl e;
+  resets = λ e. Held (ap (is_handed_out h) (sym (this e)) ∙ held);
+  once = λ e. ap (is_reset h) (sym (this e)) ∙ left (is_reset h id) (was_finished h id && is_acknowledged (events h) id) n;
 }
   where
-    by : (b : Bool) → (id == k) ≡ b → list_any (is_reset_of k) (action_if (is_open h) (actions.ResetOut id code)) ≡ true → ResetsWhy side h k (turns.Call (calls.ResetSend id code)) replies.Done
-    by true q e = Held (ap (is_handed_out h) (sym (eqb-true id k q)) ∙ held)
-    by false q e = absurd (clash (list_any (is_reset_of k) (action_if (is_open h) (actions.ResetOut id code))) e (none-if (is_reset_of k) (is_open h) (actions.ResetOut id code) q))
+    left : (a b : Bool) → (a || b) ≡ false → a ≡ false
+    left true b q = q
+    left false b q = refl
+
+    this : list_any (is_reset_of k) (action_if (is_open h) (actions.ResetOut id code)) ≡ true → id ≡ k
+    this e = by (id == k) refl
+      where
+        by : (b : Bool) → (id == k) ≡ b → id ≡ k
+        by true q = eqb-true id k q
+        by false q = absurd (clash (list_any (is_reset_of k) (action_if (is_open h) (actions.ResetOut id code))) e (none-if (is_reset_of k) (is_open h) (actions.ResetOut id code) q))
 
 -- ---- every call
 
@@ -196,9 +206,9 @@ own-call side h k (calls.SetPriority id p) i l =
     of-half side h k (turns.Call (calls.SetPriority id p)) (has_sending side h id) _ (λ has. plain side h k (turns.Call (calls.SetPriority id p)) true replies.Done [] [] refl refl (done side h k (turns.Call (calls.SetPriority id p))))
 own-call side h k (calls.ResetSend id code) i l =
     of-half side h k (turns.Call (calls.ResetSend id code)) (has_sending side h id) _
-    (λ has. plain side h k (turns.Call (calls.ResetSend id code)) (is_done h id) replies.ClosedStream [] _ refl refl
-    (by-row (OwnActs side h k (turns.Call (calls.ResetSend id code))) true replies.Done (action_if (is_open h) (actions.ResetOut id code)) []
-    (λ q. reset-acts side h k id code (and-left (is_handed_out h id) _ has)) (λ q. done side h k (turns.Call (calls.ResetSend id code)))))
+    (λ has. by-row (OwnActs side h k (turns.Call (calls.ResetSend id code))) (is_done h id) replies.ClosedStream [] _ (λ n. neither side h k (turns.Call (calls.ResetSend id code)) replies.ClosedStream [] refl refl)
+    (λ n. by-row (OwnActs side h k (turns.Call (calls.ResetSend id code))) true replies.Done (action_if (is_open h) (actions.ResetOut id code)) []
+    (λ q. reset-acts side h k id code (and-left (is_handed_out h id) _ has) n) (λ q. done side h k (turns.Call (calls.ResetSend id code)))))
 own-call side h k (calls.Read id size) i l =
     of-half side h k (turns.Call (calls.Read id size)) (has_receiving side h id) _
     (λ has. plain side h k (turns.Call (calls.Read id size)) _ _ [] _ refl refl (plain side h k (turns.Call (calls.Read id size)) _ _ [] _ refl refl (plain side h k (turns.Call (calls.Read id size)) _ _ [] _ refl refl

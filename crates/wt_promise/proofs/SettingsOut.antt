@@ -1,4 +1,4 @@
--- This end's control stream is open and has as much of its bytes as credit allows, wherever the connection is open and the peer allows it.
+-- This end's control stream is open and has as much of its bytes as credit allows, after each turn that leaves the connection open but for what is found.
 use Rattle.std.specs.Prelude.{[], ◌&&◌, ◌++◌, ◌+◌, ◌-◌, ◌==◌, ◌^◌, ◌||◌, ◌∷◌, ◌≡◌, ◌≤◌, Bool, List, None, Option, Some, drop, false, if◌then◌else◌, length, nat_le, nat_lt, not, suc, take, true, unwrap_or, zero, ℕ}
 use Rattle.std.specs.Option.{option_or}
 use Rattle.std.proofs.Common.{◌∙◌, ap, arith, length-append, refl, subst, sym}
@@ -14,9 +14,9 @@ use Rattle.wt_promise.proofs.Accepted.{and-left, and-right}
 use Rattle.wt_promise.proofs.BytesOut.{bytes-append, bytes_on, none-on, out-add, quiet-all}
 use Rattle.wt_promise.proofs.ControlKept.{next-bytes, own-control}
 use Rattle.wt_promise.proofs.Flow.{take-on}
-use Rattle.wt_promise.proofs.Opened.{control-opened, moment-open, open-before, open-own, pair-is}
+use Rattle.wt_promise.proofs.Opened.{moment-open, open-before, opened-at, pair-is}
 use Rattle.wt_promise.proofs.Sent.{front-bytes, if-bytes, send-bytes}
-use Rattle.wt_promise.specs.Promise.{IsHistory, SettingsGoOut}
+use Rattle.wt_promise.specs.Promise.{IsHistory, SettingsGoOut, leaves_open}
 use Rattle.wt_seam_spec.specs.Joined.{send_of}
 use Rattle.wt_seam_spec.specs.Reports.{connects, credit, credit_reported, is_connected, unis_allowed}
 use Rattle.wt_seam_spec.specs.Streams.{local_count, local_uni}
@@ -171,9 +171,13 @@ no-moment side p h true false a b e =
 pub record ControlOut (side : Side) (h : History) : Type 0 where
   pub front : take (length (out h (local_uni side))) local_control_bytes ≡ out h (local_uni side)
   pub below : length (out h (local_uni side)) ≤ credit (events h) (local_uni side)
-  pub sent : is_open h ≡ true → nat_le 1 (unis_allowed (events h)) ≡ true → out h (local_uni side) ≡ take (credit (events h) (local_uni side)) local_control_bytes
 
-after : (side : Side) (h : History) (turn : Turn) → IsHistory side h → is_lawful side h turn ≡ true → ControlOut side h → ControlOut side (with_pair h turn (next side h turn))
+record After (side : Side) (h : History) (turn : Turn) : Type 0 where
+  kept : ControlOut side (with_pair h turn (next side h turn))
+  sent : leaves_open side h turn ≡ true → nat_le 1 (unis_allowed (events (with_pair h turn (next side h turn)))) ≡ true
+      → out (with_pair h turn (next side h turn)) (local_uni side) ≡ take (credit (events (with_pair h turn (next side h turn))) (local_uni side)) local_control_bytes
+
+after : (side : Side) (h : History) (turn : Turn) → IsHistory side h → is_lawful side h turn ≡ true → ControlOut side h → After side h turn
 after side h turn i l f = by (is_open (q ∷ h)) (nat_le 1 (unis_allowed (events (q ∷ h)))) refl refl
   where
     k : ℕ
@@ -194,20 +198,21 @@ after side h turn i l f = by (is_open (q ∷ h)) (nat_le 1 (unis_allowed (events
     own-out : out (q ∷ h) k ≡ out h k
     own-out = out-add q h k ∙ ap (λ (xs : List ℕ). out h k ++ xs) (own-control side h turn i l) ∙ append-nil (out h k)
 
-    quiet : (o u : Bool) → is_open (q ∷ h) ≡ o → nat_le 1 (unis_allowed (events (q ∷ h))) ≡ u → (o && u) ≡ false → ControlOut side (p ∷ h)
+    quiet : (o u : Bool) → is_open (q ∷ h) ≡ o → nat_le 1 (unis_allowed (events (q ∷ h))) ≡ u → (o && u) ≡ false → After side h turn
     quiet o u a b e = record {
-      front = rw same f.front;
-      below = rw same (let n = f.below in omega (arith, n, grows));
-      sent = λ x y. absurd (let r : (true && true) ≡ false = ap (λ (z : Bool). z && true) (sym (open-own side h turn x) ∙ a) ∙ ap (λ (z : Bool). o && z) (sym y ∙ b) ∙ e in cc r);
+      kept = record { front = rw same f.front; below = rw same (let n = f.below in omega (arith, n, grows)) };
+      sent = λ x y. absurd (let r : (true && true) ≡ false = ap (λ (z : Bool). z && true) (sym x ∙ a) ∙ ap (λ (z : Bool). o && z) (sym y ∙ b) ∙ e in cc r);
     }
       where
         same : out (p ∷ h) k ≡ out h k
         same = went ∙ ap (λ (xs : List ℕ). out h k ++ xs) (no-moment side q h o u a b e) ∙ append-nil (out h k)
 
-    busy : is_open (q ∷ h) ≡ true → nat_le 1 (unis_allowed (events (q ∷ h))) ≡ true → ControlOut side (p ∷ h)
+    busy : is_open (q ∷ h) ≡ true → nat_le 1 (unis_allowed (events (q ∷ h))) ≡ true → After side h turn
     busy a b = record {
-      front = rw now (subst (λ (x : List ℕ). take (length (x ++ piece)) local_control_bytes ≡ x ++ piece) f.front (sym (take-on (length (out h k)) local_control_bytes left)));
-      below = rw (now, length-append (out h k) piece) (let n = f.below in let m = take-short left (drop (length (out h k)) local_control_bytes) in omega (arith, n, m, grows));
+      kept = record {
+        front = rw now (subst (λ (x : List ℕ). take (length (x ++ piece)) local_control_bytes ≡ x ++ piece) f.front (sym (take-on (length (out h k)) local_control_bytes left)));
+        below = rw (now, length-append (out h k) piece) (let n = f.below in let m = take-short left (drop (length (out h k)) local_control_bytes) in omega (arith, n, m, grows));
+      };
       sent = λ x y. now ∙ ap (λ (xs : List ℕ). xs ++ piece) (sym f.front) ∙ take-split (length (out h k)) left local_control_bytes
           ∙ ap (λ (n : ℕ). take n local_control_bytes) (let n = f.below in omega (arith, n, grows));
     }
@@ -221,14 +226,14 @@ after side h turn i l f = by (is_open (q ∷ h)) (nat_le 1 (unis_allowed (events
         now : out (p ∷ h) k ≡ out h k ++ piece
         now = went ∙ ap (λ (xs : List ℕ). out h k ++ xs) (control-moment side q h a b ∙ ap (λ (xs : List ℕ). take (credit (events (q ∷ h)) k - length xs) (drop (length xs) local_control_bytes)) own-out)
 
-    by : (o u : Bool) → is_open (q ∷ h) ≡ o → nat_le 1 (unis_allowed (events (q ∷ h))) ≡ u → ControlOut side (p ∷ h)
+    by : (o u : Bool) → is_open (q ∷ h) ≡ o → nat_le 1 (unis_allowed (events (q ∷ h))) ≡ u → After side h turn
     by true true a b = busy a b
     by true false a b = quiet true false a b refl
     by false u a b = quiet false u a b refl
 
 pub control-out : (side : Side) (h : History) → IsHistory side h → ControlOut side h
-control-out side [] i = record { front = refl; below = omega arith; sent = λ o u. absurd (cc u) }
-control-out side (p ∷ h) i = subst (λ (q : Pair). ControlOut side (q ∷ h)) (pair-is p (next side h p.turn) i.1) (after side h p.turn i.2 i.0 (control-out side h i.2))
+control-out side [] i = record { front = refl; below = omega arith }
+control-out side (p ∷ h) i = subst (λ (q : Pair). ControlOut side (q ∷ h)) (pair-is p (next side h p.turn) i.1) (after side h p.turn i.2 i.0 (control-out side h i.2)).kept
 
-pub settings-go-out : (side : Side) (h : History) → IsHistory side h → SettingsGoOut side h
-settings-go-out side h i o u = record { stream = control-opened side h i o u; sent = (control-out side h i).sent o u }
+pub settings-go-out : (side : Side) (h : History) (turn : Turn) → IsHistory side h → is_lawful side h turn ≡ true → SettingsGoOut side h turn (next side h turn)
+settings-go-out side h turn i l o u = record { stream = opened-at side h turn o u; sent = (after side h turn i l (control-out side h i)).sent o u }

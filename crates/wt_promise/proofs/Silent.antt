@@ -1,5 +1,5 @@
--- Nothing goes out on a stream after its reset.
-use Rattle.std.specs.Prelude.{[], ◌==◌, ◌||◌, ◌∷◌, ◌≡◌, Bool, None, Option, Some, false, if◌then◌else◌, is_some, not, true, unwrap_or, ℕ}
+-- Nothing goes out on a stream after its reset, nor is it reset once more.
+use Rattle.std.specs.Prelude.{[], ◌==◌, ◌||◌, ◌∷◌, ◌≡◌, Bool, List, None, Option, Some, false, if◌then◌else◌, is_some, not, true, unwrap_or, ℕ}
 use Rattle.std.specs.List.{list_any}
 use Rattle.std.proofs.Common.{◌∙◌, ap, refl, subst, sym}
 use Rattle.std.proofs.lemmas.Bool.{eqb-true}
@@ -7,7 +7,7 @@ use Rattle.wt_meaning.specs.Calls.{being_opened, is_living, opened_by, opening_e
 use Rattle.wt_meaning.specs.Findings.{first_of}
 use Rattle.wt_meaning.specs.Halves.{is_closed}
 use Rattle.wt_meaning.specs.Handshakes.{last_begun, poll_rows}
-use Rattle.wt_meaning.specs.History.{History, Pair, actions_out, answers_reset, hands_out, is_handed_out, is_reset_of, was_finished}
+use Rattle.wt_meaning.specs.History.{History, Pair, actions_out, answers_reset, hands_out, is_handed_out, is_reset, is_reset_of, was_finished}
 use Rattle.wt_meaning.specs.Lawful.{has_request, is_first, is_lawful, is_response, is_waiting, polls}
 use Rattle.wt_meaning.specs.Meaning.{next, own_answer, with_pair}
 use Rattle.wt_meaning.specs.Moments.{findings}
@@ -15,28 +15,30 @@ use Rattle.wt_meaning.specs.Rows.{first_row}
 use Rattle.wt_meaning.specs.Sends.{admits, moment_actions}
 use Rattle.wt_meaning.specs.Windows.{is_established, is_gone, last_request, lives, named, session_in}
 use Rattle.wt_promise.proofs.Accepted.{and-left, and-right, not-true, or-true}
-use Rattle.wt_promise.proofs.Actions.{any-next}
+use Rattle.wt_promise.proofs.Actions.{AnyPiece, any-next}
 use Rattle.wt_promise.proofs.Begun.{BegunFor, PolledStream, polled-stream}
 use Rattle.wt_promise.proofs.ControlKept.{begun-not-control, begun-opening, control-kept, control-not-opened, not-peers, polled-k}
 use Rattle.wt_promise.proofs.Few.{APoll, AnAccept, SessionCall, gone-later, session-call}
 use Rattle.wt_promise.proofs.Flow.{clash}
 use Rattle.wt_promise.proofs.Flows.{bi-admits, uni-admits}
 use Rattle.wt_promise.proofs.Fresh.{client-begun}
-use Rattle.wt_promise.proofs.Grows.{is_peers}
+use Rattle.wt_promise.proofs.Grows.{is_peers, news}
 use Rattle.wt_promise.proofs.HandedOut.{GivesOpened, gives-opened, opened-local}
 use Rattle.wt_promise.proofs.Heads.{begun-kept, begun-not-admitted, begun-not-opened}
-use Rattle.wt_promise.proofs.MomentActs.{Control, MomentSends, OfClosed, closed-lived, closes_session, moment-sends, or-either}
+use Rattle.wt_promise.proofs.MomentActs.{Closing, Control, Going, MomentSends, NewReset, OfClosed, closed-lived, closes_session, moment-resets, moment-sends, or-either}
 use Rattle.wt_promise.proofs.OpenStays.{same-news}
 use Rattle.wt_promise.proofs.OwnActs.{Ends, Opens, Polls, SendsWhy, Writes}
 use Rattle.wt_promise.proofs.OwnCalls.{own-acts}
 use Rattle.wt_promise.proofs.Phases.{client-waits, phase, same-established}
 use Rattle.wt_promise.proofs.Sent.{going, head_stream}
 use Rattle.wt_promise.proofs.Sessions.{Accepted, Connected, PollGives, poll-gives}
+use Rattle.wt_promise.proofs.Stays.{any-newest}
 use Rattle.wt_promise.proofs.Tables.{by-session, fits, fits-own}
 use Rattle.wt_promise.proofs.Verdicts.{admitted-later, admitted-peers}
 use Rattle.wt_promise.proofs.WasReset.{Admitted, ByHand, Closed, Later, Opened, WasReset, WithSession, opened-first, was-reset}
 use Rattle.wt_promise.specs.Promise.{IsHistory, SilentAfterReset, sends_on}
 use Rattle.wt_seam_spec.specs.Streams.{local_uni}
+use Rattle.wt_turn.specs.declared.action.Action.{Action}
 use Rattle.wt_turn.specs.declared.answer.Answer.{Answer}
 use Rattle.wt_turn.specs.declared.call.Call.{Call}
 use Rattle.wt_turn.specs.declared.reply.Reply.{Reply}
@@ -214,14 +216,47 @@ silent-moment side h turn k i l r (OfClosed e) =
     lived : lives (p ∷ h) (findings side h) k ≡ true
     lived = closed-lived side p h k (ap (list_any (closes_session k)) (sym (same-news side h turn)) ∙ e)
 
-pub silent-after-reset : (side : Side) (h : History) (turn : Turn) → IsHistory side h → is_lawful side h turn ≡ true → SilentAfterReset h (next side h turn)
-silent-after-reset side h turn i l k r = by (list_any (sends_on k) (next side h turn).actions) refl
-  where
-    never : (list_any (sends_on k) (own_answer side h turn).actions || list_any (sends_on k) (moment_actions side (with_pair h turn (own_answer side h turn)))) ≡ true → ⊥
-    never e = or-either {P = ⊥} (list_any (sends_on k) (own_answer side h turn).actions) (list_any (sends_on k) (moment_actions side (with_pair h turn (own_answer side h turn)))) e
-        (λ x. silent-call side h turn k i l r ((own-acts side h k turn i l).sends x))
-        (λ x. silent-moment side h turn k i l r (moment-sends side (record { turn = turn; answer = own_answer side h turn }) h k x))
+-- ---- nor is it reset once more
 
-    by : (b : Bool) → list_any (sends_on k) (next side h turn).actions ≡ b → b ≡ false
+reset-once : (side : Side) (h : History) (turn : Turn) (k : ℕ) → IsHistory side h → is_lawful side h turn ≡ true → list_any (is_reset_of k) (actions_out h) ≡ true
+    → NewReset (with_pair h turn (own_answer side h turn)) k (findings side (with_pair h turn (own_answer side h turn))) (news side (record { turn = turn; answer = own_answer side h turn }) h) → ⊥
+reset-once side h turn k i l r (Closing c) = silent-moment side h turn k i l r (OfClosed c)
+reset-once side h turn k i l r (Going s m o n) = clash (is_reset (with_pair h turn (own_answer side h turn)) k) later n
+  where
+    own : Answer
+    own = own_answer side h turn
+
+    later : is_reset (with_pair h turn own) k ≡ true
+    later =
+        ap (λ (b : Bool). b || (answers_reset k turn own.reply || list_any (λ (p : Pair). answers_reset k p.turn p.answer.reply) h))
+        (any-newest (is_reset_of k) own.actions (actions_out h) ∙ ap (λ (b : Bool). list_any (is_reset_of k) own.actions || b) r ∙ or-true (list_any (is_reset_of k) own.actions))
+
+-- ---- an answer
+
+-- where no part of its actions can pass a test, none of them does
+none-next : (test : Action → Bool) → AnyPiece test → (side : Side) (h : History) (turn : Turn) → (list_any test (own_answer side h turn).actions ≡ true → ⊥)
+    → (list_any test (moment_actions side (with_pair h turn (own_answer side h turn))) ≡ true → ⊥) → list_any test (next side h turn).actions ≡ false
+none-next test any side h turn f g = by (list_any test (next side h turn).actions) refl
+  where
+    by : (b : Bool) → list_any test (next side h turn).actions ≡ b → b ≡ false
     by false q = refl
-    by true q = absurd (never (sym (any-next (sends_on k) (λ j x y. refl) side h turn) ∙ q))
+    by true q = absurd (or-either {P = ⊥} (list_any test (own_answer side h turn).actions) (list_any test (moment_actions side (with_pair h turn (own_answer side h turn)))) (sym (any-next test any side h turn) ∙ q) f g)
+
+none-of-both : (one other : Action → Bool) (as_ : List Action) → list_any one as_ ≡ false → list_any other as_ ≡ false → list_any (λ (a : Action). one a || other a) as_ ≡ false
+none-of-both one other [] e f = refl
+none-of-both one other (a ∷ as_) e f = by (one a) (other a) e f (none-of-both one other as_)
+  where
+    by : (b c : Bool) → (b || list_any one as_) ≡ false → (c || list_any other as_) ≡ false
+        → (list_any one as_ ≡ false → list_any other as_ ≡ false → list_any (λ (x : Action). one x || other x) as_ ≡ false) → ((b || c) || list_any (λ (x : Action). one x || other x) as_) ≡ false
+    by true c p q again = absurd (cc p)
+    by false true p q again = absurd (cc q)
+    by false false p q again = again p q
+
+pub silent-after-reset : (side : Side) (h : History) (turn : Turn) → IsHistory side h → is_lawful side h turn ≡ true → SilentAfterReset h (next side h turn)
+silent-after-reset side h turn i l k r =
+    none-of-both (sends_on k) (is_reset_of k) (next side h turn).actions
+    (none-next (sends_on k) (λ j x y. refl) side h turn (λ x. silent-call side h turn k i l r ((own-acts side h k turn i l).sends x))
+    (λ x. silent-moment side h turn k i l r (moment-sends side (record { turn = turn; answer = own_answer side h turn }) h k x)))
+    (none-next (is_reset_of k) (λ j x y. refl) side h turn
+    (λ x. clash (is_reset h k) (ap (λ (b : Bool). b || list_any (λ (p : Pair). answers_reset k p.turn p.answer.reply) h) r) ((own-acts side h k turn i l).once x))
+    (λ x. reset-once side h turn k i l r (moment-resets side (record { turn = turn; answer = own_answer side h turn }) h k x)))

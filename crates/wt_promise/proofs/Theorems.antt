@@ -73,7 +73,7 @@ few_theorem = few-live
 pub result_theorem : (side : Side) (h : History) (turn : Turn) → IsHistory side h → is_lawful side h turn ≡ true → ResultStays side h turn (next side h turn)
 result_theorem = result-stays
 
-pub settings_theorem : (side : Side) (h : History) → IsHistory side h → SettingsGoOut side h
+pub settings_theorem : (side : Side) (h : History) (turn : Turn) → IsHistory side h → is_lawful side h turn ≡ true → SettingsGoOut side h turn (next side h turn)
 settings_theorem = settings-go-out
 
 pub sends_theorem : (side : Side) (h : History) → IsHistory side h → (k : ℕ) → SendsInOrder side h k

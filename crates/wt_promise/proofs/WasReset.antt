@@ -136,7 +136,7 @@ new-reset side h turn i l k e =
     by-moment (Closing c) =
         let d : list_any (closes_session k) (news side p h) ≡ true = ap (list_any (closes_session k)) (sym (same-news side h turn)) ∙ c in
         Closed (and-left (is_established (p ∷ h) k) _ (closed-lived side p h k d)) (found-gone side p h k (closed-gone k (news side p h) d))
-    by-moment (Going s m o) =
+    by-moment (Going s m o n) =
         WithSession s (subst (λ (xs : List Finding). Of (p ∷ h) xs s k) (sym (same-findings side h turn)) (of-actions q p h (findings side (q ∷ h)) s k refl refl (of-is (q ∷ h) (findings side (q ∷ h)) s k o)))
         (found-gone side p h s (ap (list_any (makes_gone s)) (sym (same-news side h turn)) ∙ m))
 

@@ -30,7 +30,7 @@ use Rattle.wt_meaning.specs.Meaning.{answer_to, history_after, next, own_answer,
 use Rattle.wt_meaning.specs.Moments.{findings}
 use Rattle.wt_meaning.specs.Sends.{admits, is_of_session}
 use Rattle.wt_meaning.specs.Targets.{Target, target_of}
-use Rattle.wt_meaning.specs.Windows.{admitted_datagram, establishes, gone_in, is_established, is_gone, is_number, last_request, lives, named, received_count, receives, session_in}
+use Rattle.wt_meaning.specs.Windows.{admitted_datagram, establishes, gone_in, is_established, is_gone, is_number, last_request, lives, makes_gone, named, received_count, receives, session_in}
 use Rattle.wt_promise.specs.Waits.{datagram_waits, nothing_left, on_named, stream_waits}
 use Rattle.wt_proto.specs.declared.verdict.Verdict.TheVariants as verdicts
 use Rattle.wt_turn.specs.declared.action.Action.TheVariants as actions
@@ -96,7 +96,8 @@ FewLive side h = length (filter (lives h (findings side h)) (filter_map establis
 
 -- ---- accepted streams
 
--- the stream is the peer's, is given once, was admitted with that session's header at its front, and is the first that waits for it
+-- the stream is of this kind of the peer's, is given once, was admitted with that session's header at its front (so that the
+-- peer opened it: only streams that exist are classified), and is the first that waits for it
 pub record AcceptedFor (side : Side) (h : History) (id kind s : ℕ) : Type 0 where
   pub peers : (id % 4 == kind) ≡ true
   pub once : is_handed_out h id ≡ false
@@ -179,7 +180,8 @@ OpenExactly side h turn a =
 abbrev pub NothingAfterEnd : History → Answer → Type 0
 NothingAfterEnd h a = is_open h ≡ false → a.actions ≡ []
 
--- how a session ended stays so, from its own end or the connection's on
+-- how a session ended stays so, from its own end or the connection's on (so does what `Closed` and an opening say of the
+-- connection's end: no later event counts)
 abbrev pub ResultStays : Side → History → Turn → Answer → Type 0
 ResultStays side h turn a =
     (s : ℕ) → is_established h s ≡ true → (is_open h && is_living side h s) ≡ false
@@ -214,12 +216,18 @@ pub record StreamTold (side : Side) (h later : History) (own a : Answer) (k : �
 abbrev pub leaves_open : Side → History → Turn → Bool
 leaves_open side h turn = is_open (with_pair h turn (own_answer side h turn))
 
--- where a session becomes gone, by a call or by what is found while the connection is open, each of its streams is told in the same answer
+-- what is found in front of what makes the session gone
+abbrev pub until_gone : ℕ → List Finding → List Finding
+until_gone s [] = []
+until_gone s (f ∷ later) = if makes_gone s f then [] else f ∷ until_gone s later
+
+-- where a session becomes gone, by a call or by what is found while the connection is open, each of its streams is told
+-- in the same answer, one that is admitted at this very moment too
 abbrev pub GoneIsTold : Side → History → Turn → Answer → Type 0
 GoneIsTold side h turn a =
     (s k : ℕ) → is_open h ≡ true → (leaves_open side h turn || is_number s (gone_in h turn a.reply)) ≡ true
     → is_gone h (findings side h) s ≡ false → is_gone (with_pair h turn a) (findings side (with_pair h turn a)) s ≡ true
-    → is_of_session h (findings side h) s k ≡ true → StreamTold side h (with_pair h turn a) (own_answer side h turn) a k
+    → is_of_session h (until_gone s (findings side (with_pair h turn a))) s k ≡ true → StreamTold side h (with_pair h turn a) (own_answer side h turn) a k
 
 -- the action closes the connection with this code and no reason
 abbrev pub closes_with : ℕ → Action → Bool
@@ -251,9 +259,10 @@ pub record SettingsOut (side : Side) (h : History) : Type 0 where
   pub stream : (local_count (actions_out h) (local_uni side) == 0) ≡ false
   pub sent : out h (local_uni side) ≡ take (credit (events h) (local_uni side)) local_control_bytes
 
--- while the connection is open and the peer allows a unidirectional stream
-abbrev pub SettingsGoOut : Side → History → Type 0
-SettingsGoOut side h = is_open h ≡ true → nat_le 1 (unis_allowed (events h)) ≡ true → SettingsOut side h
+-- so it is wherever a turn leaves the connection open but for what is found, and the peer allows a unidirectional stream
+abbrev pub SettingsGoOut : Side → History → Turn → Answer → Type 0
+SettingsGoOut side h turn a =
+    leaves_open side h turn ≡ true → nat_le 1 (unis_allowed (events (with_pair h turn a))) ≡ true → SettingsOut side (with_pair h turn a)
 
 -- the bytes that a reply to a write of the stream accepts
 abbrev pub accepted_by : ℕ → Turn → Reply → List ℕ
@@ -305,9 +314,11 @@ sends_on k (actions.Send id piece) = id == k
 sends_on k (actions.Finish id) = id == k
 sends_on k _ = false
 
--- nothing goes out on a stream after its reset
+-- nothing goes out on a stream after an answer that resets it, nor is it reset once more (what stands behind a reset in one
+-- answer isn't spoken of)
 abbrev pub SilentAfterReset : History → Answer → Type 0
-SilentAfterReset h a = (k : ℕ) → list_any (is_reset_of k) (actions_out h) ≡ true → list_any (sends_on k) a.actions ≡ false
+SilentAfterReset h a =
+    (k : ℕ) → list_any (is_reset_of k) (actions_out h) ≡ true → list_any (λ (x : Action). sends_on k x || is_reset_of k x) a.actions ≡ false
 
 -- ---- cutting
 

@@ -98,7 +98,7 @@ opening_waits side h k (Some name) =
 
 -- ---- the table of every call
 
--- nothing is left that the call could give
+-- nothing is left that the call could give, so that it waits; the last clause is that of the responses, and of the calls that never wait
 abbrev pub nothing_left : Side → History → Call → Bool
 nothing_left side h (calls.Connect options lookup outcome) = on_target (target_of (parse_url None options.0) options.1 lookup outcome) (λ (t : Target). true)
 nothing_left side h calls.Incoming = not (settings_came (findings side h)) || not (request_waits side h)

@@ -82,9 +82,9 @@ pub fn results_stay()
     ensures result { (side : Side) (h : History) (turn : Turn) → IsHistory side h → is_lawful side h turn ≡ true → ResultStays side h turn (next side h turn) }
 {}
 
-/// While the connection is open and the peer allows a unidirectional stream, this end's control stream is open and has as much of its bytes as credit allows.
+/// Where a turn leaves the connection open but for what is found, and the peer allows a unidirectional stream, this end's control stream is open and has as much of its bytes as credit allows.
 pub fn settings_go_out()
-    ensures settings { (side : Side) (h : History) → IsHistory side h → SettingsGoOut side h }
+    ensures settings { (side : Side) (h : History) (turn : Turn) → IsHistory side h → is_lawful side h turn ≡ true → SettingsGoOut side h turn (next side h turn) }
 {}
 
 /// What went out on a stream is a prefix of its head and of what writes accepted, and all of it once the head is out.
@@ -92,17 +92,17 @@ pub fn sends_are_in_order()
     ensures order { (side : Side) (h : History) → IsHistory side h → (k : ℕ) → SendsInOrder side h k }
 {}
 
-/// Nothing goes out on a stream after its reset.
+/// Nothing goes out on a stream after its reset, nor a second reset.
 pub fn nothing_goes_out_after_a_reset()
     ensures silent { (side : Side) (h : History) (turn : Turn) → IsHistory side h → is_lawful side h turn ≡ true → SilentAfterReset h (next side h turn) }
 {}
 
-/// A session is established on an open connection, once the peer's SETTINGS and a CONNECT or a 2xx came and the whole frame of its request or response is out, and only once.
+/// A session is established on an open connection, once the peer's SETTINGS and a CONNECT or a 2xx came and the whole frame of its request, or of its response of status 200, is out, and only once.
 pub fn sessions_are_established_rightly()
     ensures established { (side : Side) (h : History) (turn : Turn) → IsHistory side h → is_lawful side h turn ≡ true → EstablishedRightly side h turn (next side h turn) }
 {}
 
-/// Where a session becomes gone, each of its streams that still runs is told in the same answer.
+/// Where a session becomes gone, each of its streams that still runs is told in the same answer, also one that is admitted at that very moment.
 pub fn streams_of_a_gone_session_are_told()
     ensures told { (side : Side) (h : History) (turn : Turn) → GoneIsTold side h turn (next side h turn) }
 {}
