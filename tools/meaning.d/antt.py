@@ -741,19 +741,20 @@ class Module:
             bound = []
             for q in pats:
                 binds(q, bound)
-            parsed.append((pats, comp(e, self, frozenset(bound))))
-        arity = len(parsed[0][0])
+            parsed.append(([(i, q[1]) for i, q in enumerate(pats) if q[0] == 'var'], [(i, q) for i, q in enumerate(pats) if q[0] not in ('var', 'any')],
+                           comp(e, self, frozenset(bound))))
+        arity = len(pats)
         if arity == 0:
-            return parsed[0][1]({})
+            return parsed[0][2]({})
 
         key = (self.name, name)
 
         def run(*args):
             CALLED.add(key)
-            for pats, body in parsed:
-                env = {}
-                for q, v in zip(pats, args):
-                    if not match(q, v, env):
+            for names, tests, body in parsed:
+                env = {n: args[i] for i, n in names}
+                for i, q in tests:
+                    if not match(q, args[i], env):
                         break
                 else:
                     return body(env)
@@ -846,6 +847,13 @@ def match(q, v, env):
     raise Exception(q)
 
 
+def names_in(e):
+    """All names in an expression."""
+    if isinstance(e, tuple):
+        return {e[1]} if e[:1] == ('var',) else set().union(*map(names_in, e))
+    return set().union(*map(names_in, e)) if isinstance(e, list) else set()
+
+
 def comp(e, mod, bound):
     """closure: env -> value"""
     k = e[0]
@@ -913,6 +921,10 @@ def comp(e, mod, bound):
                 env2.update(zip(names, args))
                 return body(env2)
             return Fun(len(names), f, (), 'λ')
+        if bound.isdisjoint(names_in(e)):
+            closed = lam({})
+            closed.name = 'closed λ'
+            return lambda env: closed
         return lam
     if k == 'elim':
         x = comp(e[1], mod, bound)
