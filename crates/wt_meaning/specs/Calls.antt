@@ -131,7 +131,7 @@ opening_for side h k (Some name) = in_session (named h name) (λ (s : ℕ). open
 
 -- ---- datagrams
 
--- why a datagram of n bytes isn't sent (RFC 9221, section 3)
+-- why a datagram of n bytes isn't sent (RFC 9221, section 3); where a session is established, a fact was reported
 abbrev pub refused_by : ℕ → Option DatagramFact → Option SendDatagramError
 refused_by n None = Some datagrams.NotConnected
 refused_by n (Some facts.Disabled) = Some datagrams.Disabled

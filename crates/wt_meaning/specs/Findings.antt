@@ -7,7 +7,8 @@ use Rattle.wt_seam_spec.specs.Reports.{if_same}
 use Rattle.wt_wire.specs.declared.error.ErrorCode.{ErrorCode}
 use Rattle.wt_proto.specs.declared.verdict.Verdict.TheVariants as verdicts
 
--- What a moment finds. A stream of the peer is dequeued once its header may be read, and classified once its header shows what it is.
+-- What a moment finds. A stream of the peer is dequeued once its header may be read (no queue is kept: the finding says
+-- it), and classified once its header shows what it is.
 pub data Finding : Type 0 where
   Dequeued : (id : ℕ) → Finding
   Classified : (id : ℕ) (verdict : Verdict) (keeps : Bool) → Finding  -- keeps: a session's stream is admitted, a request is queued

@@ -92,7 +92,7 @@ finish h k =
     row (is_open h && not (is_closed h k) && not (is_some (stop_of (events h) k))) replies.Pending (actions.Finish k ∷ [])
     ∷ stopped_rows h k (λ e. replies.WriteFailed e) replies.Finished
 
--- the priority that the pair sets
+-- the priority that the pair sets, also on a half that is done, where nothing shows it
 abbrev pub priority_by : ℕ → Turn → Reply → Option ℤ
 priority_by k (turns.Call (calls.SetPriority id priority)) replies.Done = if id == k then Some priority else None
 priority_by k _ _ = None

@@ -165,7 +165,7 @@ abbrev pub is_success : ResponseWalk → Bool
 is_success (responses.Response fields offset) = elim (status_of fields) [ Some code ↦ is_successful code | None ↦ false ]
 is_success _ = false
 
--- the connect fails as the transport says
+-- the connect fails as the transport says; where the connection is open, and the response's stream ended, as if it was closed here
 abbrev pub connect_lost : History → Reply
 connect_lost h = replies.ConnectFailed (connects.ConnectionError (transport_error h))
 

@@ -95,7 +95,8 @@ abbrev pub is_waiting : History → Bool
 is_waiting [] = false
 is_waiting (p ∷ h) = if polls p.turn then is_pending p.answer.reply else is_waiting h
 
--- each request that was given has a response, and that was answered something other than Pending
+-- each request that was given has a response, and that was answered something other than Pending: a response is begun once
+-- for each, and isn't polled after such an answer, so they can be counted
 abbrev pub all_answered : History → Bool
 all_answered h =
     length (filter (λ (p : Pair). gives_request p.answer.reply) h)
@@ -117,8 +118,8 @@ abbrev pub is_client : Side → Bool
 is_client Client = true
 is_client Server = false
 
--- A call may come: a connect is a client's first turn; a server asks for a request once the one before is answered, and
--- answers it once; a handshake is polled while it waits; every other call may come after the first turn.
+-- A call may come: a connect is a client's first turn; a server asks for a request once the one before is answered, until
+-- that fails, and answers it once; a handshake is polled while it waits; every other call may come after the first turn.
 abbrev pub may_call : Side → History → Call → Bool
 may_call side h (calls.Connect options lookup outcome) = is_client side && is_first h
 may_call side h calls.Incoming =

@@ -1,5 +1,5 @@
 -- What each moment finds, by one recursion over the moments of a history. Every pair is a moment, and the reply that
--- establishes a session is one more. A check asks about the history's turns and replies, about earlier moments, and
+-- establishes a session is one more. A check asks about the history's turns and answers, about earlier moments, and
 -- about what was found before it at the same moment; after a fault nothing is found any more.
 use Rattle.std.specs.Prelude.{[], ◌%◌, ◌&&◌, ◌*◌, ◌++◌, ◌+◌, ◌/◌, ◌==◌, ◌∷◌, Bool, Err, List, None, Ok, Option, Result, Some, drop, false, filter, flat_map, if◌then◌else◌, is_some, length, map, nat_le, nat_lt, not, suc, zero, ℕ}
 use Rattle.wt_message.specs.Datagram.{datagram_of}
@@ -126,8 +126,8 @@ pub data Check : Type 0 where
   LocalStop : Check  -- whether the peer stopped this end's control stream
   ReadSettings : Check  -- whether the peer's SETTINGS came
   ControlFault : Check  -- whether its control stream has a fault
-  EncoderEnd : Check
-  DecoderEnd : Check
+  EncoderEnd : Check  -- whether its encoder's stream ended
+  DecoderEnd : Check  -- whether its decoder's stream ended
 
 -- what a check finds
 abbrev pub found_by : Side → History → List Finding → Check → List Finding

@@ -64,8 +64,8 @@ numbers_from n (suc count) = n ∷ numbers_from (suc n) count
 abbrev pub stream_ids : Side → History → List ℕ
 stream_ids side h = numbers_from 0 (4 * (stream_count side h 0 + stream_count side h 1 + stream_count side h 2 + stream_count side h 3))
 
--- each half that still runs ends with WEBTRANSPORT_SESSION_GONE: a receiving half that neither end gave up, a sending
--- half that is neither finished nor reset (draft-ietf-webtrans-http3, section 5)
+-- each half that still runs ends with WEBTRANSPORT_SESSION_GONE: a receiving half that the peer didn't end and the
+-- application didn't give up, a sending half that is neither finished nor reset (draft-ietf-webtrans-http3, section 5)
 abbrev pub stream_gone_actions : Side → History → ℕ → List Action
 stream_gone_actions side h k =
     action_if (can_receive side h k && is_running (end_of (events h) k) && not (is_given_up h k)) (actions.StopOut k 0x170d7b68)

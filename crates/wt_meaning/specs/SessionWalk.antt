@@ -110,12 +110,14 @@ session_decides state bytes = session_step state.data_left state.capsules bytes
 
 -- ---- the outcome
 
--- a clean end between frames: between capsules it closes the session with code 0 and an empty reason, inside one it is a fault
+-- a clean end between frames: between capsules it closes the session with code 0 and an empty reason
+-- (draft-ietf-webtrans-http3, section 5), inside one it is a fault (RFC 9297, section 3.3)
 abbrev pub session_at_end : Bool → SessionWalk
 session_at_end true = walks.Closed 0 []
 session_at_end false = walks.Fault Message
 
--- a clean end inside a frame is a fault, and so is a reset
+-- a clean end inside a frame is a fault, and so is a reset (this repository's rule; RFC 9114, section 7.1, asks
+-- H3_FRAME_ERROR for a frame that is cut, and draft-ietf-webtrans-http3, section 5, ends the session at a reset)
 abbrev pub session_unfinished : StreamEnd → SessionProgress → Bool → SessionWalk
 session_unfinished Running state between = walks.Running
 session_unfinished Fin state false = walks.Fault ClosedCriticalStream

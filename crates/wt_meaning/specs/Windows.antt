@@ -44,7 +44,7 @@ named h (Some s) = if is_established h s then Some s else None
 
 -- ---- which are gone
 
--- the request that the pair gives
+-- the request that the reply gives
 abbrev pub request_in : Reply → Option ℕ
 request_in (replies.Request id headers) = Some id
 request_in _ = None
@@ -139,7 +139,8 @@ abbrev pub received_count : History → ℕ → ℕ
 received_count [] s = 0
 received_count (p ∷ h) s = if receives h s p.turn p.answer.reply then suc (received_count h s) else received_count h s
 
--- the datagrams of the session that wait: the admitted ones, in order of arrival, after those that were received
+-- the datagrams of the session that wait: the admitted ones, in order of arrival, after those that were received; whether
+-- the session is gone, so that they are dropped, is asked where they are given
 abbrev pub waiting_datagrams : History → List Finding → ℕ → List (ℕ × List ℕ)
 waiting_datagrams h found s = drop (received_count h s) (filter (λ (d : ℕ × List ℕ). d.0 == s) (filter_map admitted_datagram found))
 
