@@ -46,7 +46,8 @@ abbrev pub AllLawful : Side → History → List Turn → Type 0
 AllLawful side h [] = Unit {0}
 AllLawful side h (turn ∷ later) = (is_lawful side h turn ≡ true) × AllLawful side (history_after side h turn) later
 
--- each turn of the history was lawful after those before it, and was answered by `next`; bytes came one by one
+-- each turn of the history was lawful after those before it, and was answered by `next`; a list of turns leads to such a
+-- history, in which bytes come one by one
 abbrev pub IsHistory : Side → History → Type 0
 IsHistory side [] = Unit {0}
 IsHistory side (p ∷ h) = (is_lawful side h p.turn ≡ true) × (p.answer ≡ next side h p.turn) × IsHistory side h
