@@ -191,9 +191,9 @@ turn-queued : (side : Side) (h : History) (turn : Turn) → InQueue side h (next
 turn-queued side h (turns.Call c) = λ k q. call-queued side h c (next side h (turns.Call c)).reply refl (fits-own side h c) k q
 turn-queued side h turn = λ k q. absurd (cc q)
 
-pub given-queued : (side : Side) (h : History) → IsHistory side h → (k : ℕ) → was_given h k ≡ true → has (filter_map queued_request (findings side h)) k ≡ true
-given-queued side [] i k e = absurd (cc e)
-given-queued side (p ∷ h) i k e = queue-stays side p h k (by (requests p) refl e (given-queued side h i.2 k))
+given-step : (side : Side) (p : Pair) (h : History) → IsHistory side (p ∷ h) → (k : ℕ) → (was_given h k ≡ true → has (filter_map queued_request (findings side h)) k ≡ true) → was_given (p ∷ h) k ≡ true
+    → has (filter_map queued_request (findings side h)) k ≡ true
+given-step side p h i k = λ again e. by (requests p) refl e again
   where
     by : (o : Option ℕ) → requests p ≡ o → was_given (p ∷ h) k ≡ true → (was_given h k ≡ true → has (filter_map queued_request (findings side h)) k ≡ true) → has (filter_map queued_request (findings side h)) k ≡ true
     by None q r again = again (let m = rw q at r in m)
@@ -202,6 +202,14 @@ given-queued side (p ∷ h) i k e = queue-stays side p h k (by (requests p) refl
         of : (b : Bool) → (t == k) ≡ b → has (filter_map queued_request (findings side h)) k ≡ true
         of true x = turn-queued side h p.turn k (ap (λ (a : Answer). request_in a.reply) (sym i.1) ∙ q ∙ ap (λ (n : ℕ). Some n) (eqb-true t k x))
         of false x = again (let m = rw (q, x) at r in m)
+
+pub given-queued : (side : Side) (h : History) → IsHistory side h → (k : ℕ) → was_given h k ≡ true → has (filter_map queued_request (findings side h)) k ≡ true
+given-queued side [] i k e = absurd (cc e)
+given-queued side (p ∷ h) i k e = queue-stays side p h k (given-step side p h i k (given-queued side h i.2 k) e)
+
+-- before the moment at which it was given, too
+pub given-before : (side : Side) (p : Pair) (h : History) → IsHistory side (p ∷ h) → (k : ℕ) → was_given (p ∷ h) k ≡ true → has (filter_map queued_request (findings side h)) k ≡ true
+given-before side p h i k e = given-step side p h i k (given-queued side h i.2 k) e
 
 -- ---- at most 4 requests are held
 

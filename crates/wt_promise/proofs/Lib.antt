@@ -33,11 +33,14 @@ pub mod SettingsOut
 pub mod Heads
 pub mod Flows
 pub mod InOrder
+pub mod Behind
+pub mod Once
 pub mod OwnActs
 pub mod OwnCalls
 pub mod MomentActs
 pub mod WasReset
 pub mod Silent
+pub mod SilentBehind
 pub mod Established
 pub mod GoneSends
 pub mod GoneByCall

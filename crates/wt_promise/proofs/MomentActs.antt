@@ -72,7 +72,7 @@ found-sends side h k found (SessionClosed session code reason false) e =
 found-sends side h k found (Faulted code) e = absurd (cc e)
 found-sends side h k found f e = absurd (cc e)
 
-all-sends : (side : Side) (h : History) (k : ℕ) (before new : List Finding) → list_any (sends_on k) (actions_for_all side h before new) ≡ true → list_any (closes_session k) new ≡ true
+pub all-sends : (side : Side) (h : History) (k : ℕ) (before new : List Finding) → list_any (sends_on k) (actions_for_all side h before new) ≡ true → list_any (closes_session k) new ≡ true
 all-sends side h k before [] e = absurd (cc e)
 all-sends side h k before (f ∷ new) e =
     in-append {P = (closes_session k f || list_any (closes_session k) new) ≡ true} (sends_on k) (actions_for side h before f) (actions_for_all side h (before ++ f ∷ []) new) e
@@ -85,7 +85,7 @@ pub data NewReset (h : History) (k : ℕ) (all new : List Finding) : Type 0 wher
   Closing : list_any (closes_session k) new ≡ true → NewReset h k all new
   Going : (s : ℕ) → list_any (makes_gone s) new ≡ true → is_of_session h all s k ≡ true → is_reset h k ≡ false → NewReset h k all new
 
-of-more : (h : History) (found later : List Finding) (s k : ℕ) → is_of_session h found s k ≡ true → is_of_session h (found ++ later) s k ≡ true
+pub of-more : (h : History) (found later : List Finding) (s k : ℕ) → is_of_session h found s k ≡ true → is_of_session h (found ++ later) s k ≡ true
 of-more h found later s k e = ap (λ (b : Bool). b || opened) (list_any-append (admits s k) found later) ∙ by (list_any (admits s k) found) (list_any (admits s k) later) opened e
   where
     opened : Bool
@@ -96,7 +96,7 @@ of-more h found later s k e = ap (λ (b : Bool). b || opened) (list_any-append (
     by false true c q = refl
     by false false c q = q
 
-found-resets : (side : Side) (h : History) (k : ℕ) (found : List Finding) (f : Finding) (later : List Finding) → list_any (is_reset_of k) (actions_for side h found f) ≡ true → NewReset h k (found ++ f ∷ later) (f ∷ later)
+pub found-resets : (side : Side) (h : History) (k : ℕ) (found : List Finding) (f : Finding) (later : List Finding) → list_any (is_reset_of k) (actions_for side h found f) ≡ true → NewReset h k (found ++ f ∷ later) (f ∷ later)
 found-resets side h k found f later e = by f e refl
   where
     gone : (s : ℕ) → makes_gone s f ≡ true → list_any (is_reset_of k) (session_gone_actions side h found s) ≡ true → NewReset h k (found ++ f ∷ later) (f ∷ later)
@@ -119,7 +119,7 @@ found-resets side h k found f later e = by f e refl
     by (Faulted code) q w = absurd (cc q)
     by x q w = absurd (cc q)
 
-all-resets : (side : Side) (h : History) (k : ℕ) (before new : List Finding) → list_any (is_reset_of k) (actions_for_all side h before new) ≡ true → NewReset h k (before ++ new) new
+pub all-resets : (side : Side) (h : History) (k : ℕ) (before new : List Finding) → list_any (is_reset_of k) (actions_for_all side h before new) ≡ true → NewReset h k (before ++ new) new
 all-resets side h k before [] e = absurd (cc e)
 all-resets side h k before (f ∷ new) e =
     in-append {P = NewReset h k (before ++ f ∷ new) (f ∷ new)} (is_reset_of k) (actions_for side h before f) (actions_for_all side h (before ++ f ∷ []) new) e

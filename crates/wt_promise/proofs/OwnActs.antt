@@ -19,11 +19,12 @@ use Rattle.wt_meaning.specs.Windows.{gone_in, is_number, last_request, named}
 use Rattle.wt_message.specs.FixedBytes.{response_bytes}
 use Rattle.wt_promise.proofs.Actions.{none-append, none-gone, none-if, none-sent}
 use Rattle.wt_promise.proofs.Begun.{polled-stream}
+use Rattle.wt_promise.proofs.Behind.{Quiet, behind-append, behind-none, gone-quiet, neither-acts}
 use Rattle.wt_promise.proofs.Flow.{clash}
 use Rattle.wt_promise.proofs.Sent.{going, head_stream}
 use Rattle.wt_promise.proofs.Sessions.{is_connect}
 use Rattle.wt_promise.proofs.Tables.{OfRows, by-row, by-session, by-value, no-row}
-use Rattle.wt_promise.specs.Promise.{IsHistory, sends_on}
+use Rattle.wt_promise.specs.Promise.{IsHistory, acts_on, sends_on}
 use Rattle.wt_proto.specs.ResponseWalk.{response_walk_of}
 use Rattle.wt_proto.specs.declared.response_walk.ResponseWalk.{ResponseWalk}
 use Rattle.wt_seam_spec.specs.Reports.{end_of, is_running}
@@ -59,6 +60,7 @@ pub record OwnActs (side : Side) (h : History) (k : ℕ) (turn : Turn) (a : Answ
   pub sends : list_any (sends_on k) a.actions ≡ true → SendsWhy side h k turn
   pub resets : list_any (is_reset_of k) a.actions ≡ true → ResetsWhy side h k turn a.reply
   pub once : list_any (is_reset_of k) a.actions ≡ true → is_reset h k ≡ false
+  pub quiet : Quiet k a.actions
 
 -- ---- rows
 
@@ -68,6 +70,7 @@ neither side h k turn r own s z = record {
   sends = λ e. absurd (clash (list_any (sends_on k) own) e s);
   resets = λ e. absurd (clash (list_any (is_reset_of k) own) e z);
   once = λ e. absurd (clash (list_any (is_reset_of k) own) e z);
+  quiet = behind-none (is_reset_of k) (acts_on k) own z;
 }
 
 pub plain : (side : Side) (h : History) (k : ℕ) (turn : Turn) (c : Bool) (r : Reply) (own : List Action) (rows : List Row) → list_any (sends_on k) own ≡ false → list_any (is_reset_of k) own ≡ false
@@ -94,6 +97,7 @@ on-stream side h k id turn r own other z why = record {
   sends = λ e. by (id == k) refl e;
   resets = λ e. absurd (clash (list_any (is_reset_of k) own) e z);
   once = λ e. absurd (clash (list_any (is_reset_of k) own) e z);
+  quiet = behind-none (is_reset_of k) (acts_on k) own z;
 }
   where
     by : (b : Bool) → (id == k) ≡ b → list_any (sends_on k) own ≡ true → SendsWhy side h k turn
@@ -232,6 +236,7 @@ rejects-act side h k turn c digits p g i s l =
       sends = λ e. absurd (clash (list_any (sends_on k) (gone ++ more)) e (none-append (sends_on k) gone more (gone-sends-not side h (findings side h) r k) a));
       resets = λ e. GoneBy s (ap (λ (j : ℕ). is_of_session h (findings side h) j k) (sym same) ∙ reset-of-session side h (findings side h) r k (front e)) (ap (is_number s) l ∙ eq-eqb s s refl);
       once = λ e. reset-new side h (findings side h) r k (front e);
+      quiet = behind-append (is_reset_of k) (acts_on k) gone more (gone-quiet side h (findings side h) r k) (behind-none (is_reset_of k) (acts_on k) more b) (λ e. neither-acts k more a b);
     }
       where
         front : list_any (is_reset_of k) (gone ++ more) ≡ true → list_any (is_reset_of k) gone ≡ true

@@ -19,10 +19,11 @@ use Rattle.wt_meaning.specs.Windows.{is_number, named}
 use Rattle.wt_message.specs.Datagram.{datagram_bytes}
 use Rattle.wt_promise.proofs.Accepted.{and-left, and-right, not-true}
 use Rattle.wt_promise.proofs.Actions.{none-if}
+use Rattle.wt_promise.proofs.Behind.{Quiet, behind-append, behind-none, gone-quiet}
 use Rattle.wt_promise.proofs.Flow.{clash}
 use Rattle.wt_promise.proofs.OwnActs.{Ends, GoneBy, Held, Opens, OwnActs, Writes, accepts-act, done, gone-sends-not, neither, of-half, of-session, on-stream, plain, plain-value, polls-act, rejects-act, reset-new, reset-of-session, response-request, sends-no-reset, sends-other}
 use Rattle.wt_promise.proofs.Tables.{OfRows, by-row}
-use Rattle.wt_promise.specs.Promise.{IsHistory, sends_on}
+use Rattle.wt_promise.specs.Promise.{IsHistory, acts_on, sends_on}
 use Rattle.wt_seam_spec.specs.Reports.{datagram_fact, end_of, is_acknowledged, stop_of}
 use Rattle.wt_seam_spec.specs.Streams.{local_bi, local_uni, peer_bi, peer_uni}
 use Rattle.wt_turn.specs.declared.action.Action.{Action}
@@ -115,8 +116,11 @@ ended-acts side h k name s m = by (is_open h) (is_living side h s) refl refl
         of true q c x = eqb-true s k q
         of false q c x = absurd (clash (list_any (sends_on k) (action_if c (actions.Finish s))) x (none-if (sends_on k) c (actions.Finish s) q))
 
+    no-reset : list_any (is_reset_of k) finish ≡ false
+    no-reset = none-if (is_reset_of k) (not (is_some (stop_of (events h) s))) (actions.Finish s) refl
+
     of-gone : list_any (is_reset_of k) (finish ++ gone) ≡ true → list_any (is_reset_of k) gone ≡ true
-    of-gone e = last (list_any (is_reset_of k) finish) (list_any (is_reset_of k) gone) (sym (list_any-append (is_reset_of k) finish gone) ∙ e) (none-if (is_reset_of k) (not (is_some (stop_of (events h) s))) (actions.Finish s) refl)
+    of-gone e = last (list_any (is_reset_of k) finish) (list_any (is_reset_of k) gone) (sym (list_any-append (is_reset_of k) finish gone) ∙ e) no-reset
 
     by : (o l : Bool) → is_open h ≡ o → is_living side h s ≡ l → OwnActs side h k turn (answer replies.Done (if o && l then finish ++ gone else []))
     by false l p q = neither side h k turn replies.Done [] refl refl
@@ -125,6 +129,7 @@ ended-acts side h k name s m = by (is_open h) (is_living side h s) refl refl
       sends = λ e. Ends (ap (is_living side h) (sym (finishes-this (first (list_any (sends_on k) finish) (list_any (sends_on k) gone) (sym (list_any-append (sends_on k) finish gone) ∙ e) (gone-sends-not side h (findings side h) s k)))) ∙ q);
       resets = λ e. GoneBy s (reset-of-session side h (findings side h) s k (of-gone e)) (ap (λ (b : Bool). is_number s (if b then named h name else None)) p ∙ ap (is_number s) m ∙ eq-eqb s s refl);
       once = λ e. reset-new side h (findings side h) s k (of-gone e);
+      quiet = behind-append (is_reset_of k) (acts_on k) finish gone (behind-none (is_reset_of k) (acts_on k) finish no-reset) (gone-quiet side h (findings side h) s k) (λ e. absurd (clash (list_any (is_reset_of k) finish) e no-reset));
     }
 
 -- a reset
@@ -133,11 +138,16 @@ reset-acts side h k id code held n = record {
   sends = λ e. absurd (clash (list_any (sends_on k) (action_if (is_open h) (actions.ResetOut id code))) e (none-if (sends_on k) (is_open h) (actions.ResetOut id code) refl));
   resets = λ e. Held (ap (is_handed_out h) (sym (this e)) ∙ held);
   once = λ e. ap (is_reset h) (sym (this e)) ∙ left (is_reset h id) (was_finished h id && is_acknowledged (events h) id) n;
+  quiet = alone (is_open h);
 }
   where
     left : (a b : Bool) → (a || b) ≡ false → a ≡ false
     left true b q = q
     left false b q = refl
+
+    alone : (b : Bool) → Quiet k (action_if b (actions.ResetOut id code))
+    alone true = (λ e. refl, tt)
+    alone false = tt
 
     this : list_any (is_reset_of k) (action_if (is_open h) (actions.ResetOut id code)) ≡ true → id ≡ k
     this e = by (id == k) refl

@@ -1,5 +1,5 @@
 -- Nothing goes out on a stream after its reset, nor is it reset once more.
-use Rattle.std.specs.Prelude.{[], ◌==◌, ◌||◌, ◌∷◌, ◌≡◌, Bool, List, None, Option, Some, false, if◌then◌else◌, is_some, not, true, unwrap_or, ℕ}
+use Rattle.std.specs.Prelude.{[], ◌==◌, ◌||◌, ◌∷◌, ◌≡◌, Bool, None, Option, Some, false, if◌then◌else◌, is_some, not, true, unwrap_or, ℕ}
 use Rattle.std.specs.List.{list_any}
 use Rattle.std.proofs.Common.{◌∙◌, ap, refl, subst, sym}
 use Rattle.std.proofs.lemmas.Bool.{eqb-true}
@@ -17,6 +17,7 @@ use Rattle.wt_meaning.specs.Windows.{is_established, is_gone, last_request, live
 use Rattle.wt_promise.proofs.Accepted.{and-left, and-right, not-true, or-true}
 use Rattle.wt_promise.proofs.Actions.{AnyPiece, any-next}
 use Rattle.wt_promise.proofs.Begun.{BegunFor, PolledStream, polled-stream}
+use Rattle.wt_promise.proofs.Behind.{neither-acts}
 use Rattle.wt_promise.proofs.ControlKept.{begun-not-control, begun-opening, control-kept, control-not-opened, not-peers, polled-k}
 use Rattle.wt_promise.proofs.Few.{APoll, AnAccept, SessionCall, gone-later, session-call}
 use Rattle.wt_promise.proofs.Flow.{clash}
@@ -36,7 +37,7 @@ use Rattle.wt_promise.proofs.Stays.{any-newest}
 use Rattle.wt_promise.proofs.Tables.{by-session, fits, fits-own}
 use Rattle.wt_promise.proofs.Verdicts.{admitted-later, admitted-peers}
 use Rattle.wt_promise.proofs.WasReset.{Admitted, ByHand, Closed, Later, Opened, WasReset, WithSession, opened-first, was-reset}
-use Rattle.wt_promise.specs.Promise.{IsHistory, SilentAfterReset, sends_on}
+use Rattle.wt_promise.specs.Promise.{IsHistory, acts_on, sends_on}
 use Rattle.wt_seam_spec.specs.Streams.{local_uni}
 use Rattle.wt_turn.specs.declared.action.Action.{Action}
 use Rattle.wt_turn.specs.declared.answer.Answer.{Answer}
@@ -63,7 +64,7 @@ session-zero h s (turns.Call c) i l e = by c (session-call c (next Client h (tur
     by d (APoll q) m f = of (last_begun h) refl (poll-gives Client h (last_begun h) s (ap (λ (x : Call). session_in (next Client h (turns.Call x)).reply) (sym q) ∙ f))
 session-zero h s turn i l e = absurd (cc e)
 
-client-zero : (h : History) → IsHistory Client h → (s : ℕ) → is_established h s ≡ true → s ≡ 0
+pub client-zero : (h : History) → IsHistory Client h → (s : ℕ) → is_established h s ≡ true → s ≡ 0
 client-zero [] i s e = absurd (cc e)
 client-zero (p ∷ h) i s e = by (session_in p.answer.reply) refl (client-zero h i.2 s)
   where
@@ -184,7 +185,7 @@ silent-opening side h i k name s o m l (WithSession t (Opened other x n) g) =
     let d : t ≡ s = cc c in
     clash (is_gone h (findings side h) s) (ap (is_gone h (findings side h)) (sym d) ∙ g) (not-true (is_gone h (findings side h) s) (and-right (is_established h s) _ l))
 
-silent-control : (side : Side) (h : History) → IsHistory side h → WasReset side h (local_uni side) → ⊥
+pub silent-control : (side : Side) (h : History) → IsHistory side h → WasReset side h (local_uni side) → ⊥
 silent-control side h i (ByHand e) = clash (is_handed_out h (local_uni side)) e (control-kept side h i)
 silent-control side h i (Closed a g) = begun-not-control side h i (established-begun side h i (local_uni side) a)
 silent-control side h i (WithSession s (Admitted e) g) = not-peers side (admitted-peers side h s (local_uni side) e)
@@ -231,8 +232,6 @@ reset-once side h turn k i l r (Going s m o n) = clash (is_reset (with_pair h tu
         ap (λ (b : Bool). b || (answers_reset k turn own.reply || list_any (λ (p : Pair). answers_reset k p.turn p.answer.reply) h))
         (any-newest (is_reset_of k) own.actions (actions_out h) ∙ ap (λ (b : Bool). list_any (is_reset_of k) own.actions || b) r ∙ or-true (list_any (is_reset_of k) own.actions))
 
--- ---- an answer
-
 -- where no part of its actions can pass a test, none of them does
 none-next : (test : Action → Bool) → AnyPiece test → (side : Side) (h : History) (turn : Turn) → (list_any test (own_answer side h turn).actions ≡ true → ⊥)
     → (list_any test (moment_actions side (with_pair h turn (own_answer side h turn))) ≡ true → ⊥) → list_any test (next side h turn).actions ≡ false
@@ -242,19 +241,10 @@ none-next test any side h turn f g = by (list_any test (next side h turn).action
     by false q = refl
     by true q = absurd (or-either {P = ⊥} (list_any test (own_answer side h turn).actions) (list_any test (moment_actions side (with_pair h turn (own_answer side h turn)))) (sym (any-next test any side h turn) ∙ q) f g)
 
-none-of-both : (one other : Action → Bool) (as_ : List Action) → list_any one as_ ≡ false → list_any other as_ ≡ false → list_any (λ (a : Action). one a || other a) as_ ≡ false
-none-of-both one other [] e f = refl
-none-of-both one other (a ∷ as_) e f = by (one a) (other a) e f (none-of-both one other as_)
-  where
-    by : (b c : Bool) → (b || list_any one as_) ≡ false → (c || list_any other as_) ≡ false
-        → (list_any one as_ ≡ false → list_any other as_ ≡ false → list_any (λ (x : Action). one x || other x) as_ ≡ false) → ((b || c) || list_any (λ (x : Action). one x || other x) as_) ≡ false
-    by true c p q again = absurd (cc p)
-    by false true p q again = absurd (cc q)
-    by false false p q again = again p q
-
-pub silent-after-reset : (side : Side) (h : History) (turn : Turn) → IsHistory side h → is_lawful side h turn ≡ true → SilentAfterReset h (next side h turn)
-silent-after-reset side h turn i l k r =
-    none-of-both (sends_on k) (is_reset_of k) (next side h turn).actions
+-- so it is in every later answer
+pub silent-later : (side : Side) (h : History) (turn : Turn) → IsHistory side h → is_lawful side h turn ≡ true → (k : ℕ) → list_any (is_reset_of k) (actions_out h) ≡ true → list_any (acts_on k) (next side h turn).actions ≡ false
+silent-later side h turn i l k r =
+    neither-acts k (next side h turn).actions
     (none-next (sends_on k) (λ j x y. refl) side h turn (λ x. silent-call side h turn k i l r ((own-acts side h k turn i l).sends x))
     (λ x. silent-moment side h turn k i l r (moment-sends side (record { turn = turn; answer = own_answer side h turn }) h k x)))
     (none-next (is_reset_of k) (λ j x y. refl) side h turn

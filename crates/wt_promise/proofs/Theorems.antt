@@ -21,7 +21,7 @@ use Rattle.wt_promise.proofs.Few.{few-live}
 use Rattle.wt_promise.proofs.ResultKept.{result-stays}
 use Rattle.wt_promise.proofs.SettingsOut.{settings-go-out}
 use Rattle.wt_promise.proofs.InOrder.{sends-in-order}
-use Rattle.wt_promise.proofs.Silent.{silent-after-reset}
+use Rattle.wt_promise.proofs.SilentBehind.{silent-after-reset}
 use Rattle.wt_promise.proofs.Established.{established-rightly}
 use Rattle.wt_promise.proofs.GoneTold.{gone-told}
 use Rattle.wt_turn.specs.declared.call.Call.TheVariants as calls
@@ -79,7 +79,7 @@ settings_theorem = settings-go-out
 pub sends_theorem : (side : Side) (h : History) → IsHistory side h → (k : ℕ) → SendsInOrder side h k
 sends_theorem = sends-in-order
 
-pub silent_theorem : (side : Side) (h : History) (turn : Turn) → IsHistory side h → is_lawful side h turn ≡ true → SilentAfterReset h (next side h turn)
+pub silent_theorem : (side : Side) (h : History) (turn : Turn) → IsHistory side h → is_lawful side h turn ≡ true → (k : ℕ) → SilentAfterReset h (next side h turn) k
 silent_theorem = silent-after-reset
 
 pub established_theorem : (side : Side) (h : History) (turn : Turn) → IsHistory side h → is_lawful side h turn ≡ true → EstablishedRightly side h turn (next side h turn)

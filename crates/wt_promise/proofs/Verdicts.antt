@@ -2,7 +2,7 @@
 use Rattle.std.specs.Prelude.{[], ◌++◌, ◌==◌, ◌||◌, ◌∷◌, ◌≡◌, Bool, List, None, Option, Some, false, filter_map, if◌then◌else◌, is_some, true, ℕ}
 use Rattle.std.specs.List.{list_any}
 use Rattle.std.specs.Option.{option_or}
-use Rattle.std.proofs.Common.{◌∙◌, ap, refl, sym}
+use Rattle.std.proofs.Common.{◌∙◌, ap, refl, subst, sym}
 use Rattle.std.proofs.lemmas.Bool.{eq-eqb, eqb-true}
 use Rattle.std.proofs.lemmas.List.Folds.{list_any-append}
 use Rattle.wt_meaning.specs.Calls.{being_opened, opened_by, opening_for}
@@ -14,7 +14,7 @@ use Rattle.wt_meaning.specs.Moments.{findings, keeps, stream_fault}
 use Rattle.wt_meaning.specs.Sends.{admits}
 use Rattle.wt_meaning.specs.Windows.{named, queued_request}
 use Rattle.wt_promise.proofs.Accepted.{bi-accepted, uni-accepted}
-use Rattle.wt_promise.proofs.Few.{given-queued, has}
+use Rattle.wt_promise.proofs.Few.{given-before, given-queued, has}
 use Rattle.wt_promise.proofs.Grows.{AClassified, AClosed, ADatagram, ADequeued, AFault, ASettings, Adds, Nothing, findings-add, findings-keep, first_of-append, first_of-stays, is_peers, news, of-stream-fault}
 use Rattle.wt_promise.proofs.HandedOut.{GivesOpened, admitted-classified, being-begun, gives-opened, only-peers, opened-local}
 use Rattle.wt_promise.proofs.Tables.{by-session, fits, fits-own}
@@ -62,38 +62,48 @@ one-new k test Good found more v b c g e = (v, first_of-append (verdict_in k) fo
 
 -- ---- admitted streams
 
--- the verdict is a session's stream
-pub data IsStream : Verdict → Type 0 where
-  AStream : (s offset : ℕ) → IsStream (verdicts.WebTransport s offset)
+-- the verdict is a stream of this session
+pub data IsStream (s : ℕ) : Verdict → Type 0 where
+  AStream : (offset : ℕ) → IsStream s (verdicts.WebTransport s offset)
 
 no-admits : (s k : ℕ) (found : List Finding) (v : Verdict) → list_any (admits s k) (stream_fault found v) ≡ false
 no-admits s k = of-stream-fault (λ (fs : List Finding). list_any (admits s k) fs ≡ false) refl (λ code. refl)
 
-stream-step : (side : Side) (h : History) (s k : ℕ) (found new : List Finding) → Adds side h found new → OneVerdict k (admits s k) IsStream found → OneVerdict k (admits s k) IsStream (found ++ new)
-stream-step side h s k found [] Nothing g = one-with k (admits s k) IsStream found [] refl g
-stream-step side h s k found new (ADequeued j p) g = one-with k (admits s k) IsStream found new refl g
-stream-step side h s k found new (ADatagram n t payload c) g = one-with k (admits s k) IsStream found new refl g
-stream-step side h s k found new (AClosed t code reason b l) g = one-with k (admits s k) IsStream found new refl g
-stream-step side h s k found new (ASettings c) g = one-with k (admits s k) IsStream found new refl g
-stream-step side h s k found new (AFault code) g = one-with k (admits s k) IsStream found new refl g
-stream-step side h s k found new (AClassified j (verdicts.WebTransport t offset) more p d c w m) g = by (keeps h found (verdicts.WebTransport t offset)) (j == k) refl
+stream-step : (side : Side) (h : History) (s k : ℕ) (found new : List Finding) → Adds side h found new → OneVerdict k (admits s k) (IsStream s) found → OneVerdict k (admits s k) (IsStream s) (found ++ new)
+stream-step side h s k found [] Nothing g = one-with k (admits s k) (IsStream s) found [] refl g
+stream-step side h s k found new (ADequeued j p) g = one-with k (admits s k) (IsStream s) found new refl g
+stream-step side h s k found new (ADatagram n t payload c) g = one-with k (admits s k) (IsStream s) found new refl g
+stream-step side h s k found new (AClosed t code reason b l) g = one-with k (admits s k) (IsStream s) found new refl g
+stream-step side h s k found new (ASettings c) g = one-with k (admits s k) (IsStream s) found new refl g
+stream-step side h s k found new (AFault code) g = one-with k (admits s k) (IsStream s) found new refl g
+stream-step side h s k found new (AClassified j (verdicts.WebTransport t offset) more p d c w m) g = by (keeps h found (verdicts.WebTransport t offset)) (j == k) (t == s) refl refl
   where
     none-more : list_any (admits s k) more ≡ false
     none-more = ap (list_any (admits s k)) m
 
-    by : (b same : Bool) → (j == k) ≡ same → OneVerdict k (admits s k) IsStream (found ++ (Classified j (verdicts.WebTransport t offset) b ∷ more))
-    by false same q = one-with k (admits s k) IsStream found _ none-more g
-    by true false q = one-with k (admits s k) IsStream found _ (rw (q, none-more) refl) g
-    by true true q =
+    by : (b same mine : Bool) → (j == k) ≡ same → (t == s) ≡ mine → OneVerdict k (admits s k) (IsStream s) (found ++ (Classified j (verdicts.WebTransport t offset) b ∷ more))
+    by false same mine q x = one-with k (admits s k) (IsStream s) found _ none-more g
+    by true false mine q x = one-with k (admits s k) (IsStream s) found _ (rw (q, none-more) refl) g
+    by true true false q x = one-with k (admits s k) (IsStream s) found _ (rw (q, x, none-more) refl) g
+    by true true true q x =
         let i : j ≡ k = eqb-true j k q in
-        rw i (one-new k (admits s k) IsStream found more (verdicts.WebTransport t offset) true (ap (is_classified found) (sym i) ∙ c) (AStream t offset))
-stream-step side h s k found new (AClassified j v more p d c w m) g = one-with k (admits s k) IsStream found new (ap (list_any (admits s k)) m ∙ no-admits s k found v) g
+        rw i (one-new k (admits s k) (IsStream s) found more (verdicts.WebTransport t offset) true (ap (is_classified found) (sym i) ∙ c)
+        (subst (λ (n : ℕ). IsStream s (verdicts.WebTransport n offset)) (sym (eqb-true t s x)) (AStream offset)))
+stream-step side h s k found new (AClassified j v more p d c w m) g = one-with k (admits s k) (IsStream s) found new (ap (list_any (admits s k)) m ∙ no-admits s k found v) g
 
--- an admitted stream's verdict is a session's stream
-pub admitted-verdict : (side : Side) (h : History) (s k : ℕ) → OneVerdict k (admits s k) IsStream (findings side h)
+-- an admitted stream's verdict is a stream of the session
+pub admitted-verdict : (side : Side) (h : History) (s k : ℕ) → OneVerdict k (admits s k) (IsStream s) (findings side h)
 unfolding findings
 admitted-verdict side [] s k = λ e. absurd (cc e)
-admitted-verdict side (p ∷ h) s k = findings-keep side p h (OneVerdict k (admits s k) IsStream) (λ found new a n g. stream-step side (p ∷ h) s k found new a g) (admitted-verdict side h s k)
+admitted-verdict side (p ∷ h) s k = findings-keep side p h (OneVerdict k (admits s k) (IsStream s)) (λ found new a n g. stream-step side (p ∷ h) s k found new a g) (admitted-verdict side h s k)
+
+same-session : (s t : ℕ) (v w : Verdict) → v ≡ w → IsStream s v → IsStream t w → s ≡ t
+same-session s t v w e (AStream offset) (AStream other) = cc e
+
+-- so that it is of one session
+pub admitted-once : (side : Side) (h : History) (s t k : ℕ) → list_any (admits s k) (findings side h) ≡ true → list_any (admits t k) (findings side h) ≡ true → s ≡ t
+admitted-once side h s t k e f =
+    let a = admitted-verdict side h s k e in let b = admitted-verdict side h t k f in let same : a.0 ≡ b.0 = cc (a.1, b.1) in same-session s t a.0 b.0 same a.2 b.2
 
 -- ---- queued requests
 
@@ -195,8 +205,8 @@ admitted-peers side h s k e = only-peers side h k (admitted-classified s k (find
 
 -- ---- requests
 
-stream-not-request : (v w : Verdict) → v ≡ w → IsStream v → IsRequest w → ⊥
-stream-not-request v w e (AStream s offset) (ARequest headers o) = cc e
+stream-not-request : (s : ℕ) (v w : Verdict) → v ≡ w → IsStream s v → IsRequest w → ⊥
+stream-not-request s v w e (AStream offset) (ARequest headers o) = cc e
 
 -- a request that was given is no admitted stream
 pub given-not-admitted : (side : Side) (h : History) → IsHistory side h → (s k : ℕ) → was_given h k ≡ true → list_any (admits s k) (findings side h) ≡ false
@@ -206,7 +216,11 @@ given-not-admitted side h i s k g = by (list_any (admits s k) (findings side h))
     by false q = refl
     by true q =
         let a = admitted-verdict side h s k q in let r = queued-verdict side h k (queues-has k (findings side h) (given-queued side h i k g)) in
-        let same : a.0 ≡ r.0 = cc (a.1, r.1) in absurd (stream-not-request a.0 r.0 same a.2 r.2)
+        let same : a.0 ≡ r.0 = cc (a.1, r.1) in absurd (stream-not-request s a.0 r.0 same a.2 r.2)
+
+-- it was classified before the moment at which it was given
+pub given-classified : (side : Side) (p : Pair) (h : History) → IsHistory side (p ∷ h) → (k : ℕ) → was_given (p ∷ h) k ≡ true → is_classified (findings side h) k ≡ true
+given-classified side p h i k g = let r = queued-verdict side h k (queues-has k (findings side h) (given-before side p h i k g)) in ap is_some r.1
 
 -- it is the peer's
 pub given-peers : (side : Side) (h : History) → IsHistory side h → (k : ℕ) → was_given h k ≡ true → is_peers side k ≡ true

@@ -71,12 +71,12 @@ pub data Of (h : History) (found : List Finding) (s k : ℕ) : Type 0 where
   Admitted : list_any (admits s k) found ≡ true → Of h found s k
   Opened : (name : Option ℕ) → OpenedIn k name h → named h name ≡ Some s → Of h found s k
 
-of-is : (h : History) (found : List Finding) (s k : ℕ) → is_of_session h found s k ≡ true → Of h found s k
+pub of-is : (h : History) (found : List Finding) (s k : ℕ) → is_of_session h found s k ≡ true → Of h found s k
 of-is h found s k e =
     or-either {P = Of h found s k} (list_any (admits s k) found) (list_any (λ (p : Pair). opens_for h s k p.turn p.answer.reply) h) e (λ x. Admitted x)
     (λ x. let o = opened-in h s k h x in Opened o.0 o.1 o.2)
 
-of-later : (p : Pair) (h : History) (found more : List Finding) (s k : ℕ) → Of h found s k → Of (p ∷ h) (found ++ more) s k
+pub of-later : (p : Pair) (h : History) (found more : List Finding) (s k : ℕ) → Of h found s k → Of (p ∷ h) (found ++ more) s k
 of-later p h found more s k (Admitted e) = Admitted (list_any-append (admits s k) found more ∙ ap (λ (b : Bool). b || list_any (admits s k) more) e)
 of-later p h found more s k (Opened name o n) = Opened name (Later p h o) (named-stays p h name s n)
 
@@ -92,6 +92,18 @@ of-actions p q h found s k t r (Opened name o n) = Opened name (opened o) (sym (
     opened : OpenedIn k name (p ∷ h) → OpenedIn k name (q ∷ h)
     opened (Here x g e) = Here q h (sym (ap (λ (y : Turn). opened_by k y q.answer.reply) t) ∙ sym (ap (opened_by k p.turn) r) ∙ e)
     opened (Later x g e) = Later q h e
+
+-- what is of the session after the call's own actions is so after the whole answer
+pub of-next : (side : Side) (h : History) (turn : Turn) (s k : ℕ) → is_of_session (with_pair h turn (own_answer side h turn)) (findings side (with_pair h turn (own_answer side h turn))) s k ≡ true
+    → Of (with_pair h turn (next side h turn)) (findings side (with_pair h turn (next side h turn))) s k
+of-next side h turn s k o =
+    subst (λ (xs : List Finding). Of (p ∷ h) xs s k) (sym (same-findings side h turn)) (of-actions q p h (findings side (q ∷ h)) s k refl refl (of-is (q ∷ h) (findings side (q ∷ h)) s k o))
+  where
+    p : Pair
+    p = record { turn = turn; answer = next side h turn }
+
+    q : Pair
+    q = record { turn = turn; answer = own_answer side h turn }
 
 -- ---- why it was reset
 
@@ -112,7 +124,7 @@ reset-stays side p h k (WithSession s o g) =
     WithSession s (subst (λ (xs : List Finding). Of (p ∷ h) xs s k) (sym (findings-add side p h)) (of-later p h (findings side h) (news side p h) s k o)) (gone-stays side p h s g)
 
 -- of an answer that resets it
-new-reset : (side : Side) (h : History) (turn : Turn) → IsHistory side h → is_lawful side h turn ≡ true → (k : ℕ) → list_any (is_reset_of k) (next side h turn).actions ≡ true → WasReset side (with_pair h turn (next side h turn)) k
+pub new-reset : (side : Side) (h : History) (turn : Turn) → IsHistory side h → is_lawful side h turn ≡ true → (k : ℕ) → list_any (is_reset_of k) (next side h turn).actions ≡ true → WasReset side (with_pair h turn (next side h turn)) k
 new-reset side h turn i l k e =
     or-either {P = WasReset side (p ∷ h) k} (list_any (is_reset_of k) own.actions) (list_any (is_reset_of k) (moment_actions side (q ∷ h))) (sym (any-next (is_reset_of k) (λ j x y. refl) side h turn) ∙ e)
     (λ x. by-call ((own-acts side h k turn i l).resets x)) (λ x. by-moment (moment-resets side q h k x))
@@ -137,8 +149,7 @@ new-reset side h turn i l k e =
         let d : list_any (closes_session k) (news side p h) ≡ true = ap (list_any (closes_session k)) (sym (same-news side h turn)) ∙ c in
         Closed (and-left (is_established (p ∷ h) k) _ (closed-lived side p h k d)) (found-gone side p h k (closed-gone k (news side p h) d))
     by-moment (Going s m o n) =
-        WithSession s (subst (λ (xs : List Finding). Of (p ∷ h) xs s k) (sym (same-findings side h turn)) (of-actions q p h (findings side (q ∷ h)) s k refl refl (of-is (q ∷ h) (findings side (q ∷ h)) s k o)))
-        (found-gone side p h s (ap (list_any (makes_gone s)) (sym (same-news side h turn)) ∙ m))
+        WithSession s (of-next side h turn s k o) (found-gone side p h s (ap (list_any (makes_gone s)) (sym (same-news side h turn)) ∙ m))
 
 pub was-reset : (side : Side) (h : History) → IsHistory side h → (k : ℕ) → list_any (is_reset_of k) (actions_out h) ≡ true → WasReset side h k
 was-reset side [] i k e = absurd (cc e)

@@ -315,11 +315,19 @@ sends_on k (actions.Send id piece) = id == k
 sends_on k (actions.Finish id) = id == k
 sends_on k _ = false
 
--- nothing goes out on a stream after an answer that resets it, nor is it reset once more (what stands behind a reset in one
--- answer isn't spoken of)
-abbrev pub SilentAfterReset : History → Answer → Type 0
-SilentAfterReset h a =
-    (k : ℕ) → list_any (is_reset_of k) (actions_out h) ≡ true → list_any (λ (x : Action). sends_on k x || is_reset_of k x) a.actions ≡ false
+-- the action sends on the stream, finishes or resets it
+abbrev pub acts_on : ℕ → Action → Bool
+acts_on k a = sends_on k a || is_reset_of k a
+
+-- behind an element that passes the first test none passes the second
+abbrev pub NoneBehind : {T : Type 0} → (T → Bool) → (T → Bool) → List T → Type 0
+NoneBehind first later [] = Unit {0}
+NoneBehind first later (x ∷ xs) = (first x ≡ true → list_any later xs ≡ false) × NoneBehind first later xs
+
+-- nothing goes out on a stream after its reset, in a later answer or behind it in the same one, nor a second reset
+pub record SilentAfterReset (h : History) (a : Answer) (k : ℕ) : Type 0 where
+  pub later : list_any (is_reset_of k) (actions_out h) ≡ true → list_any (acts_on k) a.actions ≡ false
+  pub behind : NoneBehind (is_reset_of k) (acts_on k) a.actions
 
 -- ---- cutting
 

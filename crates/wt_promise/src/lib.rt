@@ -92,9 +92,9 @@ pub fn sends_are_in_order()
     ensures order { (side : Side) (h : History) → IsHistory side h → (k : ℕ) → SendsInOrder side h k }
 {}
 
-/// Nothing goes out on a stream after its reset, nor a second reset.
+/// Nothing goes out on a stream after its reset, in a later answer or behind it in the same one, nor a second reset.
 pub fn nothing_goes_out_after_a_reset()
-    ensures silent { (side : Side) (h : History) (turn : Turn) → IsHistory side h → is_lawful side h turn ≡ true → SilentAfterReset h (next side h turn) }
+    ensures silent { (side : Side) (h : History) (turn : Turn) → IsHistory side h → is_lawful side h turn ≡ true → (k : ℕ) → SilentAfterReset h (next side h turn) k }
 {}
 
 /// A session is established on an open connection, once the peer's SETTINGS and a CONNECT or a 2xx came and the whole frame of its request, or of its response of status 200, is out, and only once.
