@@ -1,7 +1,7 @@
 -- What a finding owes goes out in the answer in which it is found.
 use Rattle.std.specs.Prelude.{[], ◌++◌, ◌==◌, ◌∷◌, ◌||◌, ◌≡◌, Bool, List, None, Some, drop, false, if◌then◌else◌, is_some, length, true, ℕ}
 use Rattle.std.specs.List.{list_any}
-use Rattle.std.proofs.Common.{◌∙◌, ap, refl, sym}
+use Rattle.std.proofs.Common.{◌∙◌, ap, append_assoc, append-nil, refl, sym}
 use Rattle.std.proofs.Math.Seq.{drop-append_seam}
 use Rattle.std.proofs.lemmas.Bool.{eq-eqb}
 use Rattle.std.proofs.lemmas.List.Folds.{list_any-append}
@@ -33,10 +33,12 @@ pub has-right : (test : Action → Bool) (xs ys : List Action) → list_any test
 has-right test xs ys e = list_any-append test xs ys ∙ ap (λ (b : Bool). list_any test xs || b) e ∙ or-true (list_any test xs)
 
 -- what goes out for a finding goes out for a list with it
-pub among : (test : Action → Bool) (side : Side) (h : History) (found xs ys : List Finding) (f : Finding) → ((seen : List Finding) → list_any test (actions_for side h seen f) ≡ true)
+pub among : (test : Action → Bool) (side : Side) (h : History) (found xs ys : List Finding) (f : Finding) → list_any test (actions_for side h (found ++ xs) f) ≡ true
     → list_any test (actions_for_all side h found (xs ++ f ∷ ys)) ≡ true
-among test side h found [] ys f e = has-left test (actions_for side h found f) _ (e found)
-among test side h found (x ∷ xs) ys f e = has-right test (actions_for side h found x) _ (among test side h (found ++ x ∷ []) xs ys f e)
+among test side h found [] ys f e = has-left test (actions_for side h found f) _ (ap (λ (seen : List Finding). list_any test (actions_for side h seen f)) (sym (append-nil found)) ∙ e)
+among test side h found (x ∷ xs) ys f e =
+    has-right test (actions_for side h found x) _
+    (among test side h (found ++ x ∷ []) xs ys f (ap (λ (seen : List Finding). list_any test (actions_for side h seen f)) (append_assoc found (x ∷ []) xs) ∙ e))
 
 -- ---- the moment's actions are in the answer
 
@@ -63,13 +65,13 @@ same k = eq-eqb k k refl
 stop-there : (id code : ℕ) → stops_with id code (actions.StopOut id code) ≡ true
 stop-there id code = rw (same id, same code) refl
 
-either-stop : (id : ℕ) (g : Bool) → (stops_with id 0x3994bd84 (actions.StopOut id (if g then 0x170d7b68 else 0x3994bd84)) || stops_with id 0x170d7b68 (actions.StopOut id (if g then 0x170d7b68 else 0x3994bd84))) ≡ true
-either-stop id true = rw (same id) refl
-either-stop id false = rw (same id) refl
+-- the code for a stream that no window takes
+abbrev gone_code : Bool → ℕ
+gone_code gone = if gone then 0x170d7b68 else 0x3994bd84
 
-owed-by : (side : Side) (h : History) (found : List Finding) (f : Finding) (test : Action → Bool) → owes h f ≡ Some test → list_any test (actions_for side h found f) ≡ true
+owed-by : (side : Side) (h : History) (found : List Finding) (f : Finding) (test : Action → Bool) → owes h found f ≡ Some test → list_any test (actions_for side h found f) ≡ true
 owed-by side h found (Classified id (verdicts.WebTransport session offset) false) test e =
-    let t : test ≡ (λ (a : Action). stops_with id 0x3994bd84 a || stops_with id 0x170d7b68 a) = cc e in rw (t, either-stop id (is_gone h found session)) refl
+    let t : test ≡ stops_with id (gone_code (is_gone h found session)) = cc e in rw (t, stop-there id (gone_code (is_gone h found session))) refl
 owed-by side h found (Classified id (verdicts.Refused code) keeps) test e = let t : test ≡ stops_with id (code_of code) = cc e in rw (t, stop-there id (code_of code)) refl
 owed-by side h found (Classified id (verdicts.Request headers offset) false) test e = let t : test ≡ stops_with id 0x10b = cc e in rw (t, stop-there id 0x10b) refl
 owed-by side h found (SessionClosed session code reason true) test e = let t : test ≡ resets_with session 0x100 = cc e in rw (t, same session) refl
@@ -82,22 +84,22 @@ owed-by side h found (Faulted code) test e = let t : test ≡ closes_with (code_
 owed-by side h found f test e = absurd (cc e)
 
 -- no such test asks anything of a piece
-asks-no-piece : (h : History) (f : Finding) (test : Action → Bool) → owes h f ≡ Some test → AnyPiece test
-asks-no-piece h (Classified id (verdicts.WebTransport session offset) false) test e =
-    let t : test ≡ (λ (a : Action). stops_with id 0x3994bd84 a || stops_with id 0x170d7b68 a) = cc e in λ i p q. rw t refl
-asks-no-piece h (Classified id (verdicts.Refused code) keeps) test e = let t : test ≡ stops_with id (code_of code) = cc e in λ i p q. rw t refl
-asks-no-piece h (Classified id (verdicts.Request headers offset) false) test e = let t : test ≡ stops_with id 0x10b = cc e in λ i p q. rw t refl
-asks-no-piece h (SessionClosed session code reason true) test e = let t : test ≡ resets_with session 0x100 = cc e in λ i p q. rw t refl
-asks-no-piece h (SessionClosed session code reason false) test e = by (is_some (stop_of (events h) session)) e
+asks-no-piece : (h : History) (found : List Finding) (f : Finding) (test : Action → Bool) → owes h found f ≡ Some test → AnyPiece test
+asks-no-piece h found (Classified id (verdicts.WebTransport session offset) false) test e =
+    let t : test ≡ stops_with id (gone_code (is_gone h found session)) = cc e in λ i p q. rw t refl
+asks-no-piece h found (Classified id (verdicts.Refused code) keeps) test e = let t : test ≡ stops_with id (code_of code) = cc e in λ i p q. rw t refl
+asks-no-piece h found (Classified id (verdicts.Request headers offset) false) test e = let t : test ≡ stops_with id 0x10b = cc e in λ i p q. rw t refl
+asks-no-piece h found (SessionClosed session code reason true) test e = let t : test ≡ resets_with session 0x100 = cc e in λ i p q. rw t refl
+asks-no-piece h found (SessionClosed session code reason false) test e = by (is_some (stop_of (events h) session)) e
   where
     by : (b : Bool) → (if b then None else Some (finishes session)) ≡ Some test → AnyPiece test
     by true q = absurd (cc q)
     by false q = let t : test ≡ finishes session = cc q in λ i p q. rw t refl
-asks-no-piece h (Faulted code) test e = let t : test ≡ closes_with (code_of code) = cc e in λ i p q. rw t refl
-asks-no-piece h f test e = absurd (cc e)
+asks-no-piece h found (Faulted code) test e = let t : test ≡ closes_with (code_of code) = cc e in λ i p q. rw t refl
+asks-no-piece h found f test e = absurd (cc e)
 
 pub owed-goes-out : (side : Side) (h : History) (turn : Turn) → OwedGoesOut side h turn (next side h turn)
 owed-goes-out side h turn before after f test o e w =
-    moment-has test (asks-no-piece (with_pair h turn (next side h turn)) f test w) side h turn (before ++ f ∷ after) o e
+    moment-has test (asks-no-piece (with_pair h turn (next side h turn)) (findings side h ++ before) f test w) side h turn (before ++ f ∷ after) o e
     (among test side (with_pair h turn (own_answer side h turn)) (findings side h) before after f
-    (λ (seen : List Finding). owed-by side (with_pair h turn (own_answer side h turn)) seen f test w))
+    (owed-by side (with_pair h turn (own_answer side h turn)) (findings side h ++ before) f test w))

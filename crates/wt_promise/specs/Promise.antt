@@ -235,23 +235,25 @@ abbrev pub closes_with : ℕ → Action → Bool
 closes_with code (actions.Close c []) = c == code
 closes_with code _ = false
 
--- What a finding owes: a stream that no window takes is stopped (draft-ietf-webtrans-http3, sections 4.5 and 5), a refused
--- request with its code, and a surplus one with H3_REQUEST_REJECTED; a session that the peer closed ends its own stream,
--- with H3_NO_ERROR after a capsule, unless the peer stopped it; a fault closes with its code.
-abbrev pub owes : History → Finding → Option (Action → Bool)
-owes h (Classified id (verdicts.WebTransport session offset) false) = Some (λ (a : Action). stops_with id 0x3994bd84 a || stops_with id 0x170d7b68 a)
-owes h (Classified id (verdicts.Refused code) keeps) = Some (stops_with id (code_of code))
-owes h (Classified id (verdicts.Request headers offset) false) = Some (stops_with id 0x10b)
-owes h (SessionClosed session code reason true) = Some (resets_with session 0x100)
-owes h (SessionClosed session code reason false) = if is_some (stop_of (events h) session) then None else Some (finishes session)
-owes h (Faulted code) = Some (closes_with (code_of code))
-owes h _ = None
+-- What a finding owes, after those before it: a stream that no window takes is stopped with WEBTRANSPORT_SESSION_GONE where
+-- its session is gone, else with WEBTRANSPORT_BUFFERED_STREAM_REJECTED (draft-ietf-webtrans-http3, sections 4.5 and 5), a
+-- refused request with its code, and a surplus one with H3_REQUEST_REJECTED; a session that the peer closed ends its own
+-- stream, with H3_NO_ERROR after a capsule, unless the peer stopped it; a fault closes with its code.
+abbrev pub owes : History → List Finding → Finding → Option (Action → Bool)
+owes h found (Classified id (verdicts.WebTransport session offset) false) = Some (stops_with id (if is_gone h found session then 0x170d7b68 else 0x3994bd84))
+owes h found (Classified id (verdicts.Refused code) keeps) = Some (stops_with id (code_of code))
+owes h found (Classified id (verdicts.Request headers offset) false) = Some (stops_with id 0x10b)
+owes h found (SessionClosed session code reason true) = Some (resets_with session 0x100)
+owes h found (SessionClosed session code reason false) = if is_some (stop_of (events h) session) then None else Some (finishes session)
+owes h found (Faulted code) = Some (closes_with (code_of code))
+owes h found _ = None
 
 -- what a finding owes goes out in the answer in which it is found, while the connection is open
 abbrev pub OwedGoesOut : Side → History → Turn → Answer → Type 0
 OwedGoesOut side h turn a =
     (before after : List Finding) (f : Finding) (test : Action → Bool) → leaves_open side h turn ≡ true
-    → findings side (with_pair h turn a) ≡ findings side h ++ (before ++ f ∷ after) → owes (with_pair h turn a) f ≡ Some test → list_any test a.actions ≡ true
+    → findings side (with_pair h turn a) ≡ findings side h ++ (before ++ f ∷ after) → owes (with_pair h turn a) (findings side h ++ before) f ≡ Some test
+    → list_any test a.actions ≡ true
 
 -- ---- what this end sends
 
