@@ -45,4 +45,8 @@ pub mod Established
 pub mod GoneSends
 pub mod GoneByCall
 pub mod GoneTold
+pub mod Ends
+pub mod OnlyOwed
+pub mod OwnEnds
+pub mod Amounts
 pub mod Theorems

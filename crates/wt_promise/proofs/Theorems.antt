@@ -6,8 +6,9 @@ use Rattle.wt_wire.specs.declared.side.Side.{Side}
 use Rattle.wt_meaning.specs.History.{History}
 use Rattle.wt_meaning.specs.Lawful.{is_lawful}
 use Rattle.wt_meaning.specs.Meaning.{meaning, next, run}
-use Rattle.wt_promise.specs.Promise.{AllLawful, BiAccepted, CutsFreely, DatagramReceived, DatagramsInOrder, EndsRightly, EstablishedRightly, FewLive, GivesWhatWaits, GoneIsTold, IsHistory, NothingAfterEnd, OpenExactly, OwedGoesOut, PendingExactly, ReadsInOrder, ResultStays, SendsInOrder, SettingsGoOut, SilentAfterReset, UniAccepted}
+use Rattle.wt_promise.specs.Promise.{AllLawful, BiAccepted, CutsFreely, DatagramReceived, DatagramsInOrder, EndsRightly, EstablishedRightly, ExactGives, FewLive, GivesWhatWaits, GoneIsTold, IsHistory, NothingAfterEnd, OnlyOwedGoesOut, OpenExactly, OwedGoesOut, PendingExactly, ReadGives, ReadsInOrder, ResultStays, SendsInOrder, SettingsGoOut, SilentAfterReset, UniAccepted, WriteAccepts, WriteAllAccepts}
 use Rattle.wt_promise.proofs.Accepted.{bi-accepted, datagram-received, uni-accepted}
+use Rattle.wt_promise.proofs.Amounts.{exact-gives, read-gives, write-accepts, write-all-accepts}
 use Rattle.wt_promise.proofs.Ended.{nothing-after-end}
 use Rattle.wt_promise.proofs.Lists.{cuts-freely, run_from-lawful}
 use Rattle.wt_promise.proofs.Polls.{call-waits}
@@ -16,6 +17,7 @@ use Rattle.wt_promise.proofs.Datagrams.{datagrams-in-order}
 use Rattle.wt_promise.proofs.Gives.{gives-what-waits}
 use Rattle.wt_promise.proofs.OpenStays.{open-exactly}
 use Rattle.wt_promise.proofs.Owed.{owed-goes-out}
+use Rattle.wt_promise.proofs.OwnEnds.{only-owed}
 use Rattle.wt_promise.proofs.ReadPieces.{reads-in-order}
 use Rattle.wt_promise.proofs.Few.{few-live}
 use Rattle.wt_promise.proofs.ResultKept.{result-stays}
@@ -52,6 +54,18 @@ datagram_theorem = datagram-received
 pub ends_theorem : (side : Side) (h : History) (id size : ℕ) → EndsRightly side h id size
 ends_theorem = ends-rightly
 
+pub read_theorem : (side : Side) (h : History) (id size : ℕ) → ReadGives side h id size
+read_theorem = read-gives
+
+pub exact_theorem : (side : Side) (h : History) (id size : ℕ) → ExactGives side h id size
+exact_theorem = exact-gives
+
+pub write_theorem : (side : Side) (h : History) (id : ℕ) (bytes : List ℕ) → WriteAccepts side h id bytes
+write_theorem = write-accepts
+
+pub write_all_theorem : (side : Side) (h : History) (id : ℕ) (bytes : List ℕ) → WriteAllAccepts side h id bytes
+write_all_theorem = write-all-accepts
+
 pub gives_theorem : (side : Side) (h : History) (turn : Turn) → GivesWhatWaits side h turn (next side h turn)
 gives_theorem = gives-what-waits
 
@@ -60,6 +74,9 @@ open_theorem = open-exactly
 
 pub owed_theorem : (side : Side) (h : History) (turn : Turn) → OwedGoesOut side h turn (next side h turn)
 owed_theorem = owed-goes-out
+
+pub only_theorem : (side : Side) (h : History) (turn : Turn) → IsHistory side h → is_lawful side h turn ≡ true → OnlyOwedGoesOut side h turn (next side h turn)
+only_theorem = only-owed
 
 pub reads_theorem : (side : Side) (h : History) → IsHistory side h → ReadsInOrder side h
 reads_theorem = reads-in-order

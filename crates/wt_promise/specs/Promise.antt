@@ -1,5 +1,5 @@
 -- What is promised of every history of lawful turns and their answers, as sentences over its pairs.
-use Rattle.std.specs.Prelude.{[], ◌%◌, ◌&&◌, ◌++◌, ◌==◌, ◌∷◌, ◌||◌, ◌≡◌, ◌≤◌, Bool, Err, List, None, Ok, Option, Result, Some, codes, drop, false, filter, filter_map, if◌then◌else◌, is_none, is_some, length, map, nat_le, not, take, true, unwrap_or, ℕ}
+use Rattle.std.specs.Prelude.{[], ◌%◌, ◌&&◌, ◌++◌, ◌==◌, ◌∷◌, ◌||◌, ◌≡◌, ◌≤◌, All, Bool, Contains, Err, List, None, Ok, Option, Result, Some, codes, drop, false, filter, filter_map, if◌then◌else◌, is_none, is_some, length, map, nat_le, not, take, true, unwrap_or, ℕ}
 use Rattle.std.specs.List.{list_any}
 use Rattle.std.specs.Option.{option_or}
 use Rattle.url.specs.Parser.{parse_url}
@@ -18,13 +18,14 @@ use Rattle.wt_turn.specs.declared.connecting_error.ConnectingError.{ConnectingEr
 use Rattle.wt_turn.specs.declared.reply.Reply.{Reply}
 use Rattle.wt_turn.specs.declared.turn.Turn.{Turn}
 use Rattle.wt_wire.specs.Codes.{code_of}
+use Rattle.wt_wire.specs.declared.error.ErrorCode.{ErrorCode}
 use Rattle.wt_wire.specs.declared.side.Side.{Side}
 use Rattle.wt_wire.specs.declared.side.Side.TheVariants.{Client, Server}
 use Rattle.wt_meaning.specs.Calls.{first_datagram, first_waiting, is_living, opened_by, session_error, stream_header}
 use Rattle.wt_meaning.specs.Findings.{Classified, Faulted, Finding, SessionClosed, fault_of, first_of, settings_came, verdict_of}
-use Rattle.wt_meaning.specs.Halves.{body_start, unread, was_read}
-use Rattle.wt_meaning.specs.Handshakes.{acceptance_frame, begun_by, is_opened, is_success, last_begun}
-use Rattle.wt_meaning.specs.History.{History, Pair, actions_out, can_receive, can_send, contents, events, is_given_up, is_handed_out, is_open, is_reset, is_reset_of, loses, out, was_finished}
+use Rattle.wt_meaning.specs.Halves.{body_start, has_receiving, has_sending, is_closed, read_by, unread, was_read}
+use Rattle.wt_meaning.specs.Handshakes.{acceptance_frame, begun_by, is_nothing, is_opened, is_success, last_begun, response_fault}
+use Rattle.wt_meaning.specs.History.{History, Pair, actions_out, can_receive, can_send, contents, credit_left, events, is_given_up, is_handed_out, is_open, is_reset, is_reset_of, loses, out, was_finished}
 use Rattle.wt_meaning.specs.Lawful.{is_lawful, is_pending}
 use Rattle.wt_meaning.specs.Meaning.{answer_to, history_after, next, own_answer, with_pair}
 use Rattle.wt_meaning.specs.Moments.{findings}
@@ -122,6 +123,26 @@ ReadsInOrder side h = (k : ℕ) → take (length (was_read h k)) (drop (body_sta
 -- a read says that the stream has ended only once its clean end came and all of it was read
 abbrev pub EndsRightly : Side → History → ℕ → ℕ → Type 0
 EndsRightly side h id size = (next side h (turns.Call (calls.Read id size))).reply ≡ replies.Read None → (end_of (events h) id ≡ ends.Fin) × (unread side h id ≡ [])
+
+-- the reply to a read gives bytes
+abbrev pub gives_bytes : Reply → Bool
+gives_bytes (replies.Read (Some piece)) = true
+gives_bytes (replies.Exact piece) = true
+gives_bytes _ = false
+
+-- a read gives bytes exactly where the application has the receiving half and there is enough: the first that weren't
+-- read, as many as it asks for or there are
+pub record GivesAsked (side : Side) (h : History) (id size : ℕ) (call : Call) (enough : Bool) : Type 0 where
+  pub exactly : gives_bytes (next side h (turns.Call call)).reply ≡ (has_receiving side h id && enough)
+  pub bytes : gives_bytes (next side h (turns.Call call)).reply ≡ true → read_by id (turns.Call call) (next side h (turns.Call call)).reply ≡ take size (unread side h id)
+
+-- enough for a read is a byte, unless it asks for none
+abbrev pub ReadGives : Side → History → ℕ → ℕ → Type 0
+ReadGives side h id size = GivesAsked side h id size (calls.Read id size) (size == 0 || not (is_nothing (unread side h id)))
+
+-- enough for an exact read is all that it asks for
+abbrev pub ExactGives : Side → History → ℕ → ℕ → Type 0
+ExactGives side h id size = GivesAsked side h id size (calls.ReadExact id size) (nat_le size (length (unread side h id)))
 
 -- ---- datagrams
 
@@ -255,6 +276,73 @@ OwedGoesOut side h turn a =
     → findings side (with_pair h turn a) ≡ findings side h ++ (before ++ f ∷ after) → owes (with_pair h turn a) (findings side h ++ before) f ≡ Some test
     → list_any test a.actions ≡ true
 
+-- ---- nothing else is ended
+
+-- the action ends a half of a stream, or the connection
+abbrev pub is_end : Action → Bool
+is_end (actions.StopOut id code) = true
+is_end (actions.ResetOut id code) = true
+is_end (actions.Finish id) = true
+is_end (actions.Close code reason) = true
+is_end _ = false
+
+-- the finish of this stream
+abbrev pub finish_of : Option ℕ → List Action
+finish_of None = []
+finish_of (Some k) = actions.Finish k ∷ []
+
+-- the close for this fault
+abbrev pub fault_closes : Option ErrorCode → List Action
+fault_closes None = []
+fault_closes (Some code) = actions.Close (code_of code) [] ∷ []
+
+-- what a rejection of this request may end: its stream is finished; where the peer stopped that, or no session lives, it closes
+abbrev pub rejection_ends : Option ℕ → List Action
+rejection_ends request = finish_of request ++ actions.Close 0x104 [] ∷ actions.Close 0 [] ∷ []
+
+-- what a handshake may end: a connect that fails closes, with its response's fault if that is why; so does an acceptance whose stream the peer stopped
+abbrev pub handshake_ends : History → Option Call → List Action
+handshake_ends h (Some (calls.Connect options lookup outcome)) = actions.Close 0 [] ∷ fault_closes (response_fault (response_walk_of (contents h 0) (end_of (events h) 0)))
+handshake_ends h (Some (calls.Accept headers)) = actions.Close 0x104 [] ∷ []
+handshake_ends h (Some calls.Forbidden) = rejection_ends (last_request h)
+handshake_ends h (Some calls.NotFound) = rejection_ends (last_request h)
+handshake_ends h (Some calls.TooManyRequests) = rejection_ends (last_request h)
+handshake_ends h _ = []
+
+-- what a call may end by itself
+abbrev pub call_ends : History → Call → List Action
+call_ends h (calls.Connect options lookup outcome) = []
+call_ends h calls.Handshake = handshake_ends h (last_begun h)
+call_ends h (calls.StopRecv id code) = actions.StopOut id code ∷ []
+call_ends h (calls.ResetSend id code) = actions.ResetOut id code ∷ []
+call_ends h (calls.Finish id) = actions.Finish id ∷ []
+call_ends h (calls.EndSession name) = finish_of (named h name)
+call_ends h (calls.Close code reason) = actions.Close code reason ∷ []
+call_ends h (calls.EndpointClose code reason) = actions.Close code reason ∷ []
+call_ends h c = handshake_ends h (Some c)
+
+-- the turn makes the session gone, by its call or by what is found at its moment
+abbrev pub makes_it_gone : Side → History → Turn → Answer → ℕ → Bool
+makes_it_gone side h turn a s = is_number s (gone_in h turn a.reply) || list_any (makes_gone s) (drop (length (findings side h)) (findings side (with_pair h turn a)))
+
+-- the action tells a half of the stream, which still ran, that its session is gone
+abbrev pub tells_gone : History → ℕ → Action → Bool
+tells_gone h k (actions.StopOut id code) = id == k && code == 0x170d7b68 && is_running (end_of (events h) k) && not (is_given_up h k)
+tells_gone h k (actions.ResetOut id code) = id == k && code == 0x170d7b68 && not (was_finished h k) && not (is_reset h k)
+tells_gone h k _ = false
+
+-- why an answer ends something: its call does, a finding owes it, or a stream of a session that becomes gone is told
+pub data IsDue (side : Side) (h : History) (turn : Turn) (a : Answer) (x : Action) : Type 0 where
+  ByCall : (call : Call) → turn ≡ turns.Call call → Contains (call_ends h call) x → IsDue side h turn a x
+  Owed : (before after : List Finding) (f : Finding) (test : Action → Bool) → findings side (with_pair h turn a) ≡ findings side h ++ (before ++ f ∷ after)
+      → owes (with_pair h turn a) (findings side h ++ before) f ≡ Some test → test x ≡ true → IsDue side h turn a x
+  Told : (s k : ℕ) → makes_it_gone side h turn a s ≡ true → is_of_session (with_pair h turn a) (findings side (with_pair h turn a)) s k ≡ true
+      → tells_gone h k x ≡ true → IsDue side h turn a x
+
+-- each stop, reset, finish and close of an answer is due
+abbrev pub OnlyOwedGoesOut : Side → History → Turn → Answer → Type 0
+OnlyOwedGoesOut side h turn a = All (λ (x : Action). is_end x ≡ true → IsDue side h turn a x) a.actions
+
 -- ---- what this end sends
 
 -- this end's control stream is open, and has as much of its 25 bytes as credit allows
@@ -273,6 +361,31 @@ accepted_by k (turns.Call (calls.Write id bytes)) (replies.Written n) = if id ==
 accepted_by k (turns.Call (calls.WriteAll id bytes)) (replies.Count n) = if id == k then take n bytes else []
 accepted_by k (turns.Call (calls.WriteAll id bytes)) replies.AllWritten = if id == k then bytes else []
 accepted_by k _ _ = []
+
+-- the reply to a write says how much it accepts
+abbrev pub says_accepted : Reply → Bool
+says_accepted (replies.Written n) = true
+says_accepted (replies.Count n) = true
+says_accepted replies.AllWritten = true
+says_accepted _ = false
+
+-- the half may be written: the connection is open, this end neither finished nor reset it, and the peer didn't stop it
+abbrev pub may_write : History → ℕ → Bool
+may_write h k = is_open h && not (is_closed h k) && is_none (stop_of (events h) k)
+
+-- a write accepts bytes exactly where the application has a sending half that may be written and there is enough credit: as
+-- many as credit allows
+pub record AcceptsAllowed (side : Side) (h : History) (id : ℕ) (all : List ℕ) (call : Call) (enough : Bool) : Type 0 where
+  pub exactly : says_accepted (next side h (turns.Call call)).reply ≡ (has_sending side h id && (may_write h id && enough))
+  pub bytes : says_accepted (next side h (turns.Call call)).reply ≡ true → accepted_by id (turns.Call call) (next side h (turns.Call call)).reply ≡ take (credit_left h id) all
+
+-- enough for a write is credit of a byte, unless it has none
+abbrev pub WriteAccepts : Side → History → ℕ → List ℕ → Type 0
+WriteAccepts side h id all = AcceptsAllowed side h id all (calls.Write id all) (is_nothing all || not (credit_left h id == 0))
+
+-- a write of all bytes needs none
+abbrev pub WriteAllAccepts : Side → History → ℕ → List ℕ → Type 0
+WriteAllAccepts side h id all = AcceptsAllowed side h id all (calls.WriteAll id all) true
 
 -- all that writes of the stream accepted, joined
 abbrev pub accepted : History → ℕ → List ℕ

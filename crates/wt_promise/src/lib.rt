@@ -6,7 +6,7 @@ ghost use Rattle.std.specs.Prelude.{◌≡◌, ℕ, List, Option, [], true};
 ghost use Rattle.wt_meaning.specs.History.{History};
 ghost use Rattle.wt_meaning.specs.Lawful.{is_lawful};
 ghost use Rattle.wt_meaning.specs.Meaning.{meaning, next, run};
-ghost use Rattle.wt_promise.specs.Promise.{AllLawful, BiAccepted, CutsFreely, DatagramReceived, DatagramsInOrder, EndsRightly, EstablishedRightly, FewLive, GivesWhatWaits, GoneIsTold, IsHistory, NothingAfterEnd, OpenExactly, OwedGoesOut, PendingExactly, ReadsInOrder, ResultStays, SendsInOrder, SettingsGoOut, SilentAfterReset, UniAccepted};
+ghost use Rattle.wt_promise.specs.Promise.{AllLawful, BiAccepted, CutsFreely, DatagramReceived, DatagramsInOrder, EndsRightly, EstablishedRightly, ExactGives, FewLive, GivesWhatWaits, GoneIsTold, IsHistory, NothingAfterEnd, OnlyOwedGoesOut, OpenExactly, OwedGoesOut, PendingExactly, ReadGives, ReadsInOrder, ResultStays, SendsInOrder, SettingsGoOut, SilentAfterReset, UniAccepted, WriteAccepts, WriteAllAccepts};
 ghost use Rattle.wt_turn.specs.declared.call.Call.{Call};
 ghost use Rattle.wt_turn.specs.declared.turn.Turn.{Turn};
 ghost use Rattle.wt_turn.specs.declared.call.Call.TheVariants as calls;
@@ -51,6 +51,18 @@ pub fn streams_end_rightly()
     ensures ends { (side : Side) (h : History) (id size : ℕ) → EndsRightly side h id size }
 {}
 
+/// A read gives the first unread bytes, as many as it asks for or there are, exactly where the application has the receiving half and enough are unread: one, or all for `ReadExact`.
+pub fn reads_give_what_is_asked()
+    ensures read { (side : Side) (h : History) (id size : ℕ) → ReadGives side h id size }
+    ensures exact { (side : Side) (h : History) (id size : ℕ) → ExactGives side h id size }
+{}
+
+/// A write accepts bytes, as many as credit allows, exactly where the application has a sending half that may be written; `Write` of some needs credit for one.
+pub fn writes_accept_what_is_allowed()
+    ensures write { (side : Side) (h : History) (id : ℕ) (bytes : List ℕ) → WriteAccepts side h id bytes }
+    ensures write_all { (side : Side) (h : History) (id : ℕ) (bytes : List ℕ) → WriteAllAccepts side h id bytes }
+{}
+
 /// What waits for the session that an accept or a receive names is given, also after the end, and nothing else is.
 pub fn what_waits_is_given()
     ensures gives { (side : Side) (h : History) (turn : Turn) → GivesWhatWaits side h turn (next side h turn) }
@@ -64,6 +76,11 @@ pub fn connections_stay_open_exactly()
 /// What a finding owes goes out in the answer in which it is found, where the turn leaves the connection open.
 pub fn what_is_owed_goes_out()
     ensures owed { (side : Side) (h : History) (turn : Turn) → OwedGoesOut side h turn (next side h turn) }
+{}
+
+/// Each stop, reset, finish and close of an answer is due: its call does it, a finding owes it, or a stream of a session that becomes gone is told.
+pub fn only_what_is_owed_goes_out()
+    ensures only { (side : Side) (h : History) (turn : Turn) → IsHistory side h → is_lawful side h turn ≡ true → OnlyOwedGoesOut side h turn (next side h turn) }
 {}
 
 /// What was read of a stream is a prefix of what follows its header, and the datagrams that a session received are the first of those that were admitted for it.
