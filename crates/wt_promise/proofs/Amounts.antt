@@ -1,5 +1,5 @@
 -- How much a write accepts, and how much a read gives.
-use Rattle.std.specs.Prelude.{[], ◌&&◌, ◌==◌, ◌||◌, ◌∷◌, ◌≡◌, Bool, List, None, Option, Some, false, is_none, if◌then◌else◌, length, nat_le, not, take, true, ℕ}
+use Rattle.std.specs.Prelude.{[], ◌&&◌, ◌==◌, ◌||◌, ◌∷◌, ◌≡◌, Bool, List, None, Option, Some, false, is_none, length, nat_le, not, take, true, ℕ}
 use Rattle.std.proofs.Common.{◌∙◌, ap, length-take, refl, sym}
 use Rattle.std.proofs.Math.Seq.{take-length, take-nil}
 use Rattle.std.proofs.lemmas.Bool.{eq-eqb, eqb-true}
@@ -8,7 +8,7 @@ use Rattle.wt_meaning.specs.Halves.{has_receiving, has_sending, is_closed, is_fi
 use Rattle.wt_meaning.specs.Handshakes.{is_nothing, send}
 use Rattle.wt_meaning.specs.History.{History, credit_left, events, is_open}
 use Rattle.wt_meaning.specs.Meaning.{next}
-use Rattle.wt_meaning.specs.Rows.{Row, answer, first_row, row, row_for}
+use Rattle.wt_meaning.specs.Rows.{Row, first_row, row, row_for}
 use Rattle.wt_promise.proofs.Tables.{OfRows, by-row, by-value, no-row}
 use Rattle.wt_promise.specs.Promise.{ExactGives, ReadGives, WriteAccepts, WriteAllAccepts, accepted_by, gives_bytes, says_accepted}
 use Rattle.wt_seam_spec.specs.Reports.{end_of, stop_of}

@@ -13,11 +13,11 @@ use Rattle.wt_meaning.specs.Rows.{answer}
 use Rattle.wt_meaning.specs.Sends.{actions_for, actions_for_all, admits, control_actions, is_of_session, moment_actions, session_finish, session_gone_actions}
 use Rattle.wt_meaning.specs.Windows.{gone_in, is_gone, is_number, makes_gone}
 use Rattle.wt_promise.proofs.Accepted.{and-left, and-right, or-true}
-use Rattle.wt_promise.proofs.Ends.{Each, each-append, each-control, each-gone, each-if}
-use Rattle.wt_promise.proofs.Grows.{findings-add, news, news-dropped}
+use Rattle.wt_promise.proofs.Ends.{Each, each-append, each-control, each-gone}
+use Rattle.wt_promise.proofs.Grows.{findings-add, news-dropped}
 use Rattle.wt_promise.proofs.OpenStays.{of}
-use Rattle.wt_promise.proofs.Stays.{any-newest, of-session-stays}
-use Rattle.wt_promise.specs.Promise.{IsDue, Owed, Told, closes_with, is_end, makes_it_gone, owes, resets_with, stops_with, tells_gone}
+use Rattle.wt_promise.proofs.Stays.{any-newest}
+use Rattle.wt_promise.specs.Promise.{IsDue, Owed, Told, closes_with, is_end, makes_it_gone, resets_with, stops_with, tells_gone}
 use Rattle.wt_seam_spec.specs.Reports.{end_of, end_reported, is_running, stop_of}
 use Rattle.wt_seam_spec.specs.Sent.{finishes}
 use Rattle.wt_turn.specs.Log.{End, Event, Reset, newest}

@@ -26,7 +26,7 @@ use Rattle.wt_promise.proofs.OpenStays.{of, same-findings}
 use Rattle.wt_promise.proofs.OwnActs.{response-request}
 use Rattle.wt_promise.proofs.Stays.{of-session-stays}
 use Rattle.wt_promise.proofs.Tables.{OfRows, by-row, by-session, by-value, no-row}
-use Rattle.wt_promise.specs.Promise.{ByCall, IsDue, IsHistory, OnlyOwedGoesOut, Told, call_ends, fault_closes, finish_of, handshake_ends, is_end, makes_it_gone, rejection_ends, tells_gone}
+use Rattle.wt_promise.specs.Promise.{ByCall, IsHistory, OnlyOwedGoesOut, Told, call_ends, fault_closes, finish_of, handshake_ends, makes_it_gone, rejection_ends, tells_gone}
 use Rattle.wt_proto.specs.ResponseWalk.{response_walk_of}
 use Rattle.wt_proto.specs.declared.response_walk.ResponseWalk.{ResponseWalk}
 use Rattle.wt_seam_spec.specs.Reports.{datagram_fact, end_of, is_running, stop_of}
