@@ -136,21 +136,26 @@ module _ (side : Side) (h : History) (turn : Turn) (r : Reply) (as_ bs : List Ac
 
   due-for : (before after : List Finding) (f : Finding) → findings side (of turn r as_ ∷ h) ≡ findings side h ++ (before ++ f ∷ after)
       → Each (Due side h turn r as_) (actions_for side (of turn r bs ∷ h) (findings side h ++ before) f)
-  due-for before after (Classified id (verdicts.WebTransport session offset) false) e =
-      (λ q. Owed before after (Classified id (verdicts.WebTransport session offset) false) (stops_with id (code (is_gone (of turn r as_ ∷ h) (findings side h ++ before) session))) e refl
-      (stops id (code (is_gone (of turn r as_ ∷ h) (findings side h ++ before) session))), tt)
+  due-for before after (Classified id (verdicts.WebTransport session offset) false) e = (
+    λ q. Owed before after (Classified id (verdicts.WebTransport session offset) false) (stops_with id (code (is_gone (of turn r as_ ∷ h) (findings side h ++ before) session))) e refl
+        (stops id (code (is_gone (of turn r as_ ∷ h) (findings side h ++ before) session))),
+    tt,
+  )
     where
       code : Bool → ℕ
       code gone = if gone then 0x170d7b68 else 0x3994bd84
-  due-for before after (Classified id (verdicts.Refused code) keeps) e =
-      (λ q. Owed before after (Classified id (verdicts.Refused code) keeps) (stops_with id (code_of code)) e refl (stops id (code_of code)),
-      gone-due before after (Classified id (verdicts.Refused code) keeps) id e (same id))
-  due-for before after (Classified id (verdicts.Request headers offset) false) e =
-      (λ q. Owed before after (Classified id (verdicts.Request headers offset) false) (stops_with id 0x10b) e refl (stops id 0x10b),
-      gone-due before after (Classified id (verdicts.Request headers offset) false) id e (same id))
-  due-for before after (SessionClosed session code reason true) e =
-      (λ q. Owed before after (SessionClosed session code reason true) (resets_with session 0x100) e refl (rw (same session) refl),
-      gone-due before after (SessionClosed session code reason true) session e (same session))
+  due-for before after (Classified id (verdicts.Refused code) keeps) e = (
+    λ q. Owed before after (Classified id (verdicts.Refused code) keeps) (stops_with id (code_of code)) e refl (stops id (code_of code)),
+    gone-due before after (Classified id (verdicts.Refused code) keeps) id e (same id),
+  )
+  due-for before after (Classified id (verdicts.Request headers offset) false) e = (
+    λ q. Owed before after (Classified id (verdicts.Request headers offset) false) (stops_with id 0x10b) e refl (stops id 0x10b),
+    gone-due before after (Classified id (verdicts.Request headers offset) false) id e (same id),
+  )
+  due-for before after (SessionClosed session code reason true) e = (
+    λ q. Owed before after (SessionClosed session code reason true) (resets_with session 0x100) e refl (rw (same session) refl),
+    gone-due before after (SessionClosed session code reason true) session e (same session),
+  )
   due-for before after (SessionClosed session code reason false) e =
       each-append (Due side h turn r as_) (session_finish (of turn r bs ∷ h) session) _ (by (is_some (stop_of (events (of turn r bs ∷ h)) session)) refl)
       (gone-due before after (SessionClosed session code reason false) session e (same session))
