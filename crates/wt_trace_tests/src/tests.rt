@@ -2,6 +2,7 @@
 mod endpoint;
 mod errors;
 mod generated;
+mod growths;
 mod hostile;
 mod outside;
 mod print;
