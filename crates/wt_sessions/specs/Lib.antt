@@ -1,0 +1,12 @@
+pub mod StreamTable
+pub mod Scan
+pub mod Driver
+pub mod Effect
+pub mod Handshake
+pub mod Connect
+pub mod Connection
+pub mod Halves
+pub mod Answers
+pub mod DriverState
+pub mod Step
+pub mod Plans

@@ -1,0 +1,124 @@
+-- A moment: what its checks find is what the table holds after its steps.
+use Rattle.std.specs.Prelude.{[], ◌%◌, ◌*◌, ◌++◌, ◌+◌, ◌/◌, ◌<◌, ◌==◌, ◌∷◌, ◌≡◌, List, false, map, true, ℕ}
+use Rattle.std.specs.List.{list_all}
+use Rattle.std.proofs.Common.{◌∙◌, ap, arith, refl, subst, sym}
+use Rattle.std.proofs.lemmas.List.Folds.{list_all-append}
+use Rattle.wt_meaning.specs.Findings.{Finding}
+use Rattle.wt_meaning.specs.History.{History, events, stream_count}
+use Rattle.wt_meaning.specs.Moments.{Check, ControlFault, DecoderEnd, EncoderEnd, LocalStop, ReadSettings, WalkSession, after_checks, checks, datagram_checks, ids_from, stream_checks}
+use Rattle.wt_promise.proofs.Grows.{asks_peers, peers-checked}
+use Rattle.wt_proto.specs.Bi.{bi_verdict_of}
+use Rattle.wt_proto.specs.Uni.{uni_verdict_of}
+use Rattle.wt_seam_spec.specs.Reports.{datagrams_of}
+use Rattle.wt_seam_spec.specs.Streams.{peer_bi, peer_count, peer_uni}
+use Rattle.wt_sessions.specs.Scan.{check_sessions, on_progress, scan_bis, scan_order, scan_unis, take_datagrams, with_no_actions}
+use Rattle.wt_sessions.specs.StreamTable.{CallView, StreamTable, TransportView}
+use Rattle.wt_sessions_agree.proofs.Appends.{and-left}
+use Rattle.wt_sessions_agree.proofs.CriticalLaws.{checks-append, critical-agrees, step-agrees}
+use Rattle.wt_sessions_agree.proofs.DatagramLaws.{datagrams-agree}
+use Rattle.wt_sessions_agree.proofs.KindLaws.{kind-agrees}
+use Rattle.wt_sessions_agree.proofs.OrderlyLaws.{orderly-checks}
+use Rattle.wt_sessions_agree.proofs.SessionLaws.{walks-agree}
+use Rattle.wt_sessions_agree.proofs.WindowLaws.{admits-agree}
+use Rattle.wt_sessions_agree.specs.Orderly.{Orderly}
+use Rattle.wt_sessions_agree.specs.Stands.{SeesAlike}
+use Rattle.wt_sessions_agree.specs.Agrees.{IsTable}
+use Rattle.wt_wire.specs.Ids.{is_bidirectional}
+use Rattle.wt_wire.specs.declared.side.Side.{Side}
+use Rattle.wt_wire.specs.declared.side.Side.TheVariants.{Client, Server}
+
+-- ---- kinds
+
+uni-small : (side : Side) → peer_uni side < 4
+uni-small Client = omega arith
+uni-small Server = omega arith
+
+bi-small : (side : Side) → peer_bi side < 4
+bi-small Client = omega arith
+bi-small Server = omega arith
+
+is-zero : (n : ℕ) → n ≡ 0 → (n == 0) ≡ true
+is-zero n e = rw e refl
+
+is-one : (n : ℕ) → n ≡ 1 → (n == 0) ≡ false
+is-one n e = rw e refl
+
+uni-direction : (side : Side) (m : ℕ) → is_bidirectional (4 * m + peer_uni side) ≡ false
+uni-direction Client m = is-one ((4 * m + 3) / 2 % 2) (omega arith)
+uni-direction Server m = is-one ((4 * m + 2) / 2 % 2) (omega arith)
+
+bi-direction : (side : Side) (m : ℕ) → is_bidirectional (4 * m + peer_bi side) ≡ true
+bi-direction Client m = is-zero ((4 * m + 1) / 2 % 2) (omega arith)
+bi-direction Server m = is-zero ((4 * m + 0) / 2 % 2) (omega arith)
+
+-- ---- the whole moment
+
+module _ (side : Side) (h : History) (t : TransportView) (calls : CallView) (offset : ℕ → ℕ) (s : SeesAlike side h t calls offset) where
+  -- what holds before the moment holds at each step of it
+  keeps : (cs : List Check) → list_all (asks_peers side) cs ≡ true → (found : List Finding) → Orderly side h calls offset found → Orderly side h calls offset (after_checks side h cs found)
+  keeps cs p found o = orderly-checks side h calls offset cs p found o
+
+  abbrev unis : List Check
+  unis = stream_checks (ids_from (peer_uni side) 0 (peer_count side (events h) (peer_uni side)))
+
+  abbrev bis : List Check
+  bis = stream_checks (ids_from (peer_bi side) 0 (peer_count side (events h) (peer_bi side)))
+
+  abbrev pieces : List Check
+  pieces = datagram_checks 0 (datagrams_of (events h))
+
+  abbrev sessions : List Check
+  sessions = map WalkSession (ids_from 0 0 (stream_count side h 0))
+
+  abbrev critical : List Check
+  critical = LocalStop ∷ ReadSettings ∷ ControlFault ∷ EncoderEnd ∷ DecoderEnd ∷ []
+
+  -- each part asks the peer's streams alone
+  four : list_all (asks_peers side) (((unis ++ bis) ++ pieces) ++ sessions) ≡ true
+  four = and-left _ _ (sym (list_all-append (asks_peers side) (((unis ++ bis) ++ pieces) ++ sessions) critical) ∙ peers-checked side h)
+
+  three : list_all (asks_peers side) ((unis ++ bis) ++ pieces) ≡ true
+  three = and-left _ _ (sym (list_all-append (asks_peers side) ((unis ++ bis) ++ pieces) sessions) ∙ four)
+
+  two : list_all (asks_peers side) (unis ++ bis) ≡ true
+  two = and-left _ _ (sym (list_all-append (asks_peers side) (unis ++ bis) pieces) ∙ three)
+
+  one : list_all (asks_peers side) unis ≡ true
+  one = and-left _ _ (sym (list_all-append (asks_peers side) unis bis) ∙ two)
+
+  -- the peer's unidirectional streams
+  unis-agree : (found : List Finding) (table : StreamTable) → Orderly side h calls offset found → IsTable found table → IsTable (after_checks side h unis found) (scan_unis t calls table)
+  unis-agree found table o holds =
+      rw (s.views.own, s.unis) (kind-agrees side h t calls (λ (k : ℕ). uni_verdict_of (t.contents k) (t.end k)) (peer_uni side) (peer_count side (events h) (peer_uni side)) (uni-small side) s.ready
+      (λ m. rw (uni-direction side m, s.views.contents (4 * m + peer_uni side), s.views.end (4 * m + peer_uni side)) refl) (admits-agree h t calls s.calls) found table o.none_early (o.few (peer_uni side) (uni-small side)) holds)
+
+  -- its bidirectional ones
+  bis-agree : (found : List Finding) (table : StreamTable) → Orderly side h calls offset found → IsTable found table → IsTable (after_checks side h bis found) (scan_bis t calls table)
+  bis-agree found table o holds =
+      rw (s.views.own, s.bis) (kind-agrees side h t calls (λ (k : ℕ). bi_verdict_of (t.contents k) (t.end k)) (peer_bi side) (peer_count side (events h) (peer_bi side)) (bi-small side) s.ready
+      (λ m. rw (bi-direction side m, s.views.contents (4 * m + peer_bi side), s.views.end (4 * m + peer_bi side)) refl) (admits-agree h t calls s.calls) found table o.none_early (o.few (peer_bi side) (bi-small side)) holds)
+
+  -- the established sessions
+  sessions-agree : (found : List Finding) (table : StreamTable) → Orderly side h calls offset found → IsTable found table → IsTable (after_checks side h sessions found) (check_sessions t calls table)
+  sessions-agree found table o holds = rw s.sessions (walks-agree side h t calls offset s.views s.calls (ids_from 0 0 (stream_count side h 0)) found table o.begin holds)
+
+  -- the order of a moment, part by part
+  pub moment-agrees : (found : List Finding) (table : StreamTable) → Orderly side h calls offset found → IsTable found table → IsTable (after_checks side h (checks side h) found) (scan_order t calls table)
+  moment-agrees found table o holds =
+      let begun : IsTable found (on_progress with_no_actions table) = record { classified = holds.classified; datagrams = holds.datagrams; closed = holds.closed; looked_at = holds.looked_at; settings = holds.settings; fault = holds.fault } in
+      let a = step-agrees side h unis (scan_unis t calls) found (on_progress with_no_actions table) (λ f. unis-agree found (on_progress with_no_actions table) o begun) begun in
+      let b = step-agrees side h bis (scan_bis t calls) (after_checks side h unis found) _ (λ f. bis-agree _ _ (keeps unis one found o) a) a in
+      let c = step-agrees side h pieces (take_datagrams t calls) _ _ (λ f. datagrams-agree side h t calls (datagrams_of (events h)) _ _ s.ready s.datagrams s.calls (o2.received) b) b in
+      let d = step-agrees side h sessions (check_sessions t calls) _ _ (λ f. sessions-agree _ _ o3 c) c in
+      rw (
+        checks-append side h (((unis ++ bis) ++ pieces) ++ sessions) critical found,
+        checks-append side h ((unis ++ bis) ++ pieces) sessions found,
+        checks-append side h (unis ++ bis) pieces found,
+        checks-append side h unis bis found,
+      ) (critical-agrees side h t _ _ s.views d)
+    where
+      o2 : Orderly side h calls offset (after_checks side h bis (after_checks side h unis found))
+      o2 = subst (Orderly side h calls offset) (checks-append side h unis bis found) (keeps (unis ++ bis) two found o)
+
+      o3 : Orderly side h calls offset (after_checks side h pieces (after_checks side h bis (after_checks side h unis found)))
+      o3 = subst (Orderly side h calls offset) (checks-append side h (unis ++ bis) pieces found ∙ ap (after_checks side h pieces) (checks-append side h unis bis found)) (keeps ((unis ++ bis) ++ pieces) three found o)

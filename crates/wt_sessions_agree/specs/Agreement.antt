@@ -1,0 +1,39 @@
+-- One turn's agreement, and that of a list.
+use Rattle.std.specs.Prelude.{[], ◌∷◌, ◌≡◌, Bool, List, false, true, ℕ}
+use Rattle.wt_meaning.specs.History.{History}
+use Rattle.wt_meaning.specs.Lawful.{is_lawful}
+use Rattle.wt_meaning.specs.Meaning.{meaning, next, step}
+use Rattle.wt_meaning.specs.Moments.{findings}
+use Rattle.wt_promise.specs.Promise.{AllLawful, IsHistory}
+use Rattle.wt_sessions.specs.Answers.{answers_to, log_after}
+use Rattle.wt_sessions.specs.Answers as answers
+use Rattle.wt_sessions.specs.Driver.{call_view}
+use Rattle.wt_sessions_agree.specs.Members.{MembersIn}
+use Rattle.wt_sessions_agree.specs.Stands.{Stands}
+use Rattle.wt_turn.specs.Log.{Log}
+use Rattle.wt_turn.specs.declared.turn.Turn.{Turn}
+use Rattle.wt_wire.specs.declared.side.Side.{Side}
+use Rattle.wt_turn.specs.declared.turn.Turn.TheVariants as turns
+
+-- the turn brings one byte, where it brings bytes
+abbrev pub is_one : Turn → Bool
+is_one (turns.Bytes id []) = false
+is_one (turns.Bytes id (b ∷ c ∷ later)) = false
+is_one _ = true
+
+-- a lawful history stands for the log, by some offsets of its sessions; their streams are the same
+abbrev pub Agree : Side → History → Log → Type 0
+Agree side h log = (offset : ℕ → ℕ) × IsHistory side h × MembersIn side h (call_view log) (findings side h) × Stands side offset h log
+
+-- a lawful turn has the same answer in both, and leads to a history and a log that agree
+pub record TurnAgrees (side : Side) (h : History) (log : Log) (turn : Turn) : Type 0 where
+  pub same : answers.answer_to side log turn ≡ next side h turn
+  pub after : Agree side (step side h turn) (log_after side log turn)
+
+-- every lawful turn does, wherever a history and a log agree
+abbrev pub EachTurnAgrees : Side → Type 0
+EachTurnAgrees side = (h : History) (log : Log) (turn : Turn) → Agree side h log → is_one turn ≡ true → is_lawful side h turn ≡ true → TurnAgrees side h log turn
+
+-- what a lawful list means is what the definitions for code answer
+abbrev pub ListsAgree : Side → Type 0
+ListsAgree side = (all : List Turn) → AllLawful side [] all → meaning side all ≡ answers_to side all

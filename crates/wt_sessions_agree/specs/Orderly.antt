@@ -1,0 +1,69 @@
+-- What holds of all that the moments of a history found, and is kept by every check.
+use Rattle.std.specs.Prelude.{◌%◌, ◌&&◌, ◌*◌, ◌+◌, ◌==◌, ◌||◌, ◌≡◌, ◌≤◌, ◌<◌, Bool, List, None, Option, Some, drop, false, filter, filter_map, if◌then◌else◌, length, nat_lt, not, true, ℕ}
+use Rattle.std.specs.List.{list_all}
+use Rattle.wt_meaning.specs.Findings.{Finding, is_classified, is_datagram, is_dequeued}
+use Rattle.wt_meaning.specs.History.{History, contents}
+use Rattle.wt_meaning.specs.Moments.{ids_from, is_ready}
+use Rattle.wt_meaning.specs.Windows.{is_established, received_count, session_part}
+use Rattle.wt_sessions.specs.StreamTable.{Admitted, CallView, Session}
+use Rattle.wt_sessions_agree.specs.Agrees.{admitted_in}
+use Rattle.wt_seam_spec.specs.Streams.{peer_bi, peer_uni}
+use Rattle.wt_wire.specs.declared.side.Side.{Side}
+
+-- ---- streams
+
+-- so many of the first i streams of the kind have no verdict
+abbrev pub unclassified : List Finding → ℕ → ℕ → ℕ
+unclassified found kind i = length (filter (λ (j : ℕ). not (is_classified found j)) (ids_from kind 0 i))
+
+-- of a stream that is dequeued and has no verdict fewer than 4 earlier ones of its kind have none
+abbrev pub Few : ℕ → List Finding → Type 0
+Few kind found = (i : ℕ) → is_dequeued found (4 * i + kind) ≡ true → is_classified found (4 * i + kind) ≡ false → nat_lt (unclassified found kind i) 4 ≡ true
+
+-- before this end is ready none is dequeued
+abbrev pub NoneEarly : Side → History → List Finding → Type 0
+NoneEarly side h found = is_ready side h ≡ false → (k : ℕ) → is_dequeued found k ≡ false
+
+-- ---- datagrams
+
+-- the datagram wasn't received
+abbrev pub is_left : CallView → Admitted → Bool
+is_left calls d = not (calls.received d.index)
+
+-- it is of this session
+abbrev pub is_of : ℕ → Admitted → Bool
+is_of s d = d.session == s
+
+-- of each session the datagrams that calls received are its first ones; only those of established sessions were received
+pub record Received (h : History) (calls : CallView) (found : List Finding) : Type 0 where
+  pub left : (s : ℕ) → filter (is_left calls) (filter (is_of s) (filter_map admitted_in found)) ≡ drop (received_count h s) (filter (is_of s) (filter_map admitted_in found))
+  pub within : (s : ℕ) → received_count h s ≤ length (filter (is_of s) (filter_map admitted_in found))
+  pub early : list_all (λ (d : Admitted). is_left calls d || is_established h d.session) (filter_map admitted_in found) ≡ true
+  pub later : (n : ℕ) → length (filter is_datagram found) ≤ n → calls.received n ≡ false
+
+-- ---- sessions
+
+-- the session of an id, where it was established, by where its part of its stream begins
+abbrev pub session_at : History → (ℕ → ℕ) → ℕ → Option Session
+session_at h offset k = if is_established h k then Some (record { id = k; offset = offset k }) else None
+
+-- each established session's part begins there
+abbrev pub Begin : History → (ℕ → ℕ) → List Finding → Type 0
+Begin h offset found = (k : ℕ) → is_established h k ≡ true → session_part h found k ≡ drop (offset k) (contents h k)
+
+-- the stream is the peer's
+abbrev pub is_of_peer : Side → ℕ → Bool
+is_of_peer side k = (k % 4 == peer_uni side) || (k % 4 == peer_bi side)
+
+-- an established session's stream has a verdict, where the peer opened it
+abbrev pub Known : Side → History → List Finding → Type 0
+Known side h found = (k : ℕ) → is_established h k ≡ true → (is_of_peer side k && not (is_classified found k)) ≡ false
+
+-- ---- all together
+
+pub record Orderly (side : Side) (h : History) (calls : CallView) (offset : ℕ → ℕ) (found : List Finding) : Type 0 where
+  pub few : (kind : ℕ) → kind < 4 → Few kind found
+  pub none_early : NoneEarly side h found
+  pub received : Received h calls found
+  pub begin : Begin h offset found
+  pub known : Known side h found
