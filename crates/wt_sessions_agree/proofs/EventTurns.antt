@@ -3,10 +3,12 @@ use Rattle.std.specs.Prelude.{[], ◌&&◌, ◌∷◌, ◌||◌, ◌≡◌, Bool
 use Rattle.std.specs.List.{list_any}
 use Rattle.std.proofs.Common.{◌∙◌, ap, refl, subst, sym}
 use Rattle.wt_meaning.specs.History.{History, Pair, contents, ends_by, events, is_open, loses}
+use Rattle.wt_meaning.specs.Lawful.{is_lawful}
 use Rattle.wt_meaning.specs.Meaning.{step, with_pair}
 use Rattle.wt_meaning.specs.Moments.{findings}
 use Rattle.wt_meaning.specs.Rows.{answer}
 use Rattle.wt_promise.proofs.Actions.{any-join_all}
+use Rattle.wt_promise.specs.Promise.{IsHistory}
 use Rattle.wt_seam_spec.specs.Arrivals.{event_entry}
 use Rattle.wt_seam_spec.specs.Joined.{join_all, newest_first}
 use Rattle.wt_seam_spec.specs.Streams as streams
@@ -20,6 +22,7 @@ use Rattle.wt_sessions_agree.proofs.TurnFinds.{finds-alike, finds-none, orderly-
 use Rattle.wt_sessions_agree.proofs.TurnKeeps.{calls-after, count-after, sessions-after, single-plain, turn-calls}
 use Rattle.wt_sessions_agree.specs.Agreement.{TurnAgrees}
 use Rattle.wt_sessions_agree.specs.Agrees.{Agrees, IsTable}
+use Rattle.wt_sessions_agree.specs.Members.{MembersIn}
 use Rattle.wt_sessions_agree.specs.Orderly.{Orderly}
 use Rattle.wt_sessions_agree.specs.Stands.{CallsAgree, SeesAlike, Stands}
 use Rattle.wt_turn.specs.Log.{CallRecord, Entry, Event, Log, Reported, ReportedLate, Sent, actions_of, calls_of, closes, events_of, with_actions}
@@ -61,7 +64,7 @@ or-turned true true c = refl
 or-turned true false c = refl
 or-turned false b c = refl
 
-ended-acted : (xs : List Action) (log : Log) → list_any logs.ends_by (with_actions xs log) ≡ (list_any closes xs || list_any logs.ends_by log)
+pub ended-acted : (xs : List Action) (log : Log) → list_any logs.ends_by (with_actions xs log) ≡ (list_any closes xs || list_any logs.ends_by log)
 ended-acted [] log = refl
 ended-acted (a ∷ xs) log = ended-acted xs (Sent a ∷ log) ∙ or-turned (list_any closes xs) (closes a) (list_any logs.ends_by log) ∙ or-in (closes a) (list_any closes xs) (list_any logs.ends_by log)
   where
@@ -91,7 +94,7 @@ open-after h log turn e xs l o =
 
 -- ---- the turn
 
-module _ (side : Side) (offset : ℕ → ℕ) (h : History) (log : Log) (x : Stands side offset h log) (turn : Turn) (e : Event) (single : is_single turn ≡ true) (told : event_of turn ≡ Some e)
+module _ (side : Side) (offset : ℕ → ℕ) (h : History) (log : Log) (x : Stands side offset h log) (turn : Turn) (e : Event) (single : is_single turn ≡ true) (hist : IsHistory side h) (lawful : is_lawful side h turn ≡ true) (told : event_of turn ≡ Some e)
     (stays : logs.loses e ≡ false) (none : loses turn ≡ false) (after-is : log_after side log turn ≡ log_and_flush side log (event_entry (logs.is_open log) e)) where
   -- the event's entry
   abbrev entry : Entry
@@ -129,8 +132,9 @@ module _ (side : Side) (offset : ℕ → ℕ) (h : History) (log : Log) (x : Sta
   pub event-agrees : sent-entry side log entry ≡ sends-now side h turn
       → Orderly side (pair ∷ h) (call_view (entry ∷ log)) offset (findings side h)
       → (is_open h ≡ false → Orderly side (pair ∷ h) (call_view (entry ∷ log)) offset (findings side (pair ∷ h)))
+      → MembersIn side (step side h turn) (call_view (log_after side log turn)) (findings side (step side h turn))
       → TurnAgrees side h log turn
-  event-agrees s orderly late = turn-agrees-by side offset h log x turn single sent opened table order
+  event-agrees s orderly late members = turn-agrees-by side offset h log x hist turn single lawful sent opened table order members
     where
       step-is : step side h turn ≡ pair ∷ h
       step-is = ap (with_pair h turn) (done-next side h turn single)

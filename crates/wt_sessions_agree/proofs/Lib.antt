@@ -29,3 +29,4 @@ pub mod ReadyLaws
 pub mod EndLaws
 pub mod TurnAnswers
 pub mod EventTurns
+pub mod CallTurns

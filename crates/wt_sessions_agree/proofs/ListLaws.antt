@@ -16,7 +16,7 @@ use Rattle.wt_sessions.specs.Answers as answers
 use Rattle.wt_sessions.specs.Driver.{apply_if, flush, is_moment, pending_actions}
 use Rattle.wt_sessions_agree.proofs.AnswerLaws.{newest-append}
 use Rattle.wt_sessions_agree.proofs.OutLaws.{acted, since-is}
-use Rattle.wt_sessions_agree.proofs.StartLaws.{stands-first}
+use Rattle.wt_sessions_agree.proofs.StartLaws.{members-first, stands-first}
 use Rattle.wt_sessions_agree.specs.Agreement.{Agree, EachTurnAgrees, ListsAgree, TurnAgrees}
 use Rattle.wt_turn.specs.Log.{Entry, Log, Received, actions_of, with_actions}
 use Rattle.wt_turn.specs.Log as logs
@@ -141,4 +141,4 @@ module _ (side : Side) (each : EachTurnAgrees side) where
       ∙ ap (λ (as_ : List Answer). answers.answer_to side log turn ∷ as_) (list-agrees all (history_after side h turn) (log_after side log turn) t.after l.1)
 
   pub lists-agree : ListsAgree side
-  lists-agree all l = list-agrees all [] [] ((λ k. 0), stands-first side (λ k. 0)) l
+  lists-agree all l = list-agrees all [] [] ((λ k. 0), tt, members-first side, stands-first side (λ k. 0)) l

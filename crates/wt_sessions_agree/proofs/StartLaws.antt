@@ -2,7 +2,8 @@
 use Rattle.std.specs.Prelude.{[], ℕ}
 use Rattle.std.proofs.Common.{arith, refl}
 use Rattle.wt_meaning.specs.Moments.{findings}
-use Rattle.wt_sessions.specs.Driver.{stream_table}
+use Rattle.wt_sessions.specs.Driver.{call_view, stream_table}
+use Rattle.wt_sessions_agree.specs.Members.{MembersIn}
 use Rattle.wt_sessions_agree.specs.Stands.{NotOpening, Stands}
 use Rattle.wt_wire.specs.declared.side.Side.{Side}
 
@@ -28,4 +29,13 @@ stands-first side offset = record {
   delivered = λ k. refl;
   request = refl;
   handshake = record { waiting = refl; requested = λ c. refl; awaits = λ c. refl; begun = tt };
+}
+
+-- and no session has a stream
+pub members-first : (side : Side) → MembersIn side [] (call_view []) (findings side [])
+unfolding findings
+members-first side = record {
+  same = λ s k. refl;
+  ascends = λ s. tt;
+  there = λ s k e. absurd (cc e);
 }

@@ -75,7 +75,7 @@ found-then side p h d o =
     ap (λ (b : Bool). if b then after_moments side (p ∷ h) p.answer.reply (findings side h) else findings side h) o
     ∙ ap (λ (r : Reply). after_moments side (p ∷ h) r (findings side h)) d
 
-found-same : (side : Side) (p : Pair) (h : History) → is_open h ≡ false → findings side (p ∷ h) ≡ findings side h
+pub found-same : (side : Side) (p : Pair) (h : History) → is_open h ≡ false → findings side (p ∷ h) ≡ findings side h
 unfolding findings
 found-same side p h o = rw o refl
 

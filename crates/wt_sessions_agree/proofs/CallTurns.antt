@@ -1,0 +1,104 @@
+-- A call that establishes no session agrees, where its moment sends and finds alike and its record keeps the relation.
+use Rattle.std.specs.Prelude.{[], ◌&&◌, ◌++◌, ◌∷◌, ◌||◌, ◌≡◌, Bool, List, None, Option, false, filter_map, if◌then◌else◌, not, true, ℕ}
+use Rattle.std.specs.List.{list_any}
+use Rattle.std.proofs.Common.{◌∙◌, ap, refl, subst, sym}
+use Rattle.std.proofs.lemmas.List.Folds.{list_any-append}
+use Rattle.wt_meaning.specs.Calls.{rows_of}
+use Rattle.wt_meaning.specs.Findings.{Finding}
+use Rattle.wt_meaning.specs.History.{History, Pair, actions_out, contents, ends_by, events, is_open, stream_count}
+use Rattle.wt_meaning.specs.Meaning.{next, own_answer, step, with_pair}
+use Rattle.wt_meaning.specs.Moments.{after_checks, after_moments, checks, findings, ids_from}
+use Rattle.wt_meaning.specs.Rows.{first_row}
+use Rattle.wt_meaning.specs.Sends.{moment_actions}
+use Rattle.wt_meaning.specs.Windows.{session_in}
+use Rattle.wt_promise.proofs.Actions.{any-join_all}
+use Rattle.wt_promise.proofs.Grows.{peers-checked}
+use Rattle.wt_promise.proofs.OpenStays.{same-findings}
+use Rattle.wt_seam_spec.specs.Joined.{join_all, newest_first}
+use Rattle.wt_seam_spec.specs.Streams as streams
+use Rattle.wt_sessions.specs.Answers.{call_effect, log_after}
+use Rattle.wt_sessions.specs.Answers as answers
+use Rattle.wt_sessions.specs.Driver.{call_view, is_moment, log_and_flush, pending_actions, stream_table, transport_view}
+use Rattle.wt_sessions.specs.Effect.{Effect, log_call, reply_with}
+use Rattle.wt_sessions.specs.StreamTable.{CallView}
+use Rattle.wt_sessions_agree.proofs.AnswerLaws.{answer-agrees, called-actions, sent-then}
+use Rattle.wt_sessions_agree.proofs.EventTurns.{ended-acted}
+use Rattle.wt_sessions_agree.proofs.MomentAgrees.{moment-agrees}
+use Rattle.wt_sessions_agree.proofs.OrderlyLaws.{orderly-checks}
+use Rattle.wt_sessions_agree.proofs.TurnFinds.{found-same, table-same, table-then}
+use Rattle.wt_sessions_agree.specs.Agrees.{IsTable}
+use Rattle.wt_sessions_agree.specs.Orderly.{Orderly}
+use Rattle.wt_sessions_agree.specs.Records.{effect_of, record_of, told}
+use Rattle.wt_sessions_agree.specs.Stands.{SeesAlike, Stands}
+use Rattle.wt_turn.specs.Log.{CallRecord, Called, Log, actions_of, calls_of, closes, with_actions}
+use Rattle.wt_turn.specs.Log as logs
+use Rattle.wt_turn.specs.declared.action.Action.{Action}
+use Rattle.wt_turn.specs.declared.answer.Answer.{Answer}
+use Rattle.wt_turn.specs.declared.call.Call.{Call}
+use Rattle.wt_turn.specs.declared.reply.Reply.{Reply}
+use Rattle.wt_turn.specs.declared.turn.Turn.{Turn}
+use Rattle.wt_wire.specs.declared.side.Side.{Side}
+use Rattle.wt_turn.specs.declared.reply.Reply.TheVariants as replies
+use Rattle.wt_turn.specs.declared.turn.Turn.TheVariants as turns
+
+-- ---- replies that establish no session
+
+pub told-plain : (side : Side) (h : History) (log : Log) (c : Call) (a : Answer) (reply : Reply) → session_in reply ≡ None
+    → told side h log c a reply ≡ reply_with (log_call side log a.actions (record_of side h c reply)) reply
+told-plain side h log c a (replies.Session id) e = absurd (cc e)
+told-plain side h log c a reply e = refl
+
+one-moment : (side : Side) (h : History) (reply : Reply) (found : List Finding) → session_in reply ≡ None → after_moments side h reply found ≡ after_checks side h (checks side h) found
+one-moment side h (replies.Session id) found e = absurd (cc e)
+one-moment side h reply found e = refl
+
+-- what the newest pair's moment finds, where its reply establishes no session
+pub found-one : (side : Side) (p : Pair) (h : History) → session_in p.answer.reply ≡ None → is_open h ≡ true → findings side (p ∷ h) ≡ after_checks side (p ∷ h) (checks side (p ∷ h)) (findings side h)
+unfolding findings
+found-one side p h d o =
+    ap (λ (b : Bool). if b then after_moments side (p ∷ h) p.answer.reply (findings side h) else findings side h) o
+    ∙ one-moment side (p ∷ h) p.answer.reply (findings side h) d
+
+-- ---- both end alike
+
+-- what went out ends the connection in both
+pub ends-alike : (h : History) (log : Log) (c : Call) (reply : Reply) (xs : List Action) (log2 : Log) → is_open h ≡ logs.is_open log → list_any logs.ends_by log2 ≡ (list_any closes xs || list_any logs.ends_by log)
+    → is_open (with_pair h (turns.Call c) (record { reply = reply; actions = join_all [] xs })) ≡ logs.is_open log2
+ends-alike h log c reply xs log2 o e =
+    ap (λ (b : Bool). not ((false || b) || list_any ends_by h)) (any-join_all closes (λ i p q. refl) [] xs)
+    ∙ by (list_any ends_by h) (list_any logs.ends_by log) o (list_any closes xs) ∙ ap not (sym e)
+  where
+    by : (a b : Bool) → not a ≡ not b → (s : Bool) → not ((false || s) || a) ≡ not (s || b)
+    by true true q s = refl
+    by false false q s = refl
+    by true false q s = absurd (cc q)
+    by false true q s = absurd (cc q)
+
+-- likewise before the answer's actions are joined
+pub own-alike : (h : History) (log : Log) (c : Call) (a : Answer) (log2 : Log) → is_open h ≡ logs.is_open log → list_any logs.ends_by log2 ≡ (list_any closes a.actions || list_any logs.ends_by log)
+    → is_open (with_pair h (turns.Call c) a) ≡ logs.is_open log2
+own-alike h log c a log2 o e = by (list_any ends_by h) (list_any logs.ends_by log) o (list_any closes a.actions) ∙ ap not (sym e)
+  where
+    by : (a b : Bool) → not a ≡ not b → (s : Bool) → not ((false || s) || a) ≡ not (s || b)
+    by true true q s = refl
+    by false false q s = refl
+    by true false q s = absurd (cc q)
+    by false true q s = absurd (cc q)
+
+-- ---- the setting
+
+module _ (side : Side) (offset : ℕ → ℕ) (h : History) (log : Log) (x : Stands side offset h log) (c : Call) where
+  -- the call's own answer, and the history with it
+  abbrev own : Answer
+  own = own_answer side h (turns.Call c)
+
+  abbrev with_own : History
+  with_own = with_pair h (turns.Call c) own
+
+  -- what the call leaves in the log
+  abbrev left : CallRecord
+  left = record_of side h c own.reply
+
+  -- the log at the call's moment
+  abbrev at : Log
+  at = Called left ∷ with_actions own.actions log
