@@ -11,12 +11,12 @@ use Rattle.wt_meaning.specs.Sends.{session_gone_actions}
 use Rattle.wt_meaning.specs.Windows.{last_request, named}
 use Rattle.wt_message.specs.FixedBytes.{response_bytes}
 use Rattle.wt_seam_spec.specs.Streams.{local_bi, local_uni, peer_bi, peer_uni}
-use Rattle.wt_sessions.specs.Answers.{call_effect, named_session, on_receiving, on_sending, on_session}
+use Rattle.wt_sessions.specs.Answers.{call_effect, is_client, may_call, named_session, on_receiving, on_sending, on_session}
 use Rattle.wt_sessions.specs.Driver.{ending_actions, has_no_session, is_living, stream_table}
 use Rattle.wt_sessions.specs.Effect as effects
 use Rattle.wt_sessions.specs.Halves.{has_receiving_half, has_sending_half}
 use Rattle.wt_sessions.specs.Halves as halves
-use Rattle.wt_sessions.specs.Handshake.{HandshakeState, accept_response, handshake_state, is_continuable, reject_response, request_end, requested_stream}
+use Rattle.wt_sessions.specs.Handshake.{HandshakeState, accept_response, awaits_answer, handshake_state, is_continuable, reject_response, request_end, requested_stream}
 use Rattle.wt_sessions.specs.Handshake as handshakes
 use Rattle.wt_sessions.specs.StreamTable as tables
 use Rattle.wt_sessions_agree.proofs.ConnectRows.{ConnectFacts, connect-agrees}
@@ -28,17 +28,32 @@ use Rattle.wt_sessions_agree.specs.Stands.{BegunAgrees, IsConnect, IsResponse, S
 use Rattle.wt_turn.specs.Log.{AcceptanceFailed, CallRecord, Log, Polled, ResponseStarted, calls_of}
 use Rattle.wt_turn.specs.declared.call.Call.{Call}
 use Rattle.wt_wire.specs.declared.side.Side.{Side}
-use Rattle.wt_wire.specs.declared.side.Side.TheVariants.{Client}
+use Rattle.wt_wire.specs.declared.side.Side.TheVariants.{Client, Server}
 use Rattle.wt_turn.specs.declared.call.Call.TheVariants as calls
 
--- what calls rest on beside the relation: what a session's end sends, where a session begins, and a client's own stream
+-- a response is due: a server gave a request, and its response isn't through
+abbrev pub is_due : Side → HandshakeState → Bool
+is_due side (handshakes.Requested id) = not (is_client side)
+is_due side (handshakes.Responding accepts head) = true
+is_due side _ = false
+
+-- What calls rest on beside the relation: what a session's end sends, where it lives or its response is due; where a session
+-- begins, to which a response is due; and a client's own stream.
 pub record EndsAgree (side : Side) (h : History) (log : Log) : Type 0 where
   pub living : (s : ℕ) → is_living side log s ≡ true → session_gone_actions side h (findings side h) s ≡ ending_actions side log s
-  pub requested : session_gone_actions side h (findings side h) (requested_stream (calls_of log)) ≡ ending_actions side log (requested_stream (calls_of log))
+  pub requested : is_due side (handshake_state (calls_of log)) ≡ true
+      → session_gone_actions side h (findings side h) (requested_stream (calls_of log)) ≡ ending_actions side log (requested_stream (calls_of log))
   pub none : none_lives side h ≡ has_no_session side log
-  pub starts : part_start side h (requested_stream (calls_of log)) ≡ request_end (tables.verdict_of (requested_stream (calls_of log)) (stream_table side log).classified)
+  pub starts : is_due side (handshake_state (calls_of log)) ≡ true
+      → part_start side h (requested_stream (calls_of log)) ≡ request_end (tables.verdict_of (requested_stream (calls_of log)) (stream_table side log).classified)
   pub client : side ≡ Client → ConnectFacts h log
   pub connects : (reserved : Option (List ℕ)) (head : List ℕ) → handshake_state (calls_of log) ≡ handshakes.Connecting reserved head → side ≡ Client
+
+-- a response may begin where it is due
+due-asked : (side : Side) (state : HandshakeState) → (not (is_client side) && awaits_answer state) ≡ true → is_due side state ≡ true
+due-asked Client state e = absurd (cc e)
+due-asked Server (handshakes.Requested id) e = refl
+due-asked Server state e = absurd (cc e)
 
 module _ (side : Side) (offset : ℕ → ℕ) (h : History) (log : Log) (x : Stands side offset h log) (ends : EndsAgree side h log) where
   half : (k : ℕ) → HalfAgrees h log k
@@ -55,32 +70,32 @@ module _ (side : Side) (offset : ℕ → ℕ) (h : History) (log : Log) (x : Sta
   -- ---- responses
 
   -- a response goes on with the stream of the request that was given last
-  accept-on : (c : Call) (waiting : CallRecord) (head : List ℕ) → pending_record c ≡ waiting → failure_record c ≡ AcceptanceFailed
+  accept-on : (c : Call) (waiting : CallRecord) (head : List ℕ) → pending_record c ≡ waiting → failure_record c ≡ AcceptanceFailed → is_due side (handshake_state (calls_of log)) ≡ true
       → handshakes.respond side log true head waiting ≡ effect_of side h log c (first_row (acceptance_rows h (unwrap_or (last_request h) 0) (head_left h (unwrap_or (last_request h) 0) head)))
-  accept-on c waiting head p f =
-      accept-agrees side offset h log x c waiting (requested_stream (calls_of log)) (effects.head_left log (requested_stream (calls_of log)) head) p f ends.starts
+  accept-on c waiting head p f d =
+      accept-agrees side offset h log x c waiting (requested_stream (calls_of log)) (effects.head_left log (requested_stream (calls_of log)) head) p f (ends.starts d)
       ∙ ap (λ (left : List ℕ). effect_of side h log c (first_row (acceptance_rows h (requested_stream (calls_of log)) left))) (sym (head-is side offset h log x (requested_stream (calls_of log)) head))
       ∙ ap (λ (s : ℕ). effect_of side h log c (first_row (acceptance_rows h s (head_left h s head)))) (sym x.request)
 
-  reject-on : (c : Call) (waiting : CallRecord) (head : List ℕ) → pending_record c ≡ waiting
+  reject-on : (c : Call) (waiting : CallRecord) (head : List ℕ) → pending_record c ≡ waiting → is_due side (handshake_state (calls_of log)) ≡ true
       → handshakes.respond side log false head waiting ≡ effect_of side h log c (first_row (rejection_rows side h (unwrap_or (last_request h) 0) (head_left h (unwrap_or (last_request h) 0) head)))
-  reject-on c waiting head p =
-      reject-agrees side offset h log x c waiting (requested_stream (calls_of log)) (effects.head_left log (requested_stream (calls_of log)) head) p x.request ends.requested ends.none
+  reject-on c waiting head p d =
+      reject-agrees side offset h log x c waiting (requested_stream (calls_of log)) (effects.head_left log (requested_stream (calls_of log)) head) p x.request (ends.requested d) ends.none
       ∙ ap (λ (left : List ℕ). effect_of side h log c (first_row (rejection_rows side h (requested_stream (calls_of log)) left))) (sym (head-is side offset h log x (requested_stream (calls_of log)) head))
       ∙ ap (λ (s : ℕ). effect_of side h log c (first_row (rejection_rows side h s (head_left h s head)))) (sym x.request)
 
   -- ---- a poll of the handshake
 
-  responding : (accepts : Bool) (head : List ℕ) (c : Call) → IsResponse accepts head c → handshakes.respond side log accepts head Polled ≡ effect_of side h log calls.Handshake (first_row (poll_rows side h (Some c)))
-  responding true head (calls.Accept headers) e = rw e (accept-on calls.Handshake Polled (acceptance_frame headers) refl refl)
-  responding false head calls.Forbidden e = rw e (reject-on calls.Handshake Polled (response_bytes (codes "403")) refl)
-  responding false head calls.NotFound e = rw e (reject-on calls.Handshake Polled (response_bytes (codes "404")) refl)
-  responding false head calls.TooManyRequests e = rw e (reject-on calls.Handshake Polled (response_bytes (codes "429")) refl)
-  responding true head calls.Forbidden e = absurd e
-  responding true head calls.NotFound e = absurd e
-  responding true head calls.TooManyRequests e = absurd e
-  responding false head (calls.Accept headers) e = absurd e
-  responding accepts head c e = absurd e
+  responding : (accepts : Bool) (head : List ℕ) (c : Call) → is_due side (handshake_state (calls_of log)) ≡ true → IsResponse accepts head c → handshakes.respond side log accepts head Polled ≡ effect_of side h log calls.Handshake (first_row (poll_rows side h (Some c)))
+  responding true head (calls.Accept headers) d e = rw e (accept-on calls.Handshake Polled (acceptance_frame headers) refl refl d)
+  responding false head calls.Forbidden d e = rw e (reject-on calls.Handshake Polled (response_bytes (codes "403")) refl d)
+  responding false head calls.NotFound d e = rw e (reject-on calls.Handshake Polled (response_bytes (codes "404")) refl d)
+  responding false head calls.TooManyRequests d e = rw e (reject-on calls.Handshake Polled (response_bytes (codes "429")) refl d)
+  responding true head calls.Forbidden d e = absurd e
+  responding true head calls.NotFound d e = absurd e
+  responding true head calls.TooManyRequests d e = absurd e
+  responding false head (calls.Accept headers) d e = absurd e
+  responding accepts head c d e = absurd e
 
 module _ (offset : ℕ → ℕ) (h : History) (log : Log) (x : Stands Client offset h log) (ends : EndsAgree Client h log) where
   connecting : (reserved : Option (List ℕ)) (head : List ℕ) (c : Call) → IsConnect reserved head c → handshakes.continue_connect Client log reserved head ≡ effect_of Client h log calls.Handshake (first_row (poll_rows Client h (Some c)))
@@ -98,7 +113,7 @@ module _ (side : Side) (offset : ℕ → ℕ) (h : History) (log : Log) (x : Sta
 
   poll-by : (state : HandshakeState) (begun : Option Call) → handshake_state (calls_of log) ≡ state → BegunAgrees state begun → is_continuable state ≡ true
       → handshakes.continue_by state side log ≡ effect_of side h log calls.Handshake (first_row (poll_rows side h begun))
-  poll-by (handshakes.Responding accepts head) (Some c) e b i = responding side offset h log x ends accepts head c b
+  poll-by (handshakes.Responding accepts head) (Some c) e b i = responding side offset h log x ends accepts head c (ap (is_due side) e) b
   poll-by (handshakes.Responding accepts head) None e b i = absurd b
   poll-by (handshakes.Connecting reserved head) (Some c) e b i = connecting-on side refl reserved head c e b
   poll-by (handshakes.Connecting reserved head) None e b i = absurd b
@@ -126,15 +141,15 @@ module _ (side : Side) (offset : ℕ → ℕ) (h : History) (log : Log) (x : Sta
       → on_receiving side log k call ≡ effect_of side h log c (first_row (where_has (has_receiving side h k) rows))
   on-receiving c k call rows f = on-half side h log c k call rows (has_receiving side h k) (has_receiving_half side log k) (receiving-is side offset h log x ends k) f
 
-  pub call-agrees : (c : Call) → (c ≡ calls.Handshake → is_continuable (handshake_state (calls_of log)) ≡ true) → call_effect side log c ≡ effect_of side h log c (first_row (rows_of side h c))
+  pub call-agrees : (c : Call) → may_call side log c ≡ true → call_effect side log c ≡ effect_of side h log c (first_row (rows_of side h c))
   unfolding call_effect
   call-agrees (calls.Connect options lookup outcome) w = begin-agrees side h log options lookup outcome
   call-agrees calls.Incoming w = incoming-agrees side offset h log x
-  call-agrees (calls.Accept headers) w = accept-on side offset h log x ends (calls.Accept headers) (ResponseStarted true (acceptance_frame headers)) (acceptance_frame headers) refl refl
-  call-agrees calls.Forbidden w = reject-on side offset h log x ends calls.Forbidden (ResponseStarted false (response_bytes (codes "403"))) (response_bytes (codes "403")) refl
-  call-agrees calls.NotFound w = reject-on side offset h log x ends calls.NotFound (ResponseStarted false (response_bytes (codes "404"))) (response_bytes (codes "404")) refl
-  call-agrees calls.TooManyRequests w = reject-on side offset h log x ends calls.TooManyRequests (ResponseStarted false (response_bytes (codes "429"))) (response_bytes (codes "429")) refl
-  call-agrees calls.Handshake w = poll-agrees (w refl)
+  call-agrees (calls.Accept headers) w = accept-on side offset h log x ends (calls.Accept headers) (ResponseStarted true (acceptance_frame headers)) (acceptance_frame headers) refl refl (due-asked side (handshake_state (calls_of log)) w)
+  call-agrees calls.Forbidden w = reject-on side offset h log x ends calls.Forbidden (ResponseStarted false (response_bytes (codes "403"))) (response_bytes (codes "403")) refl (due-asked side (handshake_state (calls_of log)) w)
+  call-agrees calls.NotFound w = reject-on side offset h log x ends calls.NotFound (ResponseStarted false (response_bytes (codes "404"))) (response_bytes (codes "404")) refl (due-asked side (handshake_state (calls_of log)) w)
+  call-agrees calls.TooManyRequests w = reject-on side offset h log x ends calls.TooManyRequests (ResponseStarted false (response_bytes (codes "429"))) (response_bytes (codes "429")) refl (due-asked side (handshake_state (calls_of log)) w)
+  call-agrees calls.Handshake w = poll-agrees w
   call-agrees (calls.EndpointClose code reason) w = endpoint_close-agrees side offset h log x code reason
   call-agrees (calls.AcceptUni name) w = in-session (calls.AcceptUni name) name _ _ (λ s n. accept_uni-agrees side offset h log x name (peer_uni side) s n)
   call-agrees (calls.AcceptBi name) w = in-session (calls.AcceptBi name) name _ _ (λ s n. accept_bi-agrees side offset h log x name (peer_bi side) s n)
