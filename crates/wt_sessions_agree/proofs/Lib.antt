@@ -29,4 +29,6 @@ pub mod ReadyLaws
 pub mod EndLaws
 pub mod TurnAnswers
 pub mod EventTurns
+pub mod PartLaws
+pub mod OrderTurns
 pub mod CallTurns

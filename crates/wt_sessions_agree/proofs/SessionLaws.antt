@@ -23,7 +23,7 @@ use Rattle.wt_wire.specs.declared.side.StreamEnd.{StreamEnd}
 use Rattle.wt_meaning.specs.Findings.{Faulted, Finding, SessionClosed, fault_in, fault_of, is_datagram, reads_settings, settings_came, verdict_in, verdict_of}
 use Rattle.wt_meaning.specs.History.{History, contents, events}
 use Rattle.wt_meaning.specs.Moments.{WalkSession, after_checks, closing, session_found}
-use Rattle.wt_meaning.specs.Windows.{after_request, after_response, is_established, is_gone, lives}
+use Rattle.wt_meaning.specs.Windows.{after_request, after_response, is_established, is_gone, lives, session_part}
 use Rattle.wt_proto.specs.declared.session_walk.SessionWalk.TheVariants as walks
 use Rattle.wt_wire.specs.declared.side.StreamEnd.TheVariants as ends
 
@@ -31,8 +31,8 @@ use Rattle.wt_wire.specs.declared.side.StreamEnd.TheVariants as ends
 pub begin-same : (h : History) (offset : ℕ → ℕ) (found : List Finding) (f : Finding) → ((k : ℕ) → is_established h k ≡ true → verdict_in k f ≡ None) → Begin h offset found → Begin h offset (found ++ f ∷ [])
 begin-same h offset found f e b k s = ap part (first-append (verdict_in k) found f ∙ ap (option_or (verdict_of found k)) (e k s) ∙ or-none (verdict_of found k)) ∙ b k s
   where
-    part : Option Verdict → List ℕ
-    part v = drop (unwrap_or (after_request v) (after_response (response_walk_of (contents h k) (end_of (events h) k)))) (contents h k)
+    part : Option Verdict → ℕ
+    part v = unwrap_or (after_request v) (after_response (response_walk_of (contents h k) (end_of (events h) k)))
 
 module _ (side : Side) (h : History) (t : TransportView) (calls : CallView) (offset : ℕ → ℕ) (g : ViewsAgree side h t) (c : CallsAgree h calls) where
   -- a session that the peer closed
@@ -94,7 +94,8 @@ module _ (side : Side) (h : History) (t : TransportView) (calls : CallView) (off
             ∙ ap (check_each t calls (filter_map (session_at h offset) ids)) (ap (λ (o : Bool). if o then table else check_session t calls k (drop (offset k) (t.contents k)) (t.end k) table) gone
             ∙ ap (λ (bytes : List ℕ). session_walked t calls k (is_over (session_walk_of bytes ends.Running)) (session_walk_of bytes (t.end k)) table) (ap (drop (offset k)) (g.contents k))
             ∙ ap (λ (e : StreamEnd). session_walked t calls k capsule (session_walk_of (drop (offset k) (contents h k)) e) table) (g.end k)) in
-      let x : closing h found k ≡ session_found k capsule walk = rw (e, q, b k e) refl in
+      let part : session_part h found k ≡ drop (offset k) (contents h k) = ap (λ (n : ℕ). drop n (contents h k)) (b k e) in
+      let x : closing h found k ≡ session_found k capsule walk = rw (e, q, part) refl in
       rw (s, check-step side h (WalkSession k) (map WalkSession ids) found (session_found k capsule walk) f x)
       (again (found ++ session_found k capsule walk) (session_walked t calls k capsule walk table) (walked-begin found k capsule walk b) (walked-table found table k capsule walk f holds))
 

@@ -1,10 +1,12 @@
 -- What holds of all that the moments of a history found, and is kept by every check.
-use Rattle.std.specs.Prelude.{◌%◌, ◌&&◌, ◌*◌, ◌+◌, ◌==◌, ◌||◌, ◌≡◌, ◌≤◌, ◌<◌, Bool, List, None, Option, Some, drop, false, filter, filter_map, if◌then◌else◌, length, nat_lt, not, true, ℕ}
+use Rattle.std.specs.Prelude.{◌%◌, ◌&&◌, ◌*◌, ◌+◌, ◌==◌, ◌||◌, ◌≡◌, ◌≤◌, ◌<◌, Bool, List, None, Option, Some, drop, false, filter, filter_map, if◌then◌else◌, length, nat_lt, not, true, unwrap_or, ℕ}
 use Rattle.std.specs.List.{list_all}
-use Rattle.wt_meaning.specs.Findings.{Finding, is_classified, is_datagram, is_dequeued}
-use Rattle.wt_meaning.specs.History.{History, contents}
+use Rattle.wt_meaning.specs.Findings.{Finding, is_classified, is_datagram, is_dequeued, verdict_of}
+use Rattle.wt_meaning.specs.History.{History, contents, events}
 use Rattle.wt_meaning.specs.Moments.{ids_from, is_ready}
-use Rattle.wt_meaning.specs.Windows.{is_established, received_count, session_part}
+use Rattle.wt_meaning.specs.Windows.{after_request, after_response, is_established, received_count}
+use Rattle.wt_proto.specs.ResponseWalk.{response_walk_of}
+use Rattle.wt_seam_spec.specs.Reports.{end_of}
 use Rattle.wt_sessions.specs.StreamTable.{Admitted, CallView, Session}
 use Rattle.wt_sessions_agree.specs.Agrees.{admitted_in}
 use Rattle.wt_seam_spec.specs.Streams.{peer_bi, peer_uni}
@@ -47,9 +49,13 @@ pub record Received (h : History) (calls : CallView) (found : List Finding) : Ty
 abbrev pub session_at : History → (ℕ → ℕ) → ℕ → Option Session
 session_at h offset k = if is_established h k then Some (record { id = k; offset = offset k }) else None
 
+-- where a session's part of its stream begins, by what was found
+abbrev pub begins_at : History → List Finding → ℕ → ℕ
+begins_at h found s = unwrap_or (after_request (verdict_of found s)) (after_response (response_walk_of (contents h s) (end_of (events h) s)))
+
 -- each established session's part begins there
 abbrev pub Begin : History → (ℕ → ℕ) → List Finding → Type 0
-Begin h offset found = (k : ℕ) → is_established h k ≡ true → session_part h found k ≡ drop (offset k) (contents h k)
+Begin h offset found = (k : ℕ) → is_established h k ≡ true → begins_at h found k ≡ offset k
 
 -- the stream is the peer's
 abbrev pub is_of_peer : Side → ℕ → Bool
