@@ -25,7 +25,7 @@ use Rattle.wt_sessions_agree.proofs.AnswerLaws.{answer-agrees, called-actions, s
 use Rattle.wt_sessions_agree.proofs.EventTurns.{ended-acted}
 use Rattle.wt_sessions_agree.proofs.MomentAgrees.{moment-agrees}
 use Rattle.wt_sessions_agree.proofs.OrderlyLaws.{orderly-checks}
-use Rattle.wt_sessions_agree.proofs.TurnFinds.{found-same, table-same, table-then}
+use Rattle.wt_sessions_agree.proofs.TurnFinds.{acted-table, found-same, table-same, table-then}
 use Rattle.wt_sessions_agree.specs.Agrees.{IsTable}
 use Rattle.wt_sessions_agree.specs.Orderly.{Orderly}
 use Rattle.wt_sessions_agree.specs.Records.{effect_of, record_of, told}
@@ -102,3 +102,95 @@ module _ (side : Side) (offset : ℕ → ℕ) (h : History) (log : Log) (x : Sta
   -- the log at the call's moment
   abbrev at : Log
   at = Called left ∷ with_actions own.actions log
+
+  -- ---- both find the connection open, or neither
+
+  pub at-ends : list_any logs.ends_by at ≡ (list_any closes own.actions || list_any logs.ends_by log)
+  at-ends = ended-acted own.actions log
+
+  pub at-open : is_open with_own ≡ logs.is_open at
+  at-open = own-alike h log c own at x.came.openness at-ends
+
+  -- an open connection was open before
+  open-before : is_open with_own ≡ true → is_open h ≡ true
+  open-before o = by (list_any closes own.actions) (list_any ends_by h) o
+    where
+      by : (a b : Bool) → not ((false || a) || b) ≡ true → not b ≡ true
+      by false false e = refl
+      by false true e = absurd (cc e)
+      by true false e = absurd (cc e)
+      by true true e = absurd (cc e)
+
+  -- what goes out at the moment
+  sent-same : (is_open with_own ≡ true → pending_actions side at ≡ moment_actions side with_own) → sent-then side at ≡ moment_actions side with_own
+  sent-same pending = by (is_open with_own) refl
+    where
+      by : (b : Bool) → is_open with_own ≡ b → sent-then side at ≡ moment_actions side with_own
+      by true e =
+          let o : logs.is_open at ≡ true = sym at-open ∙ e in
+          ap (λ (b : Bool). if b then pending_actions side at else []) o ∙ pending e
+      by false e =
+          let o : logs.is_open at ≡ false = sym at-open ∙ e in
+          let n : moment_actions side with_own ≡ [] = rw e refl in
+          ap (λ (b : Bool). if b then pending_actions side at else []) o ∙ sym n
+
+  -- ---- a call that establishes no session
+
+  module _ (plain : session_in own.reply ≡ None) (effect : call_effect side log c ≡ effect_of side h log c own) where
+    -- the log after the call
+    abbrev later : Log
+    later = log_call side log own.actions left
+
+    effect-is : answers.turn_effect side log (turns.Call c) ≡ reply_with later own.reply
+    effect-is = effect ∙ told-plain side h log c own own.reply plain
+
+    pub later-is : log_after side log (turns.Call c) ≡ later
+    later-is = ap (λ (e : Effect). e.log) effect-is
+
+    module _ (pending : is_open with_own ≡ true → pending_actions side at ≡ moment_actions side with_own) where
+      pub call-same : answers.answer_to side log (turns.Call c) ≡ next side h (turns.Call c)
+      call-same =
+          ap (λ (e : Effect). record { reply = e.reply; actions = answers.actions_since log e.log }) effect-is
+          ∙ ap (λ (as_ : List Action). record { reply = own.reply; actions = as_ }) (answer-agrees side h log (turns.Call c) own left (sent-same pending))
+
+      pub call-sent : actions_of later ≡ newest_first (own.actions ++ moment_actions side with_own) (actions_of log)
+      call-sent = called-actions side log own.actions left ∙ ap (λ (as_ : List Action). newest_first (own.actions ++ as_) (actions_of log)) (sent-same pending)
+
+    -- what it finds
+    module _ (alike : SeesAlike side with_own (transport_view side at) (call_view at) offset) (orderly : Orderly side with_own (call_view at) offset (findings side h))
+        (idle : is_open h ≡ true → after_checks side with_own (checks side with_own) (findings side h) ≡ findings side h) where
+      finds-by : (b d : Bool) → is_open h ≡ b → is_open with_own ≡ d → IsTable (findings side with_own) (stream_table side later)
+      finds-by true true o e =
+          let m : (is_moment (Called left) && logs.is_open at) ≡ true = sym at-open ∙ e in
+          subst (λ (found : List Finding). IsTable found (stream_table side later)) (sym (found-one side (record { turn = turns.Call c; answer = own }) h plain o))
+          (subst (IsTable (after_checks side with_own (checks side with_own) (findings side h))) (sym (table-then side (with_actions own.actions log) (Called left) m))
+          (moment-agrees side with_own (transport_view side at) (call_view at) offset alike (findings side h) (stream_table side (with_actions own.actions log)) orderly
+          (subst (IsTable (findings side h)) (sym (acted-table side own.actions log)) x.table)))
+      finds-by true false o e =
+          let m : (is_moment (Called left) && logs.is_open at) ≡ false = sym at-open ∙ e in
+          subst (λ (found : List Finding). IsTable found (stream_table side later)) (sym (found-one side (record { turn = turns.Call c; answer = own }) h plain o ∙ idle o))
+          (subst (IsTable (findings side h)) (sym (table-same side (with_actions own.actions log) (Called left) m ∙ acted-table side own.actions log)) x.table)
+      finds-by false d o e =
+          let m : (is_moment (Called left) && logs.is_open at) ≡ false = sym at-open ∙ shut in
+          subst (λ (found : List Finding). IsTable found (stream_table side later)) (sym (found-same side (record { turn = turns.Call c; answer = own }) h o))
+          (subst (IsTable (findings side h)) (sym (table-same side (with_actions own.actions log) (Called left) m ∙ acted-table side own.actions log)) x.table)
+        where
+          shut : is_open with_own ≡ false
+          shut = by (is_open with_own) refl
+            where
+              by : (b : Bool) → is_open with_own ≡ b → b ≡ false
+              by false q = refl
+              by true q = absurd (let p = open-before q in cc (sym p ∙ o))
+
+      pub call-finds : IsTable (findings side (step side h (turns.Call c))) (stream_table side later)
+      call-finds = subst (λ (found : List Finding). IsTable found (stream_table side later)) (sym (same-findings side h (turns.Call c))) (finds-by (is_open h) (is_open with_own) refl refl)
+
+      -- and what was in order stays so
+      order-by : (b : Bool) → is_open h ≡ b → Orderly side with_own (call_view at) offset (findings side with_own)
+      order-by true o =
+          subst (Orderly side with_own (call_view at) offset) (sym (found-one side (record { turn = turns.Call c; answer = own }) h plain o))
+          (orderly-checks side with_own (call_view at) offset (checks side with_own) (peers-checked side with_own) (findings side h) orderly)
+      order-by false o = subst (Orderly side with_own (call_view at) offset) (sym (found-same side (record { turn = turns.Call c; answer = own }) h o)) orderly
+
+      pub call-orders : Orderly side with_own (call_view at) offset (findings side (step side h (turns.Call c)))
+      call-orders = subst (Orderly side with_own (call_view at) offset) (sym (same-findings side h (turns.Call c))) (order-by (is_open h) refl)

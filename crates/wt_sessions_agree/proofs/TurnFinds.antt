@@ -26,7 +26,7 @@ use Rattle.wt_turn.specs.declared.reply.Reply.TheVariants as replies
 
 -- ---- what went out is no moment
 
-acted-table : (side : Side) (own : List Action) (log : Log) → stream_table side (with_actions own log) ≡ stream_table side log
+pub acted-table : (side : Side) (own : List Action) (log : Log) → stream_table side (with_actions own log) ≡ stream_table side log
 unfolding stream_table
 acted-table side [] log = refl
 acted-table side (a ∷ own) log = acted-table side own (Sent a ∷ log)
