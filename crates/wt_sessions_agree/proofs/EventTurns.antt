@@ -38,7 +38,7 @@ use Rattle.wt_turn.specs.declared.reply.Reply.TheVariants as replies
 abbrev pub sent-entry : Side → Log → Entry → List Action
 sent-entry side log e = if is_moment e && logs.is_open (e ∷ log) then pending_actions side (e ∷ log) else []
 
-flush-as : (side : Side) (log : Log) (e : Entry) → log_and_flush side log e ≡ with_actions (sent-entry side log e) (e ∷ log)
+pub flush-as : (side : Side) (log : Log) (e : Entry) → log_and_flush side log e ≡ with_actions (sent-entry side log e) (e ∷ log)
 unfolding flush
 flush-as side log e = by (is_moment e && logs.is_open (e ∷ log))
   where
@@ -47,7 +47,7 @@ flush-as side log e = by (is_moment e && logs.is_open (e ∷ log))
     by false = refl
 
 -- what calls did, by their records
-abbrev view-of : List CallRecord → CallView
+abbrev pub view-of : List CallRecord → CallView
 view-of rs = record {
   accepted = λ k. list_any (accepts_stream k) rs;
   received = λ n. list_any (receives n) rs;

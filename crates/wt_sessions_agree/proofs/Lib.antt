@@ -32,3 +32,4 @@ pub mod EventTurns
 pub mod PartLaws
 pub mod OrderTurns
 pub mod CallTurns
+pub mod ByteTurns

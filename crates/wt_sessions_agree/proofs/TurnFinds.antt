@@ -69,7 +69,7 @@ sees-alike side offset h log e c calls sessions = record {
 }
 
 -- what the newest pair's moment finds, where its reply establishes no session
-found-then : (side : Side) (p : Pair) (h : History) → p.answer.reply ≡ replies.Done → is_open h ≡ true → findings side (p ∷ h) ≡ after_checks side (p ∷ h) (checks side (p ∷ h)) (findings side h)
+pub found-then : (side : Side) (p : Pair) (h : History) → p.answer.reply ≡ replies.Done → is_open h ≡ true → findings side (p ∷ h) ≡ after_checks side (p ∷ h) (checks side (p ∷ h)) (findings side h)
 unfolding findings
 found-then side p h d o =
     ap (λ (b : Bool). if b then after_moments side (p ∷ h) p.answer.reply (findings side h) else findings side h) o
