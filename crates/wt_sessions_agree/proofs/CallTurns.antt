@@ -89,18 +89,18 @@ own-alike h log c a log2 o e = by (list_any ends_by h) (list_any logs.ends_by lo
 
 module _ (side : Side) (offset : ℕ → ℕ) (h : History) (log : Log) (x : Stands side offset h log) (c : Call) where
   -- the call's own answer, and the history with it
-  abbrev own : Answer
+  abbrev pub own : Answer
   own = own_answer side h (turns.Call c)
 
-  abbrev with_own : History
+  abbrev pub with_own : History
   with_own = with_pair h (turns.Call c) own
 
   -- what the call leaves in the log
-  abbrev left : CallRecord
+  abbrev pub left : CallRecord
   left = record_of side h c own.reply
 
   -- the log at the call's moment
-  abbrev at : Log
+  abbrev pub at : Log
   at = Called left ∷ with_actions own.actions log
 
   -- ---- both find the connection open, or neither
@@ -112,7 +112,7 @@ module _ (side : Side) (offset : ℕ → ℕ) (h : History) (log : Log) (x : Sta
   at-open = own-alike h log c own at x.came.openness at-ends
 
   -- an open connection was open before
-  open-before : is_open with_own ≡ true → is_open h ≡ true
+  pub open-before : is_open with_own ≡ true → is_open h ≡ true
   open-before o = by (list_any closes own.actions) (list_any ends_by h) o
     where
       by : (a b : Bool) → not ((false || a) || b) ≡ true → not b ≡ true
@@ -122,7 +122,7 @@ module _ (side : Side) (offset : ℕ → ℕ) (h : History) (log : Log) (x : Sta
       by true true e = absurd (cc e)
 
   -- what goes out at the moment
-  sent-same : (is_open with_own ≡ true → pending_actions side at ≡ moment_actions side with_own) → sent-then side at ≡ moment_actions side with_own
+  pub sent-same : (is_open with_own ≡ true → pending_actions side at ≡ moment_actions side with_own) → sent-then side at ≡ moment_actions side with_own
   sent-same pending = by (is_open with_own) refl
     where
       by : (b : Bool) → is_open with_own ≡ b → sent-then side at ≡ moment_actions side with_own
@@ -138,7 +138,7 @@ module _ (side : Side) (offset : ℕ → ℕ) (h : History) (log : Log) (x : Sta
 
   module _ (plain : session_in own.reply ≡ None) (effect : call_effect side log c ≡ effect_of side h log c own) where
     -- the log after the call
-    abbrev later : Log
+    abbrev pub later : Log
     later = log_call side log own.actions left
 
     effect-is : answers.turn_effect side log (turns.Call c) ≡ reply_with later own.reply

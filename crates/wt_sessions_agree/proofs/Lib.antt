@@ -33,3 +33,4 @@ pub mod PartLaws
 pub mod OrderTurns
 pub mod CallTurns
 pub mod ByteTurns
+pub mod EstablishTurns

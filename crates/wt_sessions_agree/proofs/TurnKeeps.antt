@@ -342,7 +342,7 @@ module _ (side : Side) (offset : ℕ → ℕ) (h : History) (log : Log) (x : Sta
 
 -- ---- the log after the turn
 
-acted-calls : (own : List Action) (log : Log) → calls_of (with_actions own log) ≡ calls_of log
+pub acted-calls : (own : List Action) (log : Log) → calls_of (with_actions own log) ≡ calls_of log
 acted-calls [] log = refl
 acted-calls (a ∷ own) log = acted-calls own (Sent a ∷ log)
 
