@@ -34,3 +34,4 @@ pub mod OrderTurns
 pub mod CallTurns
 pub mod ByteTurns
 pub mod EstablishTurns
+pub mod DueLaws
