@@ -35,3 +35,4 @@ pub mod CallTurns
 pub mod ByteTurns
 pub mod EstablishTurns
 pub mod DueLaws
+pub mod MembersLaws
