@@ -38,7 +38,7 @@ pub record ConnectFacts (h : History) (log : Log) : Type 0 where
   pub unstopped : local_count (actions_of log) 0 ≡ 0 → stop_of (events_of log) 0 ≡ None
 
 -- the peer opens no stream of the client's kind
-no-peers : (es : List Event) → peer_count Client es 0 ≡ 0
+pub no-peers : (es : List Event) → peer_count Client es 0 ≡ 0
 no-peers [] = refl
 no-peers (PeerUni ∷ es) = no-peers es
 no-peers (PeerBi ∷ es) = no-peers es

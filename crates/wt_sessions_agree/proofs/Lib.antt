@@ -36,3 +36,4 @@ pub mod ByteTurns
 pub mod EstablishTurns
 pub mod DueLaws
 pub mod MembersLaws
+pub mod DueEnds
