@@ -37,3 +37,4 @@ pub mod EstablishTurns
 pub mod DueLaws
 pub mod MembersLaws
 pub mod DueEnds
+pub mod QuietLaws
