@@ -122,11 +122,11 @@ end-plain h None = refl
 end-plain h (Some x) = fault-plain (not (is_running (end_of (events h) x.0))) h3.ClosedCriticalStream
 
 -- the check isn't whether a stream is dequeued
-abbrev is-other : Check → Bool
+abbrev pub is-other : Check → Bool
 is-other (Dequeue k) = false
 is-other _ = true
 
-plain-other : (side : Side) (h : History) (found : List Finding) (c : Check) → is-other c ≡ true → list_all dequeues-none (found_by side h found c) ≡ true
+pub plain-other : (side : Side) (h : History) (found : List Finding) (c : Check) → is-other c ≡ true → list_all dequeues-none (found_by side h found c) ≡ true
 plain-other side h found (Dequeue k) e = absurd (cc e)
 plain-other side h found (Classify k) e = if-plain (is_dequeued found k && not (is_classified found k)) (classified_as h found k (verdict h k)) (as-plain h found k (verdict h k))
 plain-other side h found (ReadDatagram n piece) e =

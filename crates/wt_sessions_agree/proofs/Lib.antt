@@ -30,6 +30,8 @@ pub mod EndLaws
 pub mod TurnAnswers
 pub mod EventTurns
 pub mod PartLaws
+pub mod ThereLaws
+pub mod SessionTurns
 pub mod OrderTurns
 pub mod CallTurns
 pub mod ByteTurns

@@ -12,7 +12,7 @@ use Rattle.wt_meaning.specs.History.{History, Pair, contents, events, is_open, w
 use Rattle.wt_meaning.specs.Meaning.{next, with_pair}
 use Rattle.wt_meaning.specs.Moments.{findings, keeps, stream_fault, verdict}
 use Rattle.wt_meaning.specs.Windows.{after_request, after_response, establishes, is_established, last_request, queued_request, requests, session_in}
-use Rattle.wt_promise.proofs.Accepted.{and-left, or-true}
+use Rattle.wt_promise.proofs.Accepted.{and-left}
 use Rattle.wt_promise.proofs.Datagrams.{numbered}
 use Rattle.wt_promise.proofs.Established.{established-rightly}
 use Rattle.wt_promise.proofs.Few.{given-queued, has}
@@ -225,22 +225,18 @@ given-request side h i k e = queued-verdict side h k (queues-has k (findings sid
 
 -- what settles where the session's part begins
 pub data Parted (side : Side) (h : History) (k : ℕ) : Type 0 where
-  ByRequest : RequestOf (findings side h) k → was_given h k ≡ true → Parted side h k
+  ByRequest : RequestOf (findings side h) k → side ≡ Server → Parted side h k
   ByResponse : (fields : Fields) (at : ℕ) → response_walk_of (contents h k) (end_of (events h) k) ≡ responses.Response fields at → k ≡ 0 → side ≡ Client → Parted side h k
 
 -- whatever comes later
 parted-stays : (side : Side) (p : Pair) (h : History) (k : ℕ) → Parted side h k → Parted side (p ∷ h) k
-parted-stays side p h k (ByRequest r g) = ByRequest (record {
+parted-stays side p h k (ByRequest r c) = ByRequest (record {
   headers = r.headers;
   offset = r.offset;
   is_verdict = verdict-stays side p h k (verdicts.Request r.headers r.offset) r.is_verdict;
   is_bi = r.is_bi;
   came = ap (λ (found : List Finding). is_dequeued found k) (findings-add side p h) ∙ list_any-append (dequeues k) (findings side h) (news side p h) ∙ ap (λ (b : Bool). b || list_any (dequeues k) (news side p h)) r.came;
-}) (later (requests p) g)
-  where
-    later : (o : Option ℕ) → was_given h k ≡ true → list_any (λ (id : ℕ). id == k) (cons_option o (filter_map requests h)) ≡ true
-    later None q = q
-    later (Some t) q = rw q (or-true (t == k))
+}) c
 parted-stays side p h k (ByResponse fields at e z c) =
     let more = contents-add p h k in
     ByResponse fields at (ap (λ (bytes : List ℕ). response_walk_of bytes (end_of (events (p ∷ h)) k)) more.1 ∙ response-stays (contents h k) more.0 (end_of (events h) k) (end_of (events (p ∷ h)) k) fields at e) z c
@@ -265,7 +261,7 @@ last-given (p ∷ h) k e = by (requests p) e (last-given h k)
 parted-new : (side : Side) (h : History) (turn : Turn) (k : ℕ) → IsHistory side (with_pair h turn (next side h turn)) → EstablishedFor side h (with_pair h turn (next side h turn)) k → Parted side (with_pair h turn (next side h turn)) k
 parted-new Server h turn k i e =
     let given = last-given (with_pair h turn (next Server h turn)) k (numbered k (last_request (with_pair h turn (next Server h turn))) (and-left _ _ e.asked)) in
-    ByRequest (given-request Server (with_pair h turn (next Server h turn)) i k given) given
+    ByRequest (given-request Server (with_pair h turn (next Server h turn)) i k given) refl
 parted-new Client h turn k i e =
     let three = all-of (k == 0) (is_opened (with_pair h turn (next Client h turn))) (is_success (response_walk_of (contents (with_pair h turn (next Client h turn)) 0) (end_of (events (with_pair h turn (next Client h turn))) 0))) e.asked in
     let zero : k ≡ 0 = eqb-true k 0 three.0 in
@@ -300,7 +296,7 @@ parted side (p ∷ h) i k e = by (session_in p.answer.reply) refl e (parted side
 
 -- so that one pair more doesn't move it
 pub begins-stays : (side : Side) (p : Pair) (h : History) (k : ℕ) → Parted side h k → begins_at (p ∷ h) (findings side h) k ≡ begins_at h (findings side h) k
-begins-stays side p h k (ByRequest r g) = rw r.is_verdict refl
+begins-stays side p h k (ByRequest r c) = rw r.is_verdict refl
 begins-stays side p h k (ByResponse fields at e z c) =
     let more = contents-add p h k in
     ap (λ (w : ResponseWalk). unwrap_or (after_request (verdict_of (findings side h) k)) (after_response w))

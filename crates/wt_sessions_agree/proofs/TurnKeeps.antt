@@ -157,7 +157,7 @@ behind h offset m i (suc c) le = by (is_established h (4 * i + 0)) (behind h off
     by false again = again
 
 -- so more streams are no sessions yet
-more-ids : (h : History) (offset : ℕ → ℕ) (i c n : ℕ) → c ≤ n → ((m : ℕ) → i + c ≤ m → is_established h (4 * m + 0) ≡ false)
+pub more-ids : (h : History) (offset : ℕ → ℕ) (i c n : ℕ) → c ≤ n → ((m : ℕ) → i + c ≤ m → is_established h (4 * m + 0) ≡ false)
     → filter_map (session_at h offset) (ids_from 0 i n) ≡ filter_map (session_at h offset) (ids_from 0 i c)
 more-ids h offset i zero zero le none = refl
 more-ids h offset i (suc c) zero le none = absurd (omega (arith, le))
