@@ -20,7 +20,7 @@ use Rattle.wt_promise.specs.Promise.{IsHistory}
 use Rattle.wt_proto.specs.declared.verdict.Verdict.{Verdict}
 use Rattle.wt_seam_spec.specs.Reports.{is_connected, stop_of}
 use Rattle.wt_seam_spec.specs.Streams.{local_count}
-use Rattle.wt_sessions.specs.Driver.{ending_actions, is_living, is_session_gone, stream_table}
+use Rattle.wt_sessions.specs.Driver.{call_view, ending_actions, is_living, is_session_gone, stream_table, transport_view}
 use Rattle.wt_sessions.specs.Handshake.{HandshakeState, handshake_state, request_end, requested_stream}
 use Rattle.wt_sessions.specs.Handshake as handshakes
 use Rattle.wt_sessions.specs.StreamTable as tables
@@ -28,8 +28,11 @@ use Rattle.wt_sessions_agree.proofs.ConnectRows.{ConnectFacts, no-peers}
 use Rattle.wt_sessions_agree.proofs.DueLaws.{DueRequest, due-not-gone, due-request, is_asked}
 use Rattle.wt_sessions_agree.proofs.EndLaws.{none-agrees}
 use Rattle.wt_sessions_agree.proofs.FoundLaws.{verdicts-agree}
+use Rattle.wt_sessions_agree.proofs.LawfulLaws.{receives-is, sends-is}
+use Rattle.wt_sessions_agree.proofs.MembersLaws.{gone-alike}
 use Rattle.wt_sessions_agree.proofs.RowsAgree.{EndsAgree, is_due}
 use Rattle.wt_sessions_agree.proofs.WaitLaws.{gone-is}
+use Rattle.wt_sessions_agree.specs.Members.{HalvesSeen, MembersIn}
 use Rattle.wt_sessions_agree.specs.Records.{part_start}
 use Rattle.wt_sessions_agree.specs.Stands.{BegunAgrees, IsResponse, Stands}
 use Rattle.wt_turn.specs.Log.{Event, Log, calls_of}
@@ -157,3 +160,19 @@ ends-agree Server offset h log i x gone = record {
   client = λ e. absurd (cc e);
   connects = λ reserved head e. absurd (no-connect h i reserved head (last_begun h) refl (subst (λ (state : HandshakeState). BegunAgrees state (last_begun h)) e x.handshake.begun));
 }
+
+-- ---- and what goes out for gone sessions is the same
+
+pub halves-seen : (side : Side) (offset : ℕ → ℕ) (h : History) (log : Log) → Stands side offset h log → HalvesSeen side h (transport_view side log)
+halves-seen side offset h log x = record {
+  receives = λ k. rw (receives-is side offset h log x k, x.came.events, x.halves.given_up k) refl;
+  sends = λ k. rw (sends-is side offset h log x k, x.out.finished k, x.halves.reset k) refl;
+}
+
+pub gone-stands : (side : Side) (offset : ℕ → ℕ) (h : History) (log : Log) → Stands side offset h log → MembersIn side h (call_view log) (findings side h) → GoneAlike side h log
+gone-stands side offset h log x m =
+    gone-alike side h (findings side h) (transport_view side log) (call_view log) (stream_table side log) x.table x.calls (halves-seen side offset h log x) m
+
+-- all that calls rest on
+pub ends-hold : (side : Side) (offset : ℕ → ℕ) (h : History) (log : Log) → IsHistory side h → Stands side offset h log → MembersIn side h (call_view log) (findings side h) → EndsAgree side h log
+ends-hold side offset h log i x m = ends-agree side offset h log i x (gone-stands side offset h log x m)

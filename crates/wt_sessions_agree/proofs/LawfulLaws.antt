@@ -57,10 +57,10 @@ module _ (side : Side) (offset : ℕ → ℕ) (h : History) (log : Log) (x : Sta
   exists-is : (k : ℕ) → exists side h k ≡ streams.exists side log k
   exists-is k = ap (nat_lt (k / 4)) (count-is side offset h log x (k % 4))
 
-  receives-is : (k : ℕ) → can_receive side h k ≡ streams.can_receive side log k
+  pub receives-is : (k : ℕ) → can_receive side h k ≡ streams.can_receive side log k
   receives-is k = ap (λ (b : Bool). b && not (k % 4 == local_uni side)) (exists-is k) ∙ ap (λ (b : Bool). streams.exists side log k && not b) (eqb-sym side offset h log x (k % 4) (local_uni side))
 
-  sends-is : (k : ℕ) → can_send side h k ≡ streams.can_send side log k
+  pub sends-is : (k : ℕ) → can_send side h k ≡ streams.can_send side log k
   sends-is k = ap (λ (b : Bool). b && not (k % 4 == peer_uni side)) (exists-is k) ∙ ap (λ (b : Bool). streams.exists side log k && not b) (eqb-sym side offset h log x (k % 4) (peer_uni side))
 
   -- a turn that asks for a connection that came and isn't lost
