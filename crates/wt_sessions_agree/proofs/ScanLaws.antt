@@ -121,7 +121,24 @@ lt-less a b l e = grind (arith, l, e)
 abbrev pub Admits : History → TransportView → CallView → Type 0
 Admits h t calls = (found : List Finding) (table : StreamTable) (k : ℕ) (w : Verdict) → IsTable found table → (consequence t (dispatched_streams calls table) k w).admitted ≡ keeps h found w
 
-module _ (side : Side) (h : History) (t : TransportView) (calls : CallView) (v : ℕ → Verdict) (kind : ℕ) (small : kind < 4) (ready : is_ready side h ≡ true) (seen : (m : ℕ) → verdict h (4 * m + kind) ≡ v (4 * m + kind)) (admits : Admits h t calls) where
+-- what the step of a kind's streams keeps, of what was found and the table
+pub record ScanKeeps (h : History) (t : TransportView) (calls : CallView) (kind : ℕ) (Keeps : List Finding → StreamTable → Type 0) : Type 0 where
+  pub table : (found : List Finding) (table : StreamTable) → Keeps found table → IsTable found table
+  pub taken : (m : ℕ) (found : List Finding) (table : StreamTable) → fault_of found ≡ None → Keeps found table → Keeps (found ++ Dequeued (4 * m + kind) ∷ []) table
+  pub ripe : (m : ℕ) (found : List Finding) (table : StreamTable) (w : Verdict) → fault_of found ≡ None → is_dequeued found (4 * m + kind) ≡ true → is_classified found (4 * m + kind) ≡ false → verdict h (4 * m + kind) ≡ w → Keeps found table
+      → let c = consequence t (dispatched_streams calls table) (4 * m + kind) w in Keeps ((found ++ finds.Classified (4 * m + kind) w c.admitted ∷ []) ++ faults_of c.fault) (with_classified (4 * m + kind) w c table)
+
+-- that the table holds what was found is kept
+pub table-kept : (h : History) (t : TransportView) (calls : CallView) (kind : ℕ) → ScanKeeps h t calls kind IsTable
+table-kept h t calls kind = record {
+  table = λ found table holds. holds;
+  taken = λ m found table f holds. table-same found table (Dequeued (4 * m + kind)) refl refl refl refl refl refl holds;
+  ripe = λ m found table w f d r e holds.
+      let c : Consequence = consequence t (dispatched_streams calls table) (4 * m + kind) w in ripe-table found table (4 * m + kind) w c.admitted c.actions c.fault f holds;
+}
+
+module _ (side : Side) (h : History) (t : TransportView) (calls : CallView) (v : ℕ → Verdict) (kind : ℕ) (small : kind < 4) (ready : is_ready side h ≡ true) (seen : (m : ℕ) → verdict h (4 * m + kind) ≡ v (4 * m + kind)) (admits : Admits h t calls)
+    (Keeps : List Finding → StreamTable → Type 0) (kept : ScanKeeps h t calls kind Keeps) where
   -- the stream is unsettled
   abbrev unripe : List Finding → ℕ → Bool
   unripe found j = not (is_classified found j)
@@ -142,7 +159,7 @@ module _ (side : Side) (h : History) (t : TransportView) (calls : CallView) (v :
     ripe : (j : ℕ) → is_classified later j ≡ is_classified found j
     taken : is_dequeued later (4 * m + kind) ≡ (is_dequeued found (4 * m + kind) || nat_lt (unsettled found m) 4)
     few : Few later
-    holds : IsTable later table
+    holds : Keeps later table
     none : fault_of later ≡ None
 
   -- one more ripe stream leaves fewer unsettled
@@ -154,13 +171,13 @@ module _ (side : Side) (h : History) (t : TransportView) (calls : CallView) (v :
       by j true e q = absurd (cc (sym q ∙ ap not (more j e)))
 
   -- the stream is taken now
-  now-taken : (m : ℕ) (found : List Finding) (table : StreamTable) → nat_lt (unsettled found m) 4 ≡ true → fault_of found ≡ None → Few found → IsTable found table → Took m found (found ++ Dequeued (4 * m + kind) ∷ []) table
+  now-taken : (m : ℕ) (found : List Finding) (table : StreamTable) → nat_lt (unsettled found m) 4 ≡ true → fault_of found ≡ None → Few found → Keeps found table → Took m found (found ++ Dequeued (4 * m + kind) ∷ []) table
   now-taken m found table lt f few holds = record {
     ripe = same;
     taken = dequeued-append found (Dequeued (4 * m + kind)) (4 * m + kind) ∙ ap (λ b. is_dequeued found (4 * m + kind) || b) (self (4 * m + kind) ∙ sym lt);
     few = λ i x y. lt-less _ (unsettled found i) (fewer found (found ++ Dequeued (4 * m + kind) ∷ []) (λ j q. same j ∙ q) i)
         (by i (4 * m + kind == 4 * i + kind) refl (sym (dequeued-append found (Dequeued (4 * m + kind)) (4 * i + kind)) ∙ x) (sym (same (4 * i + kind)) ∙ y));
-    holds = table-same found table (Dequeued (4 * m + kind)) refl refl refl refl refl refl holds;
+    holds = kept.taken m found table f holds;
     none = first-append fault_in found (Dequeued (4 * m + kind)) ∙ or-none (fault_of found) ∙ f;
   }
     where
@@ -175,11 +192,11 @@ module _ (side : Side) (h : History) (t : TransportView) (calls : CallView) (v :
       by i false e x y = few i (sym (or-false (is_dequeued found (4 * i + kind))) ∙ sym (ap (λ b. is_dequeued found (4 * i + kind) || b) e) ∙ x) y
 
   -- nothing changes
-  not-taken : (m : ℕ) (found : List Finding) (table : StreamTable) → (is_dequeued found (4 * m + kind) ≡ (is_dequeued found (4 * m + kind) || nat_lt (unsettled found m) 4)) → fault_of found ≡ None → Few found → IsTable found table
+  not-taken : (m : ℕ) (found : List Finding) (table : StreamTable) → (is_dequeued found (4 * m + kind) ≡ (is_dequeued found (4 * m + kind) || nat_lt (unsettled found m) 4)) → fault_of found ≡ None → Few found → Keeps found table
       → Took m found (found ++ []) table
   not-taken m found table e f few holds = subst (λ (l : List Finding). Took m found l table) (sym (append-nil found)) (record { ripe = λ j. refl; taken = e; few = few; holds = holds; none = f })
 
-  took : (m : ℕ) (found : List Finding) (table : StreamTable) → fault_of found ≡ None → Few found → IsTable found table → Took m found (found ++ dequeuing side h found (4 * m + kind)) table
+  took : (m : ℕ) (found : List Finding) (table : StreamTable) → fault_of found ≡ None → Few found → Keeps found table → Took m found (found ++ dequeuing side h found (4 * m + kind)) table
   took m found table f few holds = by (is_dequeued found (4 * m + kind)) refl (nat_lt (unsettled found m) 4) refl
     where
       by : (a : Bool) → is_dequeued found (4 * m + kind) ≡ a → (b : Bool) → nat_lt (unsettled found m) 4 ≡ b → Took m found (found ++ dequeuing side h found (4 * m + kind)) table
@@ -196,8 +213,8 @@ module _ (side : Side) (h : History) (t : TransportView) (calls : CallView) (v :
   -- ---- one stream after another
 
   abbrev Again : ℕ → ℕ → Type 0
-  Again count m = (n : ℕ) (found : List Finding) (table : StreamTable) → n ≡ 4 - unsettled found (suc m) → Few found → IsTable found table
-      → IsTable (after_checks side h (stream_checks (ids_from kind (suc m) count)) found) (scan t calls v n (filter (unripe found) (ids_from kind (suc m) count)) table)
+  Again count m = (n : ℕ) (found : List Finding) (table : StreamTable) → n ≡ 4 - unsettled found (suc m) → Few found → Keeps found table
+      → Keeps (after_checks side h (stream_checks (ids_from kind (suc m) count)) found) (scan t calls v n (filter (unripe found) (ids_from kind (suc m) count)) table)
 
   few-more : (found later : List Finding) → ((j : ℕ) → is_dequeued later j ≡ is_dequeued found j) → ((j : ℕ) → is_classified found j ≡ true → is_classified later j ≡ true) → Few found → Few later
   few-more found later same more few i x y = lt-less _ (unsettled found i) (fewer found later more i) (few i (sym (same (4 * i + kind)) ∙ x) (by (is_classified found (4 * i + kind)) refl))
@@ -245,7 +262,7 @@ module _ (side : Side) (h : History) (t : TransportView) (calls : CallView) (v :
   -- a stream that doesn't become ripe
   stays : (count m n p : ℕ) (found later : List Finding) (table : StreamTable) → Took m found later table → Again count m → classifying h later (4 * m + kind) ≡ []
       → p ≡ 4 - unsettled found (suc m) → scan t calls v n (filter (unripe found) (ids_from kind m (suc count))) table ≡ scan t calls v p (filter (unripe found) (ids_from kind (suc m) count)) table
-      → IsTable (after_checks side h (Classify (4 * m + kind) ∷ stream_checks (ids_from kind (suc m) count)) later) (scan t calls v n (filter (unripe found) (ids_from kind m (suc count))) table)
+      → Keeps (after_checks side h (Classify (4 * m + kind) ∷ stream_checks (ids_from kind (suc m) count)) later) (scan t calls v n (filter (unripe found) (ids_from kind m (suc count))) table)
   stays count m n p found later table g again e q s =
       let l : after_checks side h (Classify (4 * m + kind) ∷ stream_checks (ids_from kind (suc m) count)) later ≡ after_checks side h (stream_checks (ids_from kind (suc m) count)) later
             = check-step side h (Classify (4 * m + kind)) _ later [] g.none e ∙ ap (after_checks side h (stream_checks (ids_from kind (suc m) count))) (append-nil later) in
@@ -254,14 +271,14 @@ module _ (side : Side) (h : History) (t : TransportView) (calls : CallView) (v :
       rw (l, s, sym u) (again p later table (q ∙ ap (λ (x : ℕ). 4 - x) (sym c)) g.few g.holds)
 
   -- a stream that becomes ripe
-  ripens : (count m n p : ℕ) (found later : List Finding) (table : StreamTable) (w : Verdict) → Took m found later table → Again count m → is_classified found (4 * m + kind) ≡ false
+  ripens : (count m n p : ℕ) (found later : List Finding) (table : StreamTable) (w : Verdict) → Took m found later table → Again count m → is_classified found (4 * m + kind) ≡ false → is_dequeued later (4 * m + kind) ≡ true → verdict h (4 * m + kind) ≡ w
       → classifying h later (4 * m + kind) ≡ finds.Classified (4 * m + kind) w (keeps h later w) ∷ stream_fault later w → n ≡ 4 - unsettled found m
       → scan t calls v n (filter (unripe found) (ids_from kind m (suc count))) table ≡ scan t calls v n (filter (unripe found) (ids_from kind (suc m) count)) (with_classified (4 * m + kind) w (consequence t (dispatched_streams calls table) (4 * m + kind) w) table)
-      → IsTable (after_checks side h (Classify (4 * m + kind) ∷ stream_checks (ids_from kind (suc m) count)) later) (scan t calls v n (filter (unripe found) (ids_from kind m (suc count))) table)
-  ripens count m n p found later table w g again unripe-now e q s =
+      → Keeps (after_checks side h (Classify (4 * m + kind) ∷ stream_checks (ids_from kind (suc m) count)) later) (scan t calls v n (filter (unripe found) (ids_from kind m (suc count))) table)
+  ripens count m n p found later table w g again unripe-now dequeued shows e q s =
       let c : Consequence = consequence t (dispatched_streams calls table) (4 * m + kind) w in
       let more : List Finding = (later ++ finds.Classified (4 * m + kind) w c.admitted ∷ []) ++ faults_of c.fault in
-      let x : finds.Classified (4 * m + kind) w (keeps h later w) ∷ stream_fault later w ≡ finds.Classified (4 * m + kind) w c.admitted ∷ faults_of c.fault = rw (admits later table (4 * m + kind) w g.holds, faults-agree t calls later table (4 * m + kind) w g.holds) refl in
+      let x : finds.Classified (4 * m + kind) w (keeps h later w) ∷ stream_fault later w ≡ finds.Classified (4 * m + kind) w c.admitted ∷ faults_of c.fault = rw (admits later table (4 * m + kind) w (kept.table later table g.holds), faults-agree t calls later table (4 * m + kind) w (kept.table later table g.holds)) refl in
       let l : after_checks side h (Classify (4 * m + kind) ∷ stream_checks (ids_from kind (suc m) count)) later ≡ after_checks side h (stream_checks (ids_from kind (suc m) count)) more
             = check-step side h (Classify (4 * m + kind)) _ later (finds.Classified (4 * m + kind) w c.admitted ∷ faults_of c.fault) g.none (e ∙ x) ∙ ap (after_checks side h (stream_checks (ids_from kind (suc m) count))) (cons-append later (finds.Classified (4 * m + kind) w c.admitted) (faults_of c.fault)) in
       let u : filter (unripe more) (ids_from kind (suc m) count) ≡ filter (unripe found) (ids_from kind (suc m) count)
@@ -272,19 +289,19 @@ module _ (side : Side) (h : History) (t : TransportView) (calls : CallView) (v :
       let o : unsettled more (suc m) ≡ unsettled found m
             = ids-more (unripe more) kind 0 m ∙ ap (λ (i : ℕ). unsettled more m + one-if (unripe more (4 * i + kind))) i0 ∙ rw (itself m later w c.admitted c.fault) (omega (arith, z)) in
       rw (l, s, sym u) (again n more (with_classified (4 * m + kind) w c table) (q ∙ ap (λ (y : ℕ). 4 - y) (sym o)) (few-fault (later ++ finds.Classified (4 * m + kind) w c.admitted ∷ []) c.fault (few-ripe later (4 * m + kind) w c.admitted g.few))
-          (ripe-table later table (4 * m + kind) w c.admitted c.actions c.fault g.none g.holds))
+          (kept.ripe m later table w g.none dequeued (g.ripe (4 * m + kind) ∙ unripe-now) shows g.holds))
 
   -- what the verdict of a stream that is taken leads to
   decided : (count m n p : ℕ) (found later : List Finding) (table : StreamTable) → Took m found later table → Again count m → is_classified found (4 * m + kind) ≡ false → is_dequeued later (4 * m + kind) ≡ true
       → n ≡ suc p → n ≡ 4 - unsettled found m → p ≡ 4 - unsettled found (suc m)
-      → IsTable (after_checks side h (Classify (4 * m + kind) ∷ stream_checks (ids_from kind (suc m) count)) later) (scan t calls v n (filter (unripe found) (ids_from kind m (suc count))) table)
+      → Keeps (after_checks side h (Classify (4 * m + kind) ∷ stream_checks (ids_from kind (suc m) count)) later) (scan t calls v n (filter (unripe found) (ids_from kind m (suc count))) table)
   decided count m n p found later table g again r a np q qp = by (v (4 * m + kind)) refl
     where
       ripe-later : is_classified later (4 * m + kind) ≡ false
       ripe-later = g.ripe (4 * m + kind) ∙ r
 
       none : table.progress.fault ≡ None
-      none = sym g.holds.fault ∙ g.none
+      none = sym (kept.table later table g.holds).fault ∙ g.none
 
       becomes : (w : Verdict) → v (4 * m + kind) ≡ w → classifying h later (4 * m + kind) ≡ classified_as h later (4 * m + kind) w
       becomes w e = rw (a, ripe-later, seen m, e) refl
@@ -293,20 +310,20 @@ module _ (side : Side) (h : History) (t : TransportView) (calls : CallView) (v :
           ≡ scan t calls v (places_after w p) (filter (unripe found) (ids_from kind (suc m) count)) (classify t calls (4 * m + kind) w table)
       scanned w e = rw (np, r, none, e) refl
 
-      by : (w : Verdict) → v (4 * m + kind) ≡ w → IsTable (after_checks side h (Classify (4 * m + kind) ∷ stream_checks (ids_from kind (suc m) count)) later) (scan t calls v n (filter (unripe found) (ids_from kind m (suc count))) table)
+      by : (w : Verdict) → v (4 * m + kind) ≡ w → Keeps (after_checks side h (Classify (4 * m + kind) ∷ stream_checks (ids_from kind (suc m) count)) later) (scan t calls v n (filter (unripe found) (ids_from kind m (suc count))) table)
       by verdicts.Incomplete e = stays count m n p found later table g again (becomes verdicts.Incomplete e) qp (scanned verdicts.Incomplete e)
-      by (verdicts.WebTransport s o) e = ripens count m n p found later table (verdicts.WebTransport s o) g again r (becomes _ e) q (scanned _ e ∙ ap (λ (x : ℕ). scan t calls v x (filter (unripe found) (ids_from kind (suc m) count)) (classify t calls (4 * m + kind) (verdicts.WebTransport s o) table)) (sym np))
-      by (verdicts.Control o) e = ripens count m n p found later table (verdicts.Control o) g again r (becomes _ e) q (scanned _ e ∙ ap (λ (x : ℕ). scan t calls v x (filter (unripe found) (ids_from kind (suc m) count)) (classify t calls (4 * m + kind) (verdicts.Control o) table)) (sym np))
-      by (verdicts.Encoder o) e = ripens count m n p found later table (verdicts.Encoder o) g again r (becomes _ e) q (scanned _ e ∙ ap (λ (x : ℕ). scan t calls v x (filter (unripe found) (ids_from kind (suc m) count)) (classify t calls (4 * m + kind) (verdicts.Encoder o) table)) (sym np))
-      by (verdicts.Decoder o) e = ripens count m n p found later table (verdicts.Decoder o) g again r (becomes _ e) q (scanned _ e ∙ ap (λ (x : ℕ). scan t calls v x (filter (unripe found) (ids_from kind (suc m) count)) (classify t calls (4 * m + kind) (verdicts.Decoder o) table)) (sym np))
-      by (verdicts.Request f o) e = ripens count m n p found later table (verdicts.Request f o) g again r (becomes _ e) q (scanned _ e ∙ ap (λ (x : ℕ). scan t calls v x (filter (unripe found) (ids_from kind (suc m) count)) (classify t calls (4 * m + kind) (verdicts.Request f o) table)) (sym np))
-      by (verdicts.Refused c) e = ripens count m n p found later table (verdicts.Refused c) g again r (becomes _ e) q (scanned _ e ∙ ap (λ (x : ℕ). scan t calls v x (filter (unripe found) (ids_from kind (suc m) count)) (classify t calls (4 * m + kind) (verdicts.Refused c) table)) (sym np))
-      by verdicts.Dropped e = ripens count m n p found later table verdicts.Dropped g again r (becomes _ e) q (scanned _ e ∙ ap (λ (x : ℕ). scan t calls v x (filter (unripe found) (ids_from kind (suc m) count)) (classify t calls (4 * m + kind) verdicts.Dropped table)) (sym np))
-      by (verdicts.Fault c) e = ripens count m n p found later table (verdicts.Fault c) g again r (becomes _ e) q (scanned _ e ∙ ap (λ (x : ℕ). scan t calls v x (filter (unripe found) (ids_from kind (suc m) count)) (classify t calls (4 * m + kind) (verdicts.Fault c) table)) (sym np))
+      by (verdicts.WebTransport s o) e = ripens count m n p found later table (verdicts.WebTransport s o) g again r a (seen m ∙ e) (becomes _ e) q (scanned _ e ∙ ap (λ (x : ℕ). scan t calls v x (filter (unripe found) (ids_from kind (suc m) count)) (classify t calls (4 * m + kind) (verdicts.WebTransport s o) table)) (sym np))
+      by (verdicts.Control o) e = ripens count m n p found later table (verdicts.Control o) g again r a (seen m ∙ e) (becomes _ e) q (scanned _ e ∙ ap (λ (x : ℕ). scan t calls v x (filter (unripe found) (ids_from kind (suc m) count)) (classify t calls (4 * m + kind) (verdicts.Control o) table)) (sym np))
+      by (verdicts.Encoder o) e = ripens count m n p found later table (verdicts.Encoder o) g again r a (seen m ∙ e) (becomes _ e) q (scanned _ e ∙ ap (λ (x : ℕ). scan t calls v x (filter (unripe found) (ids_from kind (suc m) count)) (classify t calls (4 * m + kind) (verdicts.Encoder o) table)) (sym np))
+      by (verdicts.Decoder o) e = ripens count m n p found later table (verdicts.Decoder o) g again r a (seen m ∙ e) (becomes _ e) q (scanned _ e ∙ ap (λ (x : ℕ). scan t calls v x (filter (unripe found) (ids_from kind (suc m) count)) (classify t calls (4 * m + kind) (verdicts.Decoder o) table)) (sym np))
+      by (verdicts.Request f o) e = ripens count m n p found later table (verdicts.Request f o) g again r a (seen m ∙ e) (becomes _ e) q (scanned _ e ∙ ap (λ (x : ℕ). scan t calls v x (filter (unripe found) (ids_from kind (suc m) count)) (classify t calls (4 * m + kind) (verdicts.Request f o) table)) (sym np))
+      by (verdicts.Refused c) e = ripens count m n p found later table (verdicts.Refused c) g again r a (seen m ∙ e) (becomes _ e) q (scanned _ e ∙ ap (λ (x : ℕ). scan t calls v x (filter (unripe found) (ids_from kind (suc m) count)) (classify t calls (4 * m + kind) (verdicts.Refused c) table)) (sym np))
+      by verdicts.Dropped e = ripens count m n p found later table verdicts.Dropped g again r a (seen m ∙ e) (becomes _ e) q (scanned _ e ∙ ap (λ (x : ℕ). scan t calls v x (filter (unripe found) (ids_from kind (suc m) count)) (classify t calls (4 * m + kind) verdicts.Dropped table)) (sym np))
+      by (verdicts.Fault c) e = ripens count m n p found later table (verdicts.Fault c) g again r a (seen m ∙ e) (becomes _ e) q (scanned _ e ∙ ap (λ (x : ℕ). scan t calls v x (filter (unripe found) (ids_from kind (suc m) count)) (classify t calls (4 * m + kind) (verdicts.Fault c) table)) (sym np))
 
   -- after the look at whether it is taken
   after-took : (count m n : ℕ) (found later : List Finding) (table : StreamTable) → Took m found later table → Again count m → Few found → n ≡ 4 - unsettled found m
-      → IsTable (after_checks side h (Classify (4 * m + kind) ∷ stream_checks (ids_from kind (suc m) count)) later) (scan t calls v n (filter (unripe found) (ids_from kind m (suc count))) table)
+      → Keeps (after_checks side h (Classify (4 * m + kind) ∷ stream_checks (ids_from kind (suc m) count)) later) (scan t calls v n (filter (unripe found) (ids_from kind m (suc count))) table)
   after-took count m n found later table g again few q = by (is_classified found (4 * m + kind)) refl (nat_lt (unsettled found m) 4) refl
     where
       more : (b : Bool) → is_classified found (4 * m + kind) ≡ b → unsettled found (suc m) ≡ unsettled found m + one-if (not b)
@@ -318,7 +335,7 @@ module _ (side : Side) (h : History) (t : TransportView) (calls : CallView) (v :
       and-not true false e = absurd (cc e)
 
       by : (b : Bool) → is_classified found (4 * m + kind) ≡ b → (l : Bool) → nat_lt (unsettled found m) 4 ≡ l
-          → IsTable (after_checks side h (Classify (4 * m + kind) ∷ stream_checks (ids_from kind (suc m) count)) later) (scan t calls v n (filter (unripe found) (ids_from kind m (suc count))) table)
+          → Keeps (after_checks side h (Classify (4 * m + kind) ∷ stream_checks (ids_from kind (suc m) count)) later) (scan t calls v n (filter (unripe found) (ids_from kind m (suc count))) table)
       by true e l el = stays count m n n found later table g again (ripen-none later (4 * m + kind) (and-not _ _ (g.ripe (4 * m + kind) ∙ e))) (omega (arith, q, more true e)) (rw e refl)
       by false e false el =
           let z : (n ≡ 0) × (0 ≡ 4 - (unsettled found m + 1)) = no-places (unsettled found m) el n q in
@@ -339,18 +356,18 @@ module _ (side : Side) (h : History) (t : TransportView) (calls : CallView) (v :
           or-true false = refl
 
   -- looks at a kind's streams lead to the same as its scan
-  scan-from : (count m n : ℕ) (found : List Finding) (table : StreamTable) → n ≡ 4 - unsettled found m → Few found → IsTable found table
-      → IsTable (after_checks side h (stream_checks (ids_from kind m count)) found) (scan t calls v n (filter (unripe found) (ids_from kind m count)) table)
+  scan-from : (count m n : ℕ) (found : List Finding) (table : StreamTable) → n ≡ 4 - unsettled found m → Few found → Keeps found table
+      → Keeps (after_checks side h (stream_checks (ids_from kind m count)) found) (scan t calls v n (filter (unripe found) (ids_from kind m count)) table)
   scan-from zero m n found table q few holds = holds
   scan-from (suc count) m n found table q few holds = by (fault_of found) refl (λ n' f' t' q' w' h'. scan-from count (suc m) n' f' t' q' w' h')
     where
       by : (o : Option ErrorCode) → fault_of found ≡ o → Again count m
-          → IsTable (after_checks side h (stream_checks (ids_from kind m (suc count))) found) (scan t calls v n (filter (unripe found) (ids_from kind m (suc count))) table)
-      by (Some c) e again = rw (checks-faulty side h (stream_checks (ids_from kind m (suc count))) found c e, scan-faulty t calls v n (filter (unripe found) (ids_from kind m (suc count))) table c (sym holds.fault ∙ e)) holds
+          → Keeps (after_checks side h (stream_checks (ids_from kind m (suc count))) found) (scan t calls v n (filter (unripe found) (ids_from kind m (suc count))) table)
+      by (Some c) e again = rw (checks-faulty side h (stream_checks (ids_from kind m (suc count))) found c e, scan-faulty t calls v n (filter (unripe found) (ids_from kind m (suc count))) table c (sym (kept.table found table holds).fault ∙ e)) holds
       by None e again = rw (check-step side h (Dequeue (4 * m + kind)) (Classify (4 * m + kind) ∷ stream_checks (ids_from kind (suc m) count)) found (dequeuing side h found (4 * m + kind)) e refl)
           (after-took count m n found (found ++ dequeuing side h found (4 * m + kind)) table (took m found table e few holds) again few q)
 
   -- from the first stream on, with 4 places
-  pub scan-agrees : (count : ℕ) (found : List Finding) (table : StreamTable) → Few found → IsTable found table
-      → IsTable (after_checks side h (stream_checks (ids_from kind 0 count)) found) (scan t calls v 4 (filter (unripe found) (ids_from kind 0 count)) table)
-  scan-agrees count found table few holds = scan-from count 0 4 found table refl few holds
+  pub scan-keeps : (count : ℕ) (found : List Finding) (table : StreamTable) → Few found → Keeps found table
+      → Keeps (after_checks side h (stream_checks (ids_from kind 0 count)) found) (scan t calls v 4 (filter (unripe found) (ids_from kind 0 count)) table)
+  scan-keeps count found table few holds = scan-from count 0 4 found table refl few holds

@@ -34,7 +34,7 @@ begin-same h offset found f e b k s = ap part (first-append (verdict_in k) found
     part : Option Verdict → ℕ
     part v = unwrap_or (after_request v) (after_response (response_walk_of (contents h k) (end_of (events h) k)))
 
-module _ (side : Side) (h : History) (t : TransportView) (calls : CallView) (offset : ℕ → ℕ) (g : ViewsAgree side h t) (c : CallsAgree h calls) where
+module _ (t : TransportView) (calls : CallView) where
   -- a session that the peer closed
   closed-table : (found : List Finding) (table : StreamTable) (s code : ℕ) (reason : List ℕ) (by_capsule : Bool) → IsTable found table
       → IsTable (found ++ SessionClosed s code reason by_capsule ∷ []) (session_walked t calls s by_capsule (walks.Closed code reason) table)
@@ -54,6 +54,17 @@ module _ (side : Side) (h : History) (t : TransportView) (calls : CallView) (off
   walked-table found table s by_capsule (walks.Closed code reason) f holds = closed-table found table s code reason by_capsule holds
   walked-table found table s by_capsule (walks.Fault code) f holds = fault-fields found table code f holds
 
+-- what the step of a session keeps, of what was found and the table
+pub record WalkKeeps (h : History) (t : TransportView) (calls : CallView) (Keeps : List Finding → StreamTable → Type 0) : Type 0 where
+  pub table : (found : List Finding) (table : StreamTable) → Keeps found table → IsTable found table
+  pub walked : (found : List Finding) (table : StreamTable) (s : ℕ) (by_capsule : Bool) (walk : SessionWalk) → fault_of found ≡ None → lives h found s ≡ true → Keeps found table
+      → Keeps (found ++ session_found s by_capsule walk) (session_walked t calls s by_capsule walk table)
+
+-- that the table holds what was found is kept
+pub table-walked : (h : History) (t : TransportView) (calls : CallView) → WalkKeeps h t calls IsTable
+table-walked h t calls = record { table = λ found table holds. holds; walked = λ found table s by_capsule walk f l holds. walked-table t calls found table s by_capsule walk f holds }
+
+module _ (side : Side) (h : History) (t : TransportView) (calls : CallView) (offset : ℕ → ℕ) (g : ViewsAgree side h t) (c : CallsAgree h calls) (Keeps : List Finding → StreamTable → Type 0) (kept : WalkKeeps h t calls Keeps) where
   walked-begin : (found : List Finding) (s : ℕ) (by_capsule : Bool) (walk : SessionWalk) → Begin h offset found → Begin h offset (found ++ session_found s by_capsule walk)
   walked-begin found s by_capsule walks.Running b = subst (Begin h offset) (sym (append-nil found)) b
   walked-begin found s by_capsule (walks.Closed code reason) b = begin-same h offset found (SessionClosed s code reason by_capsule) (λ k s. refl) b
@@ -64,29 +75,29 @@ module _ (side : Side) (h : History) (t : TransportView) (calls : CallView) (off
   check-faulty (x ∷ xs) table code e = rw e refl
 
   abbrev Walks : List ℕ → Type 0
-  Walks ids = (found : List Finding) (table : StreamTable) → Begin h offset found → IsTable found table
-      → IsTable (after_checks side h (map WalkSession ids) found) (check_each t calls (filter_map (session_at h offset) ids) table)
+  Walks ids = (found : List Finding) (table : StreamTable) → Begin h offset found → Keeps found table
+      → Keeps (after_checks side h (map WalkSession ids) found) (check_each t calls (filter_map (session_at h offset) ids) table)
 
   -- an id of which nothing is found
   skips : (k : ℕ) (ids : List ℕ) (found : List Finding) (xs : List Session) (table : StreamTable) → fault_of found ≡ None → lives h found k ≡ false
-      → IsTable (after_checks side h (map WalkSession ids) found) (check_each t calls xs table) → IsTable (after_checks side h (map WalkSession (k ∷ ids)) found) (check_each t calls xs table)
+      → Keeps (after_checks side h (map WalkSession ids) found) (check_each t calls xs table) → Keeps (after_checks side h (map WalkSession (k ∷ ids)) found) (check_each t calls xs table)
   skips k ids found xs table f l again =
       let x : closing h found k ≡ [] = rw l refl in
       rw (check-step side h (WalkSession k) (map WalkSession ids) found [] f x, append-nil found) again
 
   -- an established session
-  established : (k : ℕ) (ids : List ℕ) (found : List Finding) (table : StreamTable) → is_established h k ≡ true → fault_of found ≡ None → Walks ids → Begin h offset found → IsTable found table → (b : Bool) → is_gone h found k ≡ b
-      → IsTable (after_checks side h (map WalkSession (k ∷ ids)) found) (check_each t calls (record { id = k; offset = offset k } ∷ filter_map (session_at h offset) ids) table)
+  established : (k : ℕ) (ids : List ℕ) (found : List Finding) (table : StreamTable) → is_established h k ≡ true → fault_of found ≡ None → Walks ids → Begin h offset found → Keeps found table → (b : Bool) → is_gone h found k ≡ b
+      → Keeps (after_checks side h (map WalkSession (k ∷ ids)) found) (check_each t calls (record { id = k; offset = offset k } ∷ filter_map (session_at h offset) ids) table)
   established k ids found table e f again b holds true q =
-      let none : table.progress.fault ≡ None = sym holds.fault ∙ f in
-      let gone : tables.is_gone calls table k ≡ true = gone-agrees h calls found table k c holds ∙ q in
+      let none : table.progress.fault ≡ None = sym (kept.table found table holds).fault ∙ f in
+      let gone : tables.is_gone calls table k ≡ true = gone-agrees h calls found table k c (kept.table found table holds) ∙ q in
       let s : check_each t calls (record { id = k; offset = offset k } ∷ filter_map (session_at h offset) ids) table ≡ check_each t calls (filter_map (session_at h offset) ids) table
             = ap (λ (o : Option ErrorCode). unless_ended o (λ u. check_each t calls (filter_map (session_at h offset) ids) (check_living t calls (record { id = k; offset = offset k }) u)) table) none
             ∙ ap (λ (o : Bool). check_each t calls (filter_map (session_at h offset) ids) (if o then table else check_session t calls k (drop (offset k) (t.contents k)) (t.end k) table)) gone in
       rw s (skips k ids found (filter_map (session_at h offset) ids) table f (rw (e, q) refl) (again found table b holds))
   established k ids found table e f again b holds false q =
-      let none : table.progress.fault ≡ None = sym holds.fault ∙ f in
-      let gone : tables.is_gone calls table k ≡ false = gone-agrees h calls found table k c holds ∙ q in
+      let none : table.progress.fault ≡ None = sym (kept.table found table holds).fault ∙ f in
+      let gone : tables.is_gone calls table k ≡ false = gone-agrees h calls found table k c (kept.table found table holds) ∙ q in
       let capsule : Bool = is_over (session_walk_of (drop (offset k) (contents h k)) ends.Running) in
       let walk : SessionWalk = session_walk_of (drop (offset k) (contents h k)) (end_of (events h) k) in
       let s : check_each t calls (record { id = k; offset = offset k } ∷ filter_map (session_at h offset) ids) table ≡ check_each t calls (filter_map (session_at h offset) ids) (session_walked t calls k capsule walk table)
@@ -97,19 +108,24 @@ module _ (side : Side) (h : History) (t : TransportView) (calls : CallView) (off
       let part : session_part h found k ≡ drop (offset k) (contents h k) = ap (λ (n : ℕ). drop n (contents h k)) (b k e) in
       let x : closing h found k ≡ session_found k capsule walk = rw (e, q, part) refl in
       rw (s, check-step side h (WalkSession k) (map WalkSession ids) found (session_found k capsule walk) f x)
-      (again (found ++ session_found k capsule walk) (session_walked t calls k capsule walk table) (walked-begin found k capsule walk b) (walked-table found table k capsule walk f holds))
+      (again (found ++ session_found k capsule walk) (session_walked t calls k capsule walk table) (walked-begin found k capsule walk b) (kept.walked found table k capsule walk f (rw (e, q) refl) holds))
 
-  pub walks-agree : (ids : List ℕ) → Walks ids
-  walks-agree [] found table b holds = holds
-  walks-agree (k ∷ ids) found table b holds = by (fault_of found) refl (is_established h k) refl (walks-agree ids)
+  pub walks-keep : (ids : List ℕ) → Walks ids
+  walks-keep [] found table b holds = holds
+  walks-keep (k ∷ ids) found table b holds = by (fault_of found) refl (is_established h k) refl (walks-keep ids)
     where
       by : (o : Option ErrorCode) → fault_of found ≡ o → (e : Bool) → is_established h k ≡ e → Walks ids
-          → IsTable (after_checks side h (map WalkSession (k ∷ ids)) found) (check_each t calls (filter_map (session_at h offset) (k ∷ ids)) table)
+          → Keeps (after_checks side h (map WalkSession (k ∷ ids)) found) (check_each t calls (filter_map (session_at h offset) (k ∷ ids)) table)
       by (Some code) f e q again =
-          rw (checks-faulty side h (map WalkSession (k ∷ ids)) found code f, check-faulty (filter_map (session_at h offset) (k ∷ ids)) table code (sym holds.fault ∙ f)) holds
+          rw (checks-faulty side h (map WalkSession (k ∷ ids)) found code f, check-faulty (filter_map (session_at h offset) (k ∷ ids)) table code (sym (kept.table found table holds).fault ∙ f)) holds
       by None f false q again =
           let m : filter_map (session_at h offset) (k ∷ ids) ≡ filter_map (session_at h offset) ids = rw q refl in
           rw m (skips k ids found (filter_map (session_at h offset) ids) table f (rw q refl) (again found table b holds))
       by None f true q again =
           let m : filter_map (session_at h offset) (k ∷ ids) ≡ record { id = k; offset = offset k } ∷ filter_map (session_at h offset) ids = rw q refl in
           rw m (established k ids found table q f again b holds (is_gone h found k) refl)
+
+-- they lead to the table that holds what was found
+pub walks-agree : (side : Side) (h : History) (t : TransportView) (calls : CallView) (offset : ℕ → ℕ) → ViewsAgree side h t → CallsAgree h calls → (ids : List ℕ) (found : List Finding) (table : StreamTable) → Begin h offset found
+    → IsTable found table → IsTable (after_checks side h (map WalkSession ids) found) (check_each t calls (filter_map (session_at h offset) ids) table)
+walks-agree side h t calls offset g c = walks-keep side h t calls offset g c IsTable (table-walked h t calls)
