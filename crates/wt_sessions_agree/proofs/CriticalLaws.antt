@@ -31,13 +31,18 @@ checks-append side h (l ∷ xs) ys found = by (fault_of found) refl (λ f. check
     by None e again = rw e (again (found ++ found_by side h found l))
 
 -- a step and its looks, where no fault was before
+pub step-keeps : (side : Side) (h : History) (Keeps : List Finding → StreamTable → Type 0) → ((found : List Finding) (table : StreamTable) → Keeps found table → IsTable found table)
+    → (ls : List Check) (step : StreamTable → StreamTable) (found : List Finding) (table : StreamTable)
+    → (fault_of found ≡ None → Keeps (after_checks side h ls found) (step table)) → Keeps found table → Keeps (after_checks side h ls found) (unless_ended table.progress.fault step table)
+step-keeps side h Keeps holds ls step found table does t = by (fault_of found) refl
+  where
+    by : (o : Option ErrorCode) → fault_of found ≡ o → Keeps (after_checks side h ls found) (unless_ended table.progress.fault step table)
+    by (Some c) e = let q : table.progress.fault ≡ Some c = sym (holds found table t).fault ∙ e in rw (checks-faulty side h ls found c e) (subst (λ (o : Option ErrorCode). Keeps found (unless_ended o step table)) (sym q) t)
+    by None e = let q : table.progress.fault ≡ None = sym (holds found table t).fault ∙ e in subst (λ (o : Option ErrorCode). Keeps (after_checks side h ls found) (unless_ended o step table)) (sym q) (does e)
+
 pub step-agrees : (side : Side) (h : History) (ls : List Check) (step : StreamTable → StreamTable) (found : List Finding) (table : StreamTable)
     → (fault_of found ≡ None → IsTable (after_checks side h ls found) (step table)) → IsTable found table → IsTable (after_checks side h ls found) (unless_ended table.progress.fault step table)
-step-agrees side h ls step found table does t = by (fault_of found) refl
-  where
-    by : (o : Option ErrorCode) → fault_of found ≡ o → IsTable (after_checks side h ls found) (unless_ended table.progress.fault step table)
-    by (Some c) e = let q : table.progress.fault ≡ Some c = sym t.fault ∙ e in rw (checks-faulty side h ls found c e) (subst (λ (o : Option ErrorCode). IsTable found (unless_ended o step table)) (sym q) t)
-    by None e = let q : table.progress.fault ≡ None = sym t.fault ∙ e in subst (λ (o : Option ErrorCode). IsTable (after_checks side h ls found) (unless_ended o step table)) (sym q) (does e)
+step-agrees side h = step-keeps side h IsTable (λ found table holds. holds)
 
 -- a fault where the test holds
 critical-table : (found : List Finding) (table : StreamTable) (b : Bool) → fault_of found ≡ None → IsTable found table → IsTable (found ++ fault_if b h3.ClosedCriticalStream) (on_progress (critical_if b) table)
@@ -152,12 +157,16 @@ control-agrees side h v found table g t f = by (first_of control_in found) (firs
         rw (looked w (ap (control_walk h) (q ∙ e)), g.contents c.0, g.end c.0) (control-table found table w f t)
 
 -- the critical streams of a moment
+-- the last steps of a moment
+abbrev pub critical_steps : TransportView → List (StreamTable → StreamTable)
+critical_steps v =
+    on_progress (critical_if (v.is_stopped (local_uni v.side)))
+    ∷ (λ (table : StreamTable). on_progress (check_control v (first_at control_start table.classified)) table)
+    ∷ (λ (table : StreamTable). on_progress (check_qpack v (first_at encoder_start table.classified)) table)
+    ∷ (λ (table : StreamTable). on_progress (check_qpack v (first_at decoder_start table.classified)) table) ∷ []
+
 pub critical-agrees : (side : Side) (h : History) (v : TransportView) (found : List Finding) (table : StreamTable) → ViewsAgree side h v → IsTable found table
-    → IsTable (after_checks side h (LocalStop ∷ ReadSettings ∷ ControlFault ∷ EncoderEnd ∷ DecoderEnd ∷ []) found)
-        (in_order (on_progress (critical_if (v.is_stopped (local_uni v.side)))
-            ∷ (λ (table : StreamTable). on_progress (check_control v (first_at control_start table.classified)) table)
-            ∷ (λ (table : StreamTable). on_progress (check_qpack v (first_at encoder_start table.classified)) table)
-            ∷ (λ (table : StreamTable). on_progress (check_qpack v (first_at decoder_start table.classified)) table) ∷ []) table)
+    → IsTable (after_checks side h (LocalStop ∷ ReadSettings ∷ ControlFault ∷ EncoderEnd ∷ DecoderEnd ∷ []) found) (in_order (critical_steps v) table)
 critical-agrees side h v found table g t =
     let a = step-agrees side h (LocalStop ∷ []) (on_progress (critical_if (v.is_stopped (local_uni v.side)))) found table (own-stop-agrees side h v found table g t) t in
     let b = step-agrees side h (ReadSettings ∷ ControlFault ∷ []) (λ (table : StreamTable). on_progress (check_control v (first_at control_start table.classified)) table) _ _ (control-agrees side h v _ _ g a) a in

@@ -40,3 +40,4 @@ pub mod DueLaws
 pub mod MembersLaws
 pub mod DueEnds
 pub mod QuietLaws
+pub mod MomentSends

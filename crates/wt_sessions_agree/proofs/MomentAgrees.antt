@@ -6,19 +6,20 @@ use Rattle.std.proofs.lemmas.List.Folds.{list_all-append}
 use Rattle.wt_meaning.specs.Findings.{Finding}
 use Rattle.wt_meaning.specs.History.{History, events, stream_count}
 use Rattle.wt_meaning.specs.Moments.{Check, ControlFault, DecoderEnd, EncoderEnd, LocalStop, ReadSettings, WalkSession, after_checks, checks, datagram_checks, ids_from, stream_checks}
-use Rattle.wt_promise.proofs.Grows.{asks_peers, peers-checked}
+use Rattle.wt_promise.proofs.Grows.{asks_peers, is_peers, peers-checked}
 use Rattle.wt_proto.specs.Bi.{bi_verdict_of}
 use Rattle.wt_proto.specs.Uni.{uni_verdict_of}
 use Rattle.wt_seam_spec.specs.Reports.{datagrams_of}
 use Rattle.wt_seam_spec.specs.Streams.{peer_bi, peer_count, peer_uni}
-use Rattle.wt_sessions.specs.Scan.{check_sessions, on_progress, scan_bis, scan_order, scan_unis, take_datagrams, with_no_actions}
+use Rattle.wt_sessions.specs.Scan.{check_sessions, in_order, on_progress, scan_bis, scan_order, scan_unis, take_datagrams, with_no_actions}
 use Rattle.wt_sessions.specs.StreamTable.{CallView, StreamTable, TransportView}
 use Rattle.wt_sessions_agree.proofs.Appends.{and-left}
-use Rattle.wt_sessions_agree.proofs.CriticalLaws.{checks-append, critical-agrees, step-agrees}
+use Rattle.wt_sessions_agree.proofs.CriticalLaws.{checks-append, critical-agrees, critical_steps, step-keeps}
 use Rattle.wt_sessions_agree.proofs.DatagramLaws.{datagrams-agree}
-use Rattle.wt_sessions_agree.proofs.KindLaws.{kind-agrees}
+use Rattle.wt_sessions_agree.proofs.KindLaws.{kind-keeps}
 use Rattle.wt_sessions_agree.proofs.OrderlyLaws.{orderly-checks}
-use Rattle.wt_sessions_agree.proofs.SessionLaws.{walks-agree}
+use Rattle.wt_sessions_agree.proofs.ScanLaws.{ScanKeeps, table-kept}
+use Rattle.wt_sessions_agree.proofs.SessionLaws.{WalkKeeps, table-walked, walks-keep}
 use Rattle.wt_sessions_agree.proofs.WindowLaws.{admits-agree}
 use Rattle.wt_sessions_agree.specs.Orderly.{Orderly}
 use Rattle.wt_sessions_agree.specs.Stands.{SeesAlike}
@@ -51,9 +52,29 @@ bi-direction : (side : Side) (m : ℕ) → is_bidirectional (4 * m + peer_bi sid
 bi-direction Client m = is-zero ((4 * m + 1) / 2 % 2) (omega arith)
 bi-direction Server m = is-zero ((4 * m + 0) / 2 % 2) (omega arith)
 
+uni-peers : (side : Side) (m : ℕ) → is_peers side (4 * m + peer_uni side) ≡ true
+uni-peers Client m = let r : (4 * m + 3) % 4 ≡ 3 = omega arith in rw r refl
+uni-peers Server m = let r : (4 * m + 2) % 4 ≡ 2 = omega arith in rw r refl
+
+bi-peers : (side : Side) (m : ℕ) → is_peers side (4 * m + peer_bi side) ≡ true
+bi-peers Client m = let r : (4 * m + 1) % 4 ≡ 1 = omega arith in rw r refl
+bi-peers Server m = let r : (4 * m + 0) % 4 ≡ 0 = omega arith in rw r refl
+
 -- ---- the whole moment
 
-module _ (side : Side) (h : History) (t : TransportView) (calls : CallView) (offset : ℕ → ℕ) (s : SeesAlike side h t calls offset) where
+abbrev pub critical_checks : List Check
+critical_checks = LocalStop ∷ ReadSettings ∷ ControlFault ∷ EncoderEnd ∷ DecoderEnd ∷ []
+
+-- what each part of a moment keeps, of what was found and the table; of datagrams and critical streams the table is known
+pub record MomentKeeps (side : Side) (h : History) (t : TransportView) (calls : CallView) (Keeps : List Finding → StreamTable → Type 0) : Type 0 where
+  pub scanned : (kind : ℕ) → ((m : ℕ) → is_peers side (4 * m + kind) ≡ true) → ScanKeeps h t calls kind Keeps
+  pub read : (found : List Finding) (table : StreamTable) → IsTable (after_checks side h (datagram_checks 0 (datagrams_of (events h))) found) (take_datagrams t calls table) → Keeps found table
+      → Keeps (after_checks side h (datagram_checks 0 (datagrams_of (events h))) found) (take_datagrams t calls table)
+  pub walked : WalkKeeps h t calls Keeps
+  pub critical : (found : List Finding) (table : StreamTable) → IsTable (after_checks side h critical_checks found) (in_order (critical_steps t) table) → Keeps found table
+      → Keeps (after_checks side h critical_checks found) (in_order (critical_steps t) table)
+
+module _ (side : Side) (h : History) (t : TransportView) (calls : CallView) (offset : ℕ → ℕ) (s : SeesAlike side h t calls offset) (Keeps : List Finding → StreamTable → Type 0) (kept : MomentKeeps side h t calls Keeps) where
   -- what holds before the moment holds at each step of it
   keeps : (cs : List Check) → list_all (asks_peers side) cs ≡ true → (found : List Finding) → Orderly side h calls offset found → Orderly side h calls offset (after_checks side h cs found)
   keeps cs p found o = orderly-checks side h calls offset cs p found o
@@ -70,12 +91,9 @@ module _ (side : Side) (h : History) (t : TransportView) (calls : CallView) (off
   abbrev sessions : List Check
   sessions = map WalkSession (ids_from 0 0 (stream_count side h 0))
 
-  abbrev critical : List Check
-  critical = LocalStop ∷ ReadSettings ∷ ControlFault ∷ EncoderEnd ∷ DecoderEnd ∷ []
-
   -- each part asks the peer's streams alone
   four : list_all (asks_peers side) (((unis ++ bis) ++ pieces) ++ sessions) ≡ true
-  four = and-left _ _ (sym (list_all-append (asks_peers side) (((unis ++ bis) ++ pieces) ++ sessions) critical) ∙ peers-checked side h)
+  four = and-left _ _ (sym (list_all-append (asks_peers side) (((unis ++ bis) ++ pieces) ++ sessions) critical_checks) ∙ peers-checked side h)
 
   three : list_all (asks_peers side) ((unis ++ bis) ++ pieces) ≡ true
   three = and-left _ _ (sym (list_all-append (asks_peers side) ((unis ++ bis) ++ pieces) sessions) ∙ four)
@@ -87,38 +105,54 @@ module _ (side : Side) (h : History) (t : TransportView) (calls : CallView) (off
   one = and-left _ _ (sym (list_all-append (asks_peers side) unis bis) ∙ two)
 
   -- the peer's unidirectional streams
-  unis-agree : (found : List Finding) (table : StreamTable) → Orderly side h calls offset found → IsTable found table → IsTable (after_checks side h unis found) (scan_unis t calls table)
-  unis-agree found table o holds =
-      rw (s.views.own, s.unis) (kind-agrees side h t calls (λ (k : ℕ). uni_verdict_of (t.contents k) (t.end k)) (peer_uni side) (peer_count side (events h) (peer_uni side)) (uni-small side) s.ready
-      (λ m. rw (uni-direction side m, s.views.contents (4 * m + peer_uni side), s.views.end (4 * m + peer_uni side)) refl) (admits-agree h t calls s.calls) found table o.none_early (o.few (peer_uni side) (uni-small side)) holds)
+  unis-keep : (found : List Finding) (table : StreamTable) → Orderly side h calls offset found → Keeps found table → Keeps (after_checks side h unis found) (scan_unis t calls table)
+  unis-keep found table o holds =
+      rw (s.views.own, s.unis) (kind-keeps side h t calls (λ (k : ℕ). uni_verdict_of (t.contents k) (t.end k)) (peer_uni side) (peer_count side (events h) (peer_uni side)) (uni-small side) s.ready
+      (λ m. rw (uni-direction side m, s.views.contents (4 * m + peer_uni side), s.views.end (4 * m + peer_uni side)) refl) (admits-agree h t calls s.calls) Keeps (kept.scanned (peer_uni side) (uni-peers side)) found table o.none_early (o.few (peer_uni side) (uni-small side)) holds)
 
   -- its bidirectional ones
-  bis-agree : (found : List Finding) (table : StreamTable) → Orderly side h calls offset found → IsTable found table → IsTable (after_checks side h bis found) (scan_bis t calls table)
-  bis-agree found table o holds =
-      rw (s.views.own, s.bis) (kind-agrees side h t calls (λ (k : ℕ). bi_verdict_of (t.contents k) (t.end k)) (peer_bi side) (peer_count side (events h) (peer_bi side)) (bi-small side) s.ready
-      (λ m. rw (bi-direction side m, s.views.contents (4 * m + peer_bi side), s.views.end (4 * m + peer_bi side)) refl) (admits-agree h t calls s.calls) found table o.none_early (o.few (peer_bi side) (bi-small side)) holds)
+  bis-keep : (found : List Finding) (table : StreamTable) → Orderly side h calls offset found → Keeps found table → Keeps (after_checks side h bis found) (scan_bis t calls table)
+  bis-keep found table o holds =
+      rw (s.views.own, s.bis) (kind-keeps side h t calls (λ (k : ℕ). bi_verdict_of (t.contents k) (t.end k)) (peer_bi side) (peer_count side (events h) (peer_bi side)) (bi-small side) s.ready
+      (λ m. rw (bi-direction side m, s.views.contents (4 * m + peer_bi side), s.views.end (4 * m + peer_bi side)) refl) (admits-agree h t calls s.calls) Keeps (kept.scanned (peer_bi side) (bi-peers side)) found table o.none_early (o.few (peer_bi side) (bi-small side)) holds)
 
   -- the established sessions
-  sessions-agree : (found : List Finding) (table : StreamTable) → Orderly side h calls offset found → IsTable found table → IsTable (after_checks side h sessions found) (check_sessions t calls table)
-  sessions-agree found table o holds = rw s.sessions (walks-agree side h t calls offset s.views s.calls (ids_from 0 0 (stream_count side h 0)) found table o.begin holds)
+  sessions-keep : (found : List Finding) (table : StreamTable) → Orderly side h calls offset found → Keeps found table → Keeps (after_checks side h sessions found) (check_sessions t calls table)
+  sessions-keep found table o holds = rw s.sessions (walks-keep side h t calls offset s.views s.calls Keeps kept.walked (ids_from 0 0 (stream_count side h 0)) found table o.begin holds)
+
+  holds : (found : List Finding) (table : StreamTable) → Keeps found table → IsTable found table
+  holds found table keep = kept.walked.table found table keep
+
+  read-keeps : (found : List Finding) (table : StreamTable) → Orderly side h calls offset found → Keeps found table → Keeps (after_checks side h pieces found) (take_datagrams t calls table)
+  read-keeps found table o keep = kept.read found table (datagrams-agree side h t calls (datagrams_of (events h)) found table s.ready s.datagrams s.calls o.received (holds found table keep)) keep
 
   -- the order of a moment, part by part
-  pub moment-agrees : (found : List Finding) (table : StreamTable) → Orderly side h calls offset found → IsTable found table → IsTable (after_checks side h (checks side h) found) (scan_order t calls table)
-  moment-agrees found table o holds =
-      let begun : IsTable found (on_progress with_no_actions table) = record { classified = holds.classified; datagrams = holds.datagrams; closed = holds.closed; looked_at = holds.looked_at; settings = holds.settings; fault = holds.fault } in
-      let a = step-agrees side h unis (scan_unis t calls) found (on_progress with_no_actions table) (λ f. unis-agree found (on_progress with_no_actions table) o begun) begun in
-      let b = step-agrees side h bis (scan_bis t calls) (after_checks side h unis found) _ (λ f. bis-agree _ _ (keeps unis one found o) a) a in
-      let c = step-agrees side h pieces (take_datagrams t calls) _ _ (λ f. datagrams-agree side h t calls (datagrams_of (events h)) _ _ s.ready s.datagrams s.calls (o2.received) b) b in
-      let d = step-agrees side h sessions (check_sessions t calls) _ _ (λ f. sessions-agree _ _ o3 c) c in
+  pub moment-keeps : (found : List Finding) (table : StreamTable) → Orderly side h calls offset found → Keeps found (on_progress with_no_actions table) → Keeps (after_checks side h (checks side h) found) (scan_order t calls table)
+  moment-keeps found table o begun =
+      let a = step-keeps side h Keeps holds unis (scan_unis t calls) found (on_progress with_no_actions table) (λ f. unis-keep found (on_progress with_no_actions table) o begun) begun in
+      let b = step-keeps side h Keeps holds bis (scan_bis t calls) (after_checks side h unis found) _ (λ f. bis-keep _ _ (keeps unis one found o) a) a in
+      let c = step-keeps side h Keeps holds pieces (take_datagrams t calls) _ _ (λ f. read-keeps _ _ o2 b) b in
+      let d = step-keeps side h Keeps holds sessions (check_sessions t calls) _ _ (λ f. sessions-keep _ _ o3 c) c in
       rw (
-        checks-append side h (((unis ++ bis) ++ pieces) ++ sessions) critical found,
+        checks-append side h (((unis ++ bis) ++ pieces) ++ sessions) critical_checks found,
         checks-append side h ((unis ++ bis) ++ pieces) sessions found,
         checks-append side h (unis ++ bis) pieces found,
         checks-append side h unis bis found,
-      ) (critical-agrees side h t _ _ s.views d)
+      ) (kept.critical _ _ (critical-agrees side h t _ _ s.views (holds _ _ d)) d)
     where
       o2 : Orderly side h calls offset (after_checks side h bis (after_checks side h unis found))
       o2 = subst (Orderly side h calls offset) (checks-append side h unis bis found) (keeps (unis ++ bis) two found o)
 
       o3 : Orderly side h calls offset (after_checks side h pieces (after_checks side h bis (after_checks side h unis found)))
       o3 = subst (Orderly side h calls offset) (checks-append side h (unis ++ bis) pieces found ∙ ap (after_checks side h pieces) (checks-append side h unis bis found)) (keeps ((unis ++ bis) ++ pieces) three found o)
+
+-- that the table holds what was found is kept
+pub moment-agrees : (side : Side) (h : History) (t : TransportView) (calls : CallView) (offset : ℕ → ℕ) → SeesAlike side h t calls offset
+    → (found : List Finding) (table : StreamTable) → Orderly side h calls offset found → IsTable found table → IsTable (after_checks side h (checks side h) found) (scan_order t calls table)
+moment-agrees side h t calls offset s found table o holds =
+    moment-keeps side h t calls offset s IsTable (record {
+      scanned = λ kind peers. table-kept h t calls kind;
+      read = λ found table later before. later;
+      walked = table-walked h t calls;
+      critical = λ found table later before. later;
+    }) found table o (record { classified = holds.classified; datagrams = holds.datagrams; closed = holds.closed; looked_at = holds.looked_at; settings = holds.settings; fault = holds.fault })

@@ -105,7 +105,7 @@ fault-fields found table c f t = record {
 }
 
 -- the table with one more classified stream holds what was found with one more ripe stream and its fault
-ripe-table : (found : List Finding) (table : StreamTable) (k : ℕ) (w : Verdict) (b : Bool) (xs : List Action) (o : Option ErrorCode) → fault_of found ≡ None → IsTable found table
+pub ripe-table : (found : List Finding) (table : StreamTable) (k : ℕ) (w : Verdict) (b : Bool) (xs : List Action) (o : Option ErrorCode) → fault_of found ≡ None → IsTable found table
     → IsTable ((found ++ finds.Classified k w b ∷ []) ++ faults_of o) (with_classified k w (record { admitted = b; actions = xs; fault = o }) table)
 ripe-table found table k w b xs None f t =
     subst (λ (l : List Finding). IsTable l (with_classified k w (record { admitted = b; actions = xs; fault = None }) table)) (sym (append-nil (found ++ finds.Classified k w b ∷ []))) (ripe-fields found table k w b xs t)

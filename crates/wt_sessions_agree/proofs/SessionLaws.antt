@@ -48,7 +48,7 @@ module _ (t : TransportView) (calls : CallView) where
   }
 
   -- what the walk over a living session's part leads to
-  walked-table : (found : List Finding) (table : StreamTable) (s : ℕ) (by_capsule : Bool) (walk : SessionWalk) → fault_of found ≡ None → IsTable found table
+  pub walked-table : (found : List Finding) (table : StreamTable) (s : ℕ) (by_capsule : Bool) (walk : SessionWalk) → fault_of found ≡ None → IsTable found table
       → IsTable (found ++ session_found s by_capsule walk) (session_walked t calls s by_capsule walk table)
   walked-table found table s by_capsule walks.Running f holds = subst (λ (l : List Finding). IsTable l table) (sym (append-nil found)) holds
   walked-table found table s by_capsule (walks.Closed code reason) f holds = closed-table found table s code reason by_capsule holds
