@@ -1,19 +1,18 @@
 -- What a moment sends beside this end's control stream: what its findings lead to is what its steps gathered, and the close for a fault.
-use Rattle.std.specs.Prelude.{[], ◌%◌, ◌&&◌, ◌*◌, ◌++◌, ◌+◌, ◌==◌, ◌||◌, ◌∷◌, ◌≡◌, Bool, Err, List, None, Ok, Option, Result, Some, drop, false, filter, if◌then◌else◌, is_some, length, map, nat_lt, not, suc, true, ℕ}
+use Rattle.std.specs.Prelude.{[], ◌&&◌, ◌*◌, ◌++◌, ◌+◌, ◌==◌, ◌||◌, ◌∷◌, ◌≡◌, Bool, Err, List, None, Ok, Option, Result, Some, drop, false, filter, if◌then◌else◌, is_some, length, map, nat_lt, not, suc, true, ℕ}
 use Rattle.std.specs.List.{list_all}
 use Rattle.std.specs.Option.{option_or}
 use Rattle.std.proofs.Common.{◌∙◌, ap, append_assoc, refl, subst, sym}
 use Rattle.std.proofs.Math.Seq.{drop-append_seam}
 use Rattle.std.proofs.lemmas.List.{append-nil}
-use Rattle.std.proofs.lemmas.List.Folds.{list_all-append}
-use Rattle.wt_meaning.specs.Findings.{Classified, DatagramRead, Dequeued, Faulted, Finding, SessionClosed, SettingsRead, control_in, decoder_in, encoder_in, fault_in, fault_of, first_of, is_classified, is_datagram, is_dequeued, settings_came}
-use Rattle.wt_meaning.specs.History.{History, events, stream_count}
-use Rattle.wt_meaning.specs.Moments.{Check, ControlFault, DecoderEnd, EncoderEnd, LocalStop, ReadDatagram, ReadSettings, WalkSession, after_checks, checks, control_walk, datagram_checks, datagram_found, end_fault, fault_if, found_by, ids_from, is_ready, keeps, session_found, stream_checks, stream_fault, verdict}
+use Rattle.wt_meaning.specs.Findings.{Classified, Dequeued, Faulted, Finding, SessionClosed, SettingsRead, control_in, decoder_in, encoder_in, fault_in, fault_of, first_of, is_classified, is_datagram, is_dequeued, settings_came}
+use Rattle.wt_meaning.specs.History.{History, events}
+use Rattle.wt_meaning.specs.Moments.{Check, ControlFault, DecoderEnd, EncoderEnd, LocalStop, ReadDatagram, ReadSettings, after_checks, checks, control_walk, datagram_checks, datagram_found, end_fault, fault_if, found_by, is_ready, keeps, session_found, stream_fault, verdict}
 use Rattle.wt_meaning.specs.Sends.{actions_for, actions_for_all, session_finish, session_gone_actions}
 use Rattle.wt_meaning.specs.Sends as sends
 use Rattle.wt_meaning.specs.Windows.{is_gone, lives}
 use Rattle.wt_message.specs.Datagram.{datagram_of}
-use Rattle.wt_promise.proofs.Grows.{AClassified, AClosed, ADequeued, AFault, Kept, Nothing, asks_peers, checks-add, checks-keep, first_of-append, is_peers, more, peers-checked}
+use Rattle.wt_promise.proofs.Grows.{AClassified, AClosed, ADequeued, AFault, Kept, asks_peers, checks-add, checks-keep, first_of-append, is_peers, more}
 use Rattle.wt_proto.specs.ControlWalk.{control_walk_of}
 use Rattle.wt_proto.specs.declared.control_walk.ControlWalk.{ControlWalk}
 use Rattle.wt_proto.specs.declared.session_walk.SessionWalk.{SessionWalk}
