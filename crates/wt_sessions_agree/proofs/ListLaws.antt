@@ -3,7 +3,7 @@ use Rattle.std.specs.Prelude.{[], ◌%◌, ◌&&◌, ◌++◌, ◌==◌, ◌∷�
 use Rattle.std.proofs.Common.{◌∙◌, ap, arith, refl, subst, sym}
 use Rattle.wt_meaning.specs.History.{History, actions_out, all_events, exists}
 use Rattle.wt_meaning.specs.Lawful.{is_lawful, is_lost}
-use Rattle.wt_meaning.specs.Meaning.{after_bytes, answer_to, bytes_actions, history_after, meaning_from, next, step}
+use Rattle.wt_meaning.specs.Meaning.{after_bytes, answer_to, bytes_actions, history_after, meaning_from, next, run_from, step}
 use Rattle.wt_meaning.specs.Rows.{answer}
 use Rattle.wt_promise.proofs.Actions.{opened-out}
 use Rattle.wt_promise.proofs.Joins.{join_all-assoc}
@@ -11,13 +11,14 @@ use Rattle.wt_promise.specs.Promise.{AllLawful}
 use Rattle.wt_seam_spec.specs.Joined.{join_all, join_one, newest_first}
 use Rattle.wt_seam_spec.specs.Reports.{end_of, is_connected, is_running}
 use Rattle.wt_seam_spec.specs.Streams.{local_uni}
-use Rattle.wt_sessions.specs.Answers.{actions_since, answers_from, log_after, receive}
+use Rattle.wt_sessions.specs.Answers.{AtUnlawful, actions_since, answers_from, log_after, receive}
 use Rattle.wt_sessions.specs.Answers as answers
 use Rattle.wt_sessions.specs.Driver.{apply_if, flush, is_moment, pending_actions}
 use Rattle.wt_sessions_agree.proofs.AnswerLaws.{newest-append}
+use Rattle.wt_sessions_agree.proofs.LawfulLaws.{lawful-agrees}
 use Rattle.wt_sessions_agree.proofs.OutLaws.{acted, since-is}
 use Rattle.wt_sessions_agree.proofs.StartLaws.{members-first, stands-first}
-use Rattle.wt_sessions_agree.specs.Agreement.{Agree, EachTurnAgrees, ListsAgree, TurnAgrees}
+use Rattle.wt_sessions_agree.specs.Agreement.{Agree, EachTurnAgrees, ListsAgree, RunAgrees, RunsAgree, TurnAgrees, is_whole}
 use Rattle.wt_turn.specs.Log.{Entry, Log, Received, actions_of, with_actions}
 use Rattle.wt_turn.specs.Log as logs
 use Rattle.wt_turn.specs.declared.action.Action.{Action}
@@ -105,14 +106,14 @@ module _ (side : Side) (each : EachTurnAgrees side) where
       }
 
   -- any turn
-  record AnyAgrees (h : History) (log : Log) (turn : Turn) : Type 0 where
-    same : answer_to side h turn ≡ answers.answer_to side log turn
-    after : Agree side (history_after side h turn) (log_after side log turn)
+  pub record AnyAgrees (h : History) (log : Log) (turn : Turn) : Type 0 where
+    pub same : answer_to side h turn ≡ answers.answer_to side log turn
+    pub after : Agree side (history_after side h turn) (log_after side log turn)
 
   plain : (h : History) (log : Log) (turn : Turn) → answer_to side h turn ≡ next side h turn → history_after side h turn ≡ step side h turn → TurnAgrees side h log turn → AnyAgrees h log turn
   plain h log turn a b t = record { same = a ∙ sym t.same; after = subst (λ (g : History). Agree side g (log_after side log turn)) (sym b) t.after }
 
-  any-agrees : (h : History) (log : Log) (turn : Turn) → Agree side h log → is_lawful side h turn ≡ true → AnyAgrees h log turn
+  pub any-agrees : (h : History) (log : Log) (turn : Turn) → Agree side h log → is_lawful side h turn ≡ true → AnyAgrees h log turn
   any-agrees h log (turns.Bytes id piece) x l =
       let p = piece-agrees piece h log id x l in
       record { same = ap (answer replies.Done) (sym p.same); after = p.after }
@@ -142,3 +143,34 @@ module _ (side : Side) (each : EachTurnAgrees side) where
 
   pub lists-agree : ListsAgree side
   lists-agree all l = list-agrees all [] [] ((λ k. 0), tt, members-first side, stands-first side (λ k. 0)) l
+
+  -- a list of any turns: the first that isn't lawful is the same
+  run-agrees : (all : List Turn) (h : History) (log : Log) → Agree side h log → RunAgrees side h log all
+  run-agrees [] h log x = record { same = refl; as_far = refl }
+  run-agrees (turn ∷ all) h log x = by (is_lawful side h turn) refl (λ g l y. run-agrees all g l y)
+    where
+      code : answers.is_lawful side log turn ≡ is_lawful side h turn
+      code = sym (lawful-agrees side x.0 h log x.3 turn)
+
+      -- the run in the code's form, where the turn is lawful and where it isn't
+      pick : Bool → answers.Run
+      pick b = elim b [
+          | true ↦ answers.with_answer (answers.answer_to side log turn) (answers.run_from side (log_after side log turn) all)
+          | false ↦ record { answers = []; stop = AtUnlawful }
+        ]
+
+      by : (b : Bool) → is_lawful side h turn ≡ b → ((g : History) (l : Log) → Agree side g l → RunAgrees side g l all) → RunAgrees side h log (turn ∷ all)
+      by false e again =
+          let f : answers.is_lawful side log turn ≡ false = code ∙ e in
+          record { same = rw e (ap (λ (b : Bool). (pick b).answers) (sym f)); as_far = rw e (ap (λ (b : Bool). is_whole (pick b).stop) (sym f)) }
+      by true e again =
+          let f : answers.is_lawful side log turn ≡ true = code ∙ e in
+          let t = any-agrees h log turn x e in
+          let later = again (history_after side h turn) (log_after side log turn) t.after in
+          record {
+            same = rw e (ap (λ (a : Answer). a ∷ (run_from side (history_after side h turn) all).answers) t.same ∙ ap (λ (as_ : List Answer). answers.answer_to side log turn ∷ as_) later.same ∙ ap (λ (b : Bool). (pick b).answers) (sym f));
+            as_far = rw e (later.as_far ∙ ap (λ (b : Bool). is_whole (pick b).stop) (sym f));
+          }
+
+  pub runs-agree : RunsAgree side
+  runs-agree all = run-agrees all [] [] ((λ k. 0), tt, members-first side, stands-first side (λ k. 0))

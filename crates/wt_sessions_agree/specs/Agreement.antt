@@ -2,10 +2,10 @@
 use Rattle.std.specs.Prelude.{[], ◌∷◌, ◌≡◌, Bool, List, false, true, ℕ}
 use Rattle.wt_meaning.specs.History.{History}
 use Rattle.wt_meaning.specs.Lawful.{is_lawful}
-use Rattle.wt_meaning.specs.Meaning.{meaning, next, step}
+use Rattle.wt_meaning.specs.Meaning.{meaning, next, run_from, step}
 use Rattle.wt_meaning.specs.Moments.{findings}
 use Rattle.wt_promise.specs.Promise.{AllLawful, IsHistory}
-use Rattle.wt_sessions.specs.Answers.{answers_to, log_after}
+use Rattle.wt_sessions.specs.Answers.{AtUnlawful, Finished, RunEnd, answers_to, log_after}
 use Rattle.wt_sessions.specs.Answers as answers
 use Rattle.wt_sessions.specs.Driver.{call_view}
 use Rattle.wt_sessions_agree.specs.Members.{MembersIn}
@@ -37,3 +37,17 @@ EachTurnAgrees side = (h : History) (log : Log) (turn : Turn) → Agree side h l
 -- what a lawful list means is what the definitions for code answer
 abbrev pub ListsAgree : Side → Type 0
 ListsAgree side = (all : List Turn) → AllLawful side [] all → meaning side all ≡ answers_to side all
+
+-- the run took all of its turns
+abbrev pub is_whole : RunEnd → Bool
+is_whole Finished = true
+is_whole AtUnlawful = false
+
+-- a list of any turns runs as far in both, with the same answers
+pub record RunAgrees (side : Side) (h : History) (log : Log) (all : List Turn) : Type 0 where
+  pub same : (run_from side h all).answers ≡ (answers.run_from side log all).answers
+  pub as_far : (run_from side h all).is_all ≡ is_whole (answers.run_from side log all).stop
+
+-- from the start
+abbrev pub RunsAgree : Side → Type 0
+RunsAgree side = (all : List Turn) → RunAgrees side [] [] all
