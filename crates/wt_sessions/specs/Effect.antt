@@ -45,7 +45,7 @@ abbrev pub loss_or_local : Option LossReason → ConnectionError
 loss_or_local None = errors.LocallyClosed
 loss_or_local (Some reason) = error_of_loss reason
 
--- the end as the transport tells it: its loss, or a local close
+-- the end as the transport reports it: its loss, or a local close
 abbrev pub transport_error : Log → ConnectionError
 transport_error log = loss_or_local (loss_of (events_of log))
 
@@ -54,7 +54,7 @@ abbrev pub error_of_fault : Log → Option ErrorCode → ConnectionError
 error_of_fault log None = transport_error log
 error_of_fault log (Some code) = errors.LocalH3Error code
 
--- the end as the driver tells it
+-- the end as the driver reports it
 abbrev pub driver_error : Side → Log → ConnectionError
 driver_error side log = error_of_fault log (stream_table side log).progress.fault
 

@@ -52,13 +52,13 @@ write_error log k =
     (if is_finished (actions_of log) k || is_reset log k then Some writes.Closed else
     elim (stop_of (events_of log) k) [ Some code ↦ Some (writes.Stopped code) | None ↦ None ])
 
--- what a write of these bytes answers, of which so many went out
+-- what a write of these bytes answers, of which n went out
 abbrev pub written_reply : List ℕ → ℕ → Reply
 written_reply [] n = replies.Written 0
 written_reply (b ∷ bytes) zero = replies.Pending
 written_reply (b ∷ bytes) (suc n) = replies.Written (suc n)
 
--- what a write of all these bytes answers, of which so many went out
+-- what a write of all these bytes answers, of which n went out
 abbrev pub all_written_reply : List ℕ → ℕ → Reply
 all_written_reply bytes n = if n == length bytes then replies.AllWritten else replies.Count n
 
@@ -153,7 +153,7 @@ abbrev pub read_reply : Side → Log → ℕ → ℕ → List ℕ → Effect
 read_reply side log k size [] = poll_only side log (reply_at_end log (end_of (events_of log) k))
 read_reply side log k size (b ∷ bytes) = take_bytes side log k (take size (b ∷ bytes)) (replies.Read (Some (take size (b ∷ bytes))))
 
--- at most so many of the unread bytes
+-- at most `size` of the unread bytes
 abbrev pub read : Side → Log → ℕ → ℕ → Effect
 read side log k size =
     if size == 0 then poll_only side log (replies.Read (Some [])) else read_reply side log k size (unread_body side log k)
@@ -165,7 +165,7 @@ exact_at_end side log k bytes ends.Running =
 exact_at_end side log k bytes ends.Fin = take_bytes side log k bytes (replies.ExactFailed (exacts.FinishedEarly (length bytes)) bytes)
 exact_at_end side log k bytes (ends.Reset code) = poll_only side log (replies.ExactFailed (exacts.Read (reads.Reset code)) [])
 
--- exactly so many of the unread bytes
+-- exactly `size` of the unread bytes
 abbrev pub read_exact : Side → Log → ℕ → ℕ → Effect
 read_exact side log k size =
     if nat_lt (length (unread_body side log k)) size then exact_at_end side log k (unread_body side log k) (end_of (events_of log) k)

@@ -55,7 +55,7 @@ with_classified k v e t = record t {
   progress = with_consequence e t.progress;
 }
 
--- a stream is classified once its header tells what it is
+-- a stream is classified once its header shows what it is
 abbrev pub classify : TransportView → CallView → ℕ → Verdict → StreamTable → StreamTable
 classify t calls k verdicts.Incomplete table = table
 classify t calls k v table = with_classified k v (consequence t (dispatched_streams calls table) k v) table
@@ -65,7 +65,7 @@ abbrev pub places_after : Verdict → ℕ → ℕ
 places_after verdicts.Incomplete n = n
 places_after _ n = suc n
 
--- the streams of these ids, one after another, until so many stay without a verdict
+-- the streams of these ids, one after another, until n stay without a verdict
 abbrev pub scan : TransportView → CallView → (ℕ → Verdict) → ℕ → List ℕ → StreamTable → StreamTable
 scan t calls verdict n [] table = table
 scan t calls verdict zero (k ∷ ks) table = table

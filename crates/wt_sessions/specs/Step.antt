@@ -87,12 +87,12 @@ abbrev pub unless_faulty : Option ErrorCode → (DriverState → Scanned) → Li
 unless_faulty None f ks s = f s
 unless_faulty (Some code) f ks s = record { left = ks; state = s }
 
--- a stream is classified once its header tells what it is
+-- a stream is classified once its header shows what it is
 abbrev pub classify_now : TransportView → ℕ → Verdict → DriverState → DriverState
 classify_now t k verdicts.Incomplete s = s
 classify_now t k v s = classified_now k v (consequence t s.dispatched k v) s
 
--- the streams without a verdict, one after another, until so many stay so
+-- the streams without a verdict, one after another, until n stay so
 abbrev pub scan_ids : TransportView → (ℕ → Verdict) → ℕ → List ℕ → DriverState → Scanned
 scan_ids t verdict n [] s = record { left = []; state = s }
 scan_ids t verdict zero (k ∷ ks) s = record { left = k ∷ ks; state = s }

@@ -14,7 +14,7 @@ use Rattle.wt_wire.specs.declared.side.Side.{Side}
 
 -- ---- streams
 
--- so many of the first i streams of the kind have no verdict
+-- how many of the first i streams of the kind have no verdict
 abbrev pub unclassified : List Finding → ℕ → ℕ → ℕ
 unclassified found kind i = length (filter (λ (j : ℕ). not (is_classified found j)) (ids_from kind 0 i))
 

@@ -1,4 +1,4 @@
--- What a pair's call leaves in the log, by its reply and what the history tells.
+-- What a pair's call leaves in the log, by its reply and what the history says.
 use Rattle.std.specs.Prelude.{◌∷◌, Err, List, None, Ok, Option, Result, Some, codes, drop, false, filter, filter_map, if◌then◌else◌, length, true, unwrap_or, ℕ}
 use Rattle.url.specs.Parser.{parse_url}
 use Rattle.wt_meaning.specs.Calls.{being_opened}
