@@ -41,3 +41,5 @@ pub mod MembersLaws
 pub mod DueEnds
 pub mod QuietLaws
 pub mod MomentSends
+pub mod ChecksThere
+pub mod MembersKept
