@@ -43,3 +43,4 @@ pub mod QuietLaws
 pub mod MomentSends
 pub mod ChecksThere
 pub mod MembersKept
+pub mod RestKinds
