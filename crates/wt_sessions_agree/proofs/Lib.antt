@@ -44,3 +44,4 @@ pub mod MomentSends
 pub mod ChecksThere
 pub mod MembersKept
 pub mod RestKinds
+pub mod RestLaws

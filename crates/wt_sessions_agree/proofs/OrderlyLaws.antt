@@ -80,9 +80,9 @@ received-kept side h calls found _ (AFault code) f r = received-same h calls fou
 -- ---- sessions
 
 -- where each session's part begins, and that its stream is known
-record Parts (side : Side) (h : History) (offset : ℕ → ℕ) (found : List Finding) : Type 0 where
-  begin : Begin h offset found
-  known : Known side h found
+pub record Parts (side : Side) (h : History) (offset : ℕ → ℕ) (found : List Finding) : Type 0 where
+  pub begin : Begin h offset found
+  pub known : Known side h found
 
 -- what is known stays known
 known-more : (side : Side) (h : History) (found : List Finding) (f : Finding) → Known side h found → Known side h (found ++ f ∷ [])
@@ -96,7 +96,7 @@ known-more side h found f kn k e = by (is_of_peer side k) (is_classified found k
 parts-same : (side : Side) (h : History) (offset : ℕ → ℕ) (found : List Finding) (f : Finding) → ((k : ℕ) → is_established h k ≡ true → verdict_in k f ≡ None) → Parts side h offset found → Parts side h offset (found ++ f ∷ [])
 parts-same side h offset found f e p = record { begin = begin-same h offset found f e p.begin; known = known-more side h found f p.known }
 
-parts-kept : (side : Side) (h : History) (offset : ℕ → ℕ) → Kept side h (Parts side h offset)
+pub parts-kept : (side : Side) (h : History) (offset : ℕ → ℕ) → Kept side h (Parts side h offset)
 parts-kept side h offset found _ Nothing f r = subst (Parts side h offset) (sym (append-nil found)) r
 parts-kept side h offset found _ (ADequeued k p) f r = parts-same side h offset found (Dequeued k) (λ j s. refl) r
 parts-kept side h offset found _ (AClassified k v more p d c e m) f r =

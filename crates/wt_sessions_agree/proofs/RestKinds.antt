@@ -192,7 +192,7 @@ more-not : (r : Bool) (a b : ℕ) → a ≤ b → (r && nat_lt a 4) ≡ false �
 more-not true a b l e = lt-less a b l e
 more-not false a b l e = refl
 
-under : (n i : ℕ) → n < suc i → (n == i) ≡ false → n < i
+pub under : (n i : ℕ) → n < suc i → (n == i) ≡ false → n < i
 under n i l q = grind (arith, l, q)
 
 -- one more stream

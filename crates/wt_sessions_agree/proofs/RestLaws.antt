@@ -1,0 +1,183 @@
+-- After a moment that found no fault everything is at rest: the same checks find nothing more.
+use Rattle.std.specs.Prelude.{[], ◌&&◌, ◌*◌, ◌++◌, ◌+◌, ◌<◌, ◌==◌, ◌∷◌, ◌||◌, ◌≡◌, ◌≤◌, Bool, Err, List, None, Ok, Option, Result, Some, drop, false, filter, if◌then◌else◌, is_some, length, map, not, suc, true, unwrap_or, zero, ℕ}
+use Rattle.std.specs.List.{list_all}
+use Rattle.std.proofs.Common.{◌∙◌, ap, arith, refl, subst, sym}
+use Rattle.std.proofs.lemmas.Bool.{eq-eqb, eqb-true}
+use Rattle.std.proofs.lemmas.List.{append-nil, length-append}
+use Rattle.std.proofs.lemmas.List.Elements.{filter-append}
+use Rattle.std.proofs.lemmas.List.Folds.{list_all-append}
+use Rattle.wt_message.specs.Datagram.{datagram_of}
+use Rattle.wt_meaning.specs.Findings.{DatagramRead, Finding, SessionClosed, SettingsRead, control_in, fault_of, first_of, is_datagram, reads_settings, settings_came, verdict_of}
+use Rattle.wt_meaning.specs.History.{History, contents, events, stream_count}
+use Rattle.wt_meaning.specs.Moments.{Check, ControlFault, DecoderEnd, EncoderEnd, LocalStop, ReadDatagram, ReadSettings, WalkSession, after_checks, checks, closing, control_walk, datagram_checks, datagram_found, found_by, ids_from, is_ready, reading, session_found, stream_checks}
+use Rattle.wt_meaning.specs.SessionWalk.{is_over, session_walk_of}
+use Rattle.wt_meaning.specs.Windows.{after_request, after_response, is_established, is_gone, is_gone_by_call, lives, makes_gone, session_part}
+use Rattle.wt_promise.proofs.Grows.{adds, asks_peers, checks-add, checks-keep, more, peers-checked}
+use Rattle.wt_promise.proofs.MomentActs.{lives-before}
+use Rattle.wt_proto.specs.ResponseWalk.{response_walk_of}
+use Rattle.wt_proto.specs.declared.session_walk.SessionWalk.{SessionWalk}
+use Rattle.wt_seam_spec.specs.Reports.{datagrams_of, end_of}
+use Rattle.wt_seam_spec.specs.Streams.{peer_bi, peer_count, peer_uni}
+use Rattle.wt_sessions_agree.proofs.Appends.{and-left, and-right, any-append}
+use Rattle.wt_sessions_agree.proofs.CriticalLaws.{checks-append}
+use Rattle.wt_sessions_agree.proofs.OrderlyLaws.{Parts, parts-kept}
+use Rattle.wt_sessions_agree.proofs.RestKinds.{Finds, KeptOn, NoFault, Nothing, Still, StillTo, fault-behind, fault-first, kind-kept, kind-still, pass-finds, pass-keeps, pass-step, still-finds, under}
+use Rattle.wt_sessions_agree.specs.Orderly.{Known}
+use Rattle.wt_wire.specs.declared.error.ErrorCode.{ErrorCode}
+use Rattle.wt_wire.specs.declared.side.Side.{Side}
+use Rattle.wt_wire.specs.declared.side.Side.TheVariants.{Client, Server}
+use Rattle.wt_proto.specs.declared.session_walk.SessionWalk.TheVariants as walks
+use Rattle.wt_wire.specs.declared.side.StreamEnd.TheVariants as ends
+
+-- ---- checks that find nothing
+
+pub data Quiet (side : Side) (h : History) (found : List Finding) : List Check → Type 0 where
+  Empty : Quiet side h found []
+  And : (c : Check) (cs : List Check) → found_by side h found c ≡ [] → Quiet side h found cs → Quiet side h found (c ∷ cs)
+
+pub quiet-append : (side : Side) (h : History) (found : List Finding) (cs ds : List Check) → Quiet side h found cs → Quiet side h found ds → Quiet side h found (cs ++ ds)
+quiet-append side h found _ ds Empty r = r
+quiet-append side h found _ ds (And c cs e q) r = And c (cs ++ ds) e (quiet-append side h found cs ds q r)
+
+pub quiet-more : (side : Side) (h : History) (found : List Finding) (cs : List Check) → Quiet side h found cs → more side h cs found ≡ []
+quiet-more side h found _ Empty = refl
+quiet-more side h found _ (And c cs e q) = by (is_some (fault_of found)) (quiet-more side h found cs q)
+  where
+    by : (b : Bool) → more side h cs found ≡ [] → (if b then [] else found_by side h found c ++ more side h cs (found ++ found_by side h found c)) ≡ []
+    by true again = refl
+    by false again = rw (e, append-nil found) again
+
+more-faulty : (side : Side) (h : History) (cs : List Check) (found : List Finding) (code : ErrorCode) → fault_of found ≡ Some code → more side h cs found ≡ []
+more-faulty side h [] found code e = refl
+more-faulty side h (c ∷ cs) found code e = rw e refl
+
+-- ---- datagrams
+
+-- the first n datagrams were read
+abbrev pub AllRead : Side → History → ℕ → List Finding → Type 0
+AllRead side h n found = is_ready side h ≡ true → n ≤ length (filter is_datagram found)
+
+counted : (found new : List Finding) → length (filter is_datagram (found ++ new)) ≡ length (filter is_datagram found) + length (filter is_datagram new)
+counted found new = ap length (filter-append is_datagram found new) ∙ length-append (filter is_datagram found) (filter is_datagram new)
+
+read-kept : (side : Side) (h : History) (n : ℕ) → KeptOn side h (AllRead side h n)
+read-kept side h n c found new f r = λ e. let a = r e in let b = counted found new in omega (arith, a, b)
+
+read-one : (side : Side) (h : History) (n : ℕ) (piece : List ℕ) (found : List Finding) → NoFault (found ++ reading side h found n piece) → is_ready side h ≡ true → n ≤ length (filter is_datagram found)
+    → suc n ≤ length (filter is_datagram (found ++ reading side h found n piece))
+read-one side h n piece found e ready l = by (length (filter is_datagram found) == n) refl
+  where
+    parsed : (d : Result (ℕ × List ℕ) ErrorCode) → NoFault (datagram_found h found n d ∷ []) → length (filter is_datagram (datagram_found h found n d ∷ [])) ≡ 1
+    parsed (Err code) q = absurd (cc q)
+    parsed (Ok d) q = refl
+
+    by : (b : Bool) → (length (filter is_datagram found) == n) ≡ b → suc n ≤ length (filter is_datagram (found ++ reading side h found n piece))
+    by true q =
+        let r : reading side h found n piece ≡ datagram_found h found n (datagram_of piece) ∷ [] = rw (ready, q) refl in
+        let one = parsed (datagram_of piece) (sym (ap fault_of r) ∙ fault-behind found (reading side h found n piece) e) in
+        let m = counted found (reading side h found n piece) ∙ ap (λ (xs : List Finding). length (filter is_datagram found) + length (filter is_datagram xs)) r in
+        omega (arith, l, m, one)
+    by false q = let m = counted found (reading side h found n piece) in let u = past n (length (filter is_datagram found)) l q in omega (arith, u, m)
+      where
+        past : (a b : ℕ) → a ≤ b → (b == a) ≡ false → a < b
+        past a b l q = grind (arith, l, q)
+
+datagrams-read : (side : Side) (h : History) (pieces : List (List ℕ)) (n m : ℕ) (found : List Finding) → m ≡ n + length pieces → NoFault (after_checks side h (datagram_checks n pieces) found) → AllRead side h n found
+    → AllRead side h m (after_checks side h (datagram_checks n pieces) found)
+datagrams-read side h [] n m found q e r = λ ready. let l = r ready in omega (arith, q, l)
+datagrams-read side h (piece ∷ pieces) n m found q e r =
+    let s = pass-step side h (ReadDatagram n piece) (datagram_checks (suc n) pieces) found e in
+    let calm = sym (ap fault_of s) ∙ e in
+    subst (AllRead side h m) (sym s) (datagrams-read side h pieces (suc n) m (found ++ reading side h found n piece) (omega (arith, q)) calm
+    (λ ready. read-one side h n piece found (fault-first side h (datagram_checks (suc n) pieces) (found ++ reading side h found n piece) calm) ready (r ready)))
+
+datagrams-quiet : (side : Side) (h : History) (found : List Finding) (pieces : List (List ℕ)) (n m : ℕ) → m ≡ n + length pieces → AllRead side h m found → Quiet side h found (datagram_checks n pieces)
+datagrams-quiet side h found [] n m q r = Empty
+datagrams-quiet side h found (piece ∷ pieces) n m q r =
+    And (ReadDatagram n piece) (datagram_checks (suc n) pieces) (by (is_ready side h) refl) (datagrams-quiet side h found pieces (suc n) m (omega (arith, q)) r)
+  where
+    other : (a b c : ℕ) → b ≡ a + suc c → (d : ℕ) → b ≤ d → (d == a) ≡ false
+    other a b c e d l = grind (arith, e, l)
+
+    by : (b : Bool) → is_ready side h ≡ b → reading side h found n piece ≡ []
+    by false e = rw e refl
+    by true e = let o : (length (filter is_datagram found) == n) ≡ false = other n m (length pieces) q (length (filter is_datagram found)) (r e) in rw (e, o) refl
+
+-- ---- sessions
+
+module _ (side : Side) (h : History) (offset : ℕ → ℕ) where
+  -- the walk over a session's part, where it begins there
+  abbrev walk : ℕ → SessionWalk
+  walk s = session_walk_of (drop (offset s) (contents h s)) (end_of (events h) s)
+
+  -- of the first n possible sessions those that live run on
+  abbrev WalkedTo : ℕ → List Finding → Type 0
+  WalkedTo n found = (i : ℕ) → i < n → lives h found (4 * i + 0) ≡ true → walk (4 * i + 0) ≡ walks.Running
+
+  walked-kept : (n : ℕ) → KeptOn side h (WalkedTo n)
+  walked-kept n c found new f w = λ i l e. w i l (lives-before h found new (4 * i + 0) e)
+
+  -- a session that is closed lives no more
+  closed-dies : (found : List Finding) (s code : ℕ) (reason : List ℕ) (b : Bool) → lives h (found ++ SessionClosed s code reason b ∷ []) s ≡ false
+  closed-dies found s code reason b =
+      ap (λ (x : Bool). is_established h s && not (is_gone_by_call h s || x)) (any-append (makes_gone s) found (SessionClosed s code reason b) ∙ ap (λ (x : Bool). list_any_ || x) (eq-eqb s s refl))
+      ∙ by (is_established h s) (is_gone_by_call h s) list_any_
+    where
+      list_any_ : Bool
+      list_any_ = Rattle.std.specs.List.list_any (makes_gone s) found
+
+      by : (x y z : Bool) → (x && not (y || (z || true))) ≡ false
+      by false y z = refl
+      by true true z = refl
+      by true false true = refl
+      by true false false = refl
+
+  part-is : (found : List Finding) (s : ℕ) → Parts side h offset found → lives h found s ≡ true → session_part h found s ≡ drop (offset s) (contents h s)
+  part-is found s p l = p.begin s (and-left (is_established h s) (not (is_gone h found s)) l)
+
+  walk-one : (found : List Finding) (s : ℕ) → Parts side h offset found → NoFault (found ++ closing h found s) → lives h (found ++ closing h found s) s ≡ true → walk s ≡ walks.Running
+  walk-one found s p e l = by (walk s) refl (fault-behind found (closing h found s) e)
+    where
+      before : lives h found s ≡ true
+      before = lives-before h found (closing h found s) s l
+
+      capsule : Bool
+      capsule = is_over (session_walk_of (drop (offset s) (contents h s)) ends.Running)
+
+      finds : closing h found s ≡ session_found s capsule (walk s)
+      finds = rw (before, part-is found s p before) refl
+
+      by : (w : SessionWalk) → walk s ≡ w → NoFault (closing h found s) → w ≡ walks.Running
+      by walks.Running q n = refl
+      by (walks.Closed code reason) q n =
+          let c : closing h found s ≡ SessionClosed s code reason capsule ∷ [] = finds ∙ ap (session_found s capsule) q in
+          absurd (let d = sym (ap (λ (xs : List Finding). lives h (found ++ xs) s) c ∙ closed-dies found s code reason capsule) ∙ l in cc d)
+      by (walks.Fault code) q n = absurd (let c = sym (ap (λ (w : SessionWalk). fault_of (session_found s capsule w)) q) ∙ sym (ap fault_of finds) ∙ n in cc c)
+
+  sessions-walked : (count i n : ℕ) (found : List Finding) → n ≡ i + count → NoFault (after_checks side h (map WalkSession (ids_from 0 i count)) found) → Parts side h offset found → WalkedTo i found
+      → WalkedTo n (after_checks side h (map WalkSession (ids_from 0 i count)) found)
+  sessions-walked zero i n found q e p w = λ j l. w j (omega (arith, q, l))
+  sessions-walked (suc count) i n found q e p w =
+      let s = pass-step side h (WalkSession (4 * i + 0)) (map WalkSession (ids_from 0 (suc i) count)) found e in
+      let calm = sym (ap fault_of s) ∙ e in
+      subst (WalkedTo n) (sym s) (sessions-walked count (suc i) n (found ++ closing h found (4 * i + 0)) (omega (arith, q)) calm
+      (parts-kept side h offset found (closing h found (4 * i + 0)) (adds side h found (WalkSession (4 * i + 0)) refl) (fault-first side h (WalkSession (4 * i + 0) ∷ map WalkSession (ids_from 0 (suc i) count)) found e) p)
+      (all calm))
+    where
+      all : NoFault (after_checks side h (map WalkSession (ids_from 0 (suc i) count)) (found ++ closing h found (4 * i + 0))) → WalkedTo (suc i) (found ++ closing h found (4 * i + 0))
+      all calm j l = by (j == i) refl
+        where
+          by : (b : Bool) → (j == i) ≡ b → lives h (found ++ closing h found (4 * i + 0)) (4 * j + 0) ≡ true → walk (4 * j + 0) ≡ walks.Running
+          by true x m =
+              let same : j ≡ i = eqb-true j i x in
+              ap (λ (n : ℕ). walk (4 * n + 0)) same
+              ∙ walk-one found (4 * i + 0) p (fault-first side h (map WalkSession (ids_from 0 (suc i) count)) (found ++ closing h found (4 * i + 0)) calm) (sym (ap (λ (n : ℕ). lives h (found ++ closing h found (4 * i + 0)) (4 * n + 0)) same) ∙ m)
+          by false x m = w j (under j i l x) (lives-before h found (closing h found (4 * i + 0)) (4 * j + 0) m)
+
+-- a living session that runs on is passed
+walk-quiet : (h : History) (found : List Finding) (s : ℕ) → (lives h found s ≡ true → session_walk_of (session_part h found s) (end_of (events h) s) ≡ walks.Running) → closing h found s ≡ []
+walk-quiet h found s r = by (lives h found s) refl
+  where
+    by : (b : Bool) → lives h found s ≡ b → closing h found s ≡ []
+    by false e = rw e refl
+    by true e = rw (e, r e) refl
