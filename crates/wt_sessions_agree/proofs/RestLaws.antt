@@ -21,7 +21,7 @@ use Rattle.wt_seam_spec.specs.Streams.{peer_bi, peer_count, peer_uni}
 use Rattle.wt_sessions_agree.proofs.Appends.{and-left, and-right, any-append}
 use Rattle.wt_sessions_agree.proofs.CriticalLaws.{checks-append}
 use Rattle.wt_sessions_agree.proofs.OrderlyLaws.{Parts, parts-kept}
-use Rattle.wt_sessions_agree.proofs.RestKinds.{Finds, KeptOn, NoFault, Nothing, Still, StillTo, fault-behind, fault-first, kind-kept, kind-still, pass-finds, pass-keeps, pass-step, still-finds, under}
+use Rattle.wt_sessions_agree.proofs.RestKinds.{Classifies, Closes, Dequeues, Finds, KeptOn, NoFault, Nothing, Reads, Settles, Still, StillTo, fault-behind, fault-first, kind-kept, kind-still, pass-finds, pass-keeps, pass-step, still-finds, under}
 use Rattle.wt_sessions_agree.specs.Orderly.{Known}
 use Rattle.wt_wire.specs.declared.error.ErrorCode.{ErrorCode}
 use Rattle.wt_wire.specs.declared.side.Side.{Side}
@@ -181,3 +181,224 @@ walk-quiet h found s r = by (lives h found s) refl
     by : (b : Bool) → lives h found s ≡ b → closing h found s ≡ []
     by false e = rw e refl
     by true e = rw (e, r e) refl
+
+-- ---- critical streams
+
+-- the checks of critical streams
+abbrev pub critical : List Check
+critical = LocalStop ∷ ReadSettings ∷ ControlFault ∷ EncoderEnd ∷ DecoderEnd ∷ []
+
+-- the check finds a fault or nothing
+abbrev is-fault : Check → Bool
+is-fault LocalStop = true
+is-fault ControlFault = true
+is-fault EncoderEnd = true
+is-fault DecoderEnd = true
+is-fault _ = false
+
+nothing : (side : Side) (h : History) (found : List Finding) (c : Check) (new : List Finding) → is-fault c ≡ true → Finds side h found c new → new ≡ []
+nothing side h found c _ e (Nothing _) = refl
+nothing side h found _ _ e (Dequeues k q) = absurd (cc e)
+nothing side h found _ _ e (Classifies k v b n) = absurd (cc e)
+nothing side h found _ _ e (Reads n s piece payload b q) = absurd (cc e)
+nothing side h found _ _ e (Closes s code reason b) = absurd (cc e)
+nothing side h found _ _ e Settles = absurd (cc e)
+
+-- so it is passed
+passed : (side : Side) (h : History) (c : Check) (cs : List Check) (found : List Finding) → is-fault c ≡ true → NoFault (after_checks side h (c ∷ cs) found) → (found_by side h found c ≡ []) × (after_checks side h (c ∷ cs) found ≡ after_checks side h cs found)
+passed side h c cs found f e =
+    let n = nothing side h found c (found_by side h found c) f (pass-finds side h c cs found e) in
+    (n, pass-step side h c cs found e ∙ ap (after_checks side h cs) (ap (λ (xs : List Finding). found ++ xs) n ∙ append-nil found))
+
+-- the peer's SETTINGS are read once
+settings-once : (side : Side) (h : History) (found : List Finding) → found_by side h (found ++ found_by side h found ReadSettings) ReadSettings ≡ []
+settings-once side h found = by (not (settings_came found) && is_some (control_walk h (first_of control_in found)).settings) refl
+  where
+    again : List Finding → List Finding
+    again l = found_by side h l ReadSettings
+
+    or-true : (b : Bool) → (b || true) ≡ true
+    or-true true = refl
+    or-true false = refl
+
+    by : (b : Bool) → (not (settings_came found) && is_some (control_walk h (first_of control_in found)).settings) ≡ b → again (found ++ found_by side h found ReadSettings) ≡ []
+    by true e =
+        let q : found_by side h found ReadSettings ≡ SettingsRead ∷ [] = rw e refl in
+        let c : settings_came (found ++ SettingsRead ∷ []) ≡ true = any-append reads_settings found SettingsRead ∙ or-true (settings_came found) in
+        let r : again (found ++ SettingsRead ∷ []) ≡ [] = rw c refl in
+        ap (λ (xs : List Finding). again (found ++ xs)) q ∙ r
+    by false e =
+        let q : found_by side h found ReadSettings ≡ [] = rw e refl in
+        ap (λ (xs : List Finding). again (found ++ xs)) q ∙ ap again (append-nil found) ∙ q
+
+critical-quiet : (side : Side) (h : History) (found : List Finding) → NoFault (after_checks side h critical found) → Quiet side h (after_checks side h critical found) critical
+critical-quiet side h found e =
+    subst (λ (l : List Finding). Quiet side h l critical) (sym (a.1 ∙ b ∙ c.1 ∙ d.1 ∙ f.1))
+    (And LocalStop _ a.0 (And ReadSettings _ (settings-once side h found) (And ControlFault _ c.0 (And EncoderEnd _ d.0 (And DecoderEnd _ f.0 Empty)))))
+  where
+    read : List Finding
+    read = found ++ found_by side h found ReadSettings
+
+    a : (found_by side h found LocalStop ≡ []) × (after_checks side h critical found ≡ after_checks side h (ReadSettings ∷ ControlFault ∷ EncoderEnd ∷ DecoderEnd ∷ []) found)
+    a = passed side h LocalStop (ReadSettings ∷ ControlFault ∷ EncoderEnd ∷ DecoderEnd ∷ []) found refl e
+
+    b : after_checks side h (ReadSettings ∷ ControlFault ∷ EncoderEnd ∷ DecoderEnd ∷ []) found ≡ after_checks side h (ControlFault ∷ EncoderEnd ∷ DecoderEnd ∷ []) read
+    b = pass-step side h ReadSettings (ControlFault ∷ EncoderEnd ∷ DecoderEnd ∷ []) found (sym (ap fault_of a.1) ∙ e)
+
+    c : (found_by side h read ControlFault ≡ []) × (after_checks side h (ControlFault ∷ EncoderEnd ∷ DecoderEnd ∷ []) read ≡ after_checks side h (EncoderEnd ∷ DecoderEnd ∷ []) read)
+    c = passed side h ControlFault (EncoderEnd ∷ DecoderEnd ∷ []) read refl (sym (ap fault_of (a.1 ∙ b)) ∙ e)
+
+    d : (found_by side h read EncoderEnd ≡ []) × (after_checks side h (EncoderEnd ∷ DecoderEnd ∷ []) read ≡ after_checks side h (DecoderEnd ∷ []) read)
+    d = passed side h EncoderEnd (DecoderEnd ∷ []) read refl (sym (ap fault_of (a.1 ∙ b ∙ c.1)) ∙ e)
+
+    f : (found_by side h read DecoderEnd ≡ []) × (after_checks side h (DecoderEnd ∷ []) read ≡ after_checks side h [] read)
+    f = passed side h DecoderEnd [] read refl (sym (ap fault_of (a.1 ∙ b ∙ c.1 ∙ d.1)) ∙ e)
+
+-- ---- all together
+
+-- nothing more is found: of streams, datagrams, sessions and critical streams
+pub record AtRest (side : Side) (h : History) (found : List Finding) : Type 0 where
+  pub unis : StillTo side h (peer_uni side) (peer_count side (events h) (peer_uni side)) found
+  pub bis : StillTo side h (peer_bi side) (peer_count side (events h) (peer_bi side)) found
+  pub datagrams : AllRead side h (length (datagrams_of (events h))) found
+  pub sessions : (i : ℕ) → i < stream_count side h 0 → lives h found (4 * i + 0) ≡ true → session_walk_of (session_part h found (4 * i + 0)) (end_of (events h) (4 * i + 0)) ≡ walks.Running
+  pub critical : Quiet side h found critical
+
+uni-small : (side : Side) → peer_uni side < 4
+uni-small Client = omega arith
+uni-small Server = omega arith
+
+bi-small : (side : Side) → peer_bi side < 4
+bi-small Client = omega arith
+bi-small Server = omega arith
+
+streams-quiet : (side : Side) (h : History) (kind : ℕ) → kind < 4 → (found : List Finding) (n count i : ℕ) → n ≡ i + count → StillTo side h kind n found → Quiet side h found (stream_checks (ids_from kind i count))
+streams-quiet side h kind small found n zero i q s = Empty
+streams-quiet side h kind small found n (suc count) i q s =
+    let f = still-finds side h kind small found i (s i (omega (arith, q))) in
+    And _ _ f.0 (And _ _ f.1 (streams-quiet side h kind small found n count (suc i) (omega (arith, q)) s))
+
+walks-quiet : (side : Side) (h : History) (found : List Finding) (n count i : ℕ) → n ≡ i + count
+    → ((i : ℕ) → i < n → lives h found (4 * i + 0) ≡ true → session_walk_of (session_part h found (4 * i + 0)) (end_of (events h) (4 * i + 0)) ≡ walks.Running)
+    → Quiet side h found (map WalkSession (ids_from 0 i count))
+walks-quiet side h found n zero i q w = Empty
+walks-quiet side h found n (suc count) i q w = And _ _ (walk-quiet h found (4 * i + 0) (w i (omega (arith, q)))) (walks-quiet side h found n count (suc i) (omega (arith, q)) w)
+
+-- the five parts of a moment
+abbrev unis-of : Side → History → List Check
+unis-of side h = stream_checks (ids_from (peer_uni side) 0 (peer_count side (events h) (peer_uni side)))
+
+abbrev bis-of : Side → History → List Check
+bis-of side h = stream_checks (ids_from (peer_bi side) 0 (peer_count side (events h) (peer_bi side)))
+
+abbrev reads-of : History → List Check
+reads-of h = datagram_checks 0 (datagrams_of (events h))
+
+abbrev walks-of : Side → History → List Check
+walks-of side h = map WalkSession (ids_from 0 0 (stream_count side h 0))
+
+nought : (n : ℕ) → n ≡ 0 + n
+nought n = omega arith
+
+-- at rest, each check finds nothing
+pub rest-quiet : (side : Side) (h : History) (found : List Finding) → AtRest side h found → Quiet side h found (checks side h)
+rest-quiet side h found r =
+    quiet-append side h found (((unis-of side h ++ bis-of side h) ++ reads-of h) ++ walks-of side h) critical
+    (quiet-append side h found ((unis-of side h ++ bis-of side h) ++ reads-of h) (walks-of side h)
+    (quiet-append side h found (unis-of side h ++ bis-of side h) (reads-of h)
+    (quiet-append side h found (unis-of side h) (bis-of side h)
+    (streams-quiet side h (peer_uni side) (uni-small side) found _ (peer_count side (events h) (peer_uni side)) 0 (nought _) r.unis)
+    (streams-quiet side h (peer_bi side) (bi-small side) found _ (peer_count side (events h) (peer_bi side)) 0 (nought _) r.bis))
+    (datagrams-quiet side h found (datagrams_of (events h)) 0 _ (nought _) r.datagrams))
+    (walks-quiet side h found _ (stream_count side h 0) 0 (nought _) r.sessions))
+    r.critical
+
+-- after a moment without a fault all is at rest
+pub comes-to-rest : (side : Side) (h : History) (found : List Finding) → Known side h found → NoFault (after_checks side h (checks side h) found) → AtRest side h (after_checks side h (checks side h) found)
+comes-to-rest side h found known e = record {
+  unis = subst (StillTo side h (peer_uni side) (peer_count side (events h) (peer_uni side))) (sym split) (late (StillTo side h (peer_uni side) (peer_count side (events h) (peer_uni side))) (kind-kept side h (peer_uni side) (uni-small side) _)
+      (pass-keeps side h _ (kind-kept side h (peer_uni side) (uni-small side) _) (reads-of h) two calm-three
+      (pass-keeps side h _ (kind-kept side h (peer_uni side) (uni-small side) _) (bis-of side h) one calm-two
+      (kind-still side h (peer_uni side) (uni-small side) (peer_count side (events h) (peer_uni side)) 0 _ found (nought _) calm-one (λ i l. absurd (omega (arith, l)))))));
+  bis = subst (StillTo side h (peer_bi side) (peer_count side (events h) (peer_bi side))) (sym split) (late (StillTo side h (peer_bi side) (peer_count side (events h) (peer_bi side))) (kind-kept side h (peer_bi side) (bi-small side) _)
+      (pass-keeps side h _ (kind-kept side h (peer_bi side) (bi-small side) _) (reads-of h) two calm-three
+      (kind-still side h (peer_bi side) (bi-small side) (peer_count side (events h) (peer_bi side)) 0 _ one (nought _) calm-two (λ i l. absurd (omega (arith, l))))));
+  datagrams = subst (AllRead side h (length (datagrams_of (events h)))) (sym split) (late (AllRead side h (length (datagrams_of (events h)))) (read-kept side h _)
+      (datagrams-read side h (datagrams_of (events h)) 0 _ two (nought _) calm-three (λ ready. omega arith)));
+  sessions = λ i l lives-on. ap (λ (bytes : List ℕ). session_walk_of bytes (end_of (events h) (4 * i + 0))) (part-is side h offset (after_checks side h (checks side h) found) (4 * i + 0) parts lives-on)
+      ∙ subst (WalkedTo side h offset (stream_count side h 0)) (sym split) (pass-keeps side h _ (walked-kept side h offset _) critical four calm-five
+      (sessions-walked side h offset (stream_count side h 0) 0 _ three (nought _) calm-four three-parts (λ j m. absurd (omega (arith, m))))) i l lives-on;
+  critical = subst (λ (l : List Finding). Quiet side h l critical) (sym split) (critical-quiet side h four calm-five);
+}
+  where
+    one : List Finding
+    one = after_checks side h (unis-of side h) found
+
+    two : List Finding
+    two = after_checks side h (bis-of side h) one
+
+    three : List Finding
+    three = after_checks side h (reads-of h) two
+
+    four : List Finding
+    four = after_checks side h (walks-of side h) three
+
+    first-three : after_checks side h ((unis-of side h ++ bis-of side h) ++ reads-of h) found ≡ three
+    first-three = checks-append side h (unis-of side h ++ bis-of side h) (reads-of h) found ∙ ap (after_checks side h (reads-of h)) (checks-append side h (unis-of side h) (bis-of side h) found)
+
+    split : after_checks side h (checks side h) found ≡ after_checks side h critical four
+    split =
+        checks-append side h (((unis-of side h ++ bis-of side h) ++ reads-of h) ++ walks-of side h) critical found
+        ∙ ap (after_checks side h critical) (checks-append side h ((unis-of side h ++ bis-of side h) ++ reads-of h) (walks-of side h) found ∙ ap (after_checks side h (walks-of side h)) first-three)
+
+    calm-five : NoFault (after_checks side h critical four)
+    calm-five = sym (ap fault_of split) ∙ e
+
+    calm-four : NoFault four
+    calm-four = fault-first side h critical four calm-five
+
+    calm-three : NoFault three
+    calm-three = fault-first side h (walks-of side h) three calm-four
+
+    calm-two : NoFault two
+    calm-two = fault-first side h (reads-of h) two calm-three
+
+    calm-one : NoFault one
+    calm-one = fault-first side h (bis-of side h) one calm-two
+
+    late : (Good : List Finding → Type 0) → KeptOn side h Good → Good three → Good (after_checks side h critical four)
+    late Good kept g = pass-keeps side h Good kept critical four calm-five (pass-keeps side h Good kept (walks-of side h) three calm-four g)
+
+    -- each session's part begins where it began before the moment
+    offset : ℕ → ℕ
+    offset s = unwrap_or (after_request (verdict_of found s)) (after_response (response_walk_of (contents h s) (end_of (events h) s)))
+
+    first-parts : Parts side h offset found
+    first-parts = record { begin = λ k q. refl; known = known }
+
+    asked : list_all (asks_peers side) (((unis-of side h ++ bis-of side h) ++ reads-of h) ++ walks-of side h) ≡ true
+    asked = and-left _ (list_all (asks_peers side) critical) (sym (list_all-append (asks_peers side) (((unis-of side h ++ bis-of side h) ++ reads-of h) ++ walks-of side h) critical) ∙ peers-checked side h)
+
+    asked-three : list_all (asks_peers side) ((unis-of side h ++ bis-of side h) ++ reads-of h) ≡ true
+    asked-three = and-left _ (list_all (asks_peers side) (walks-of side h)) (sym (list_all-append (asks_peers side) ((unis-of side h ++ bis-of side h) ++ reads-of h) (walks-of side h)) ∙ asked)
+
+    three-parts : Parts side h offset three
+    three-parts = subst (Parts side h offset) first-three (checks-keep side h (Parts side h offset) (parts-kept side h offset) ((unis-of side h ++ bis-of side h) ++ reads-of h) found asked-three first-parts)
+
+    parts : Parts side h offset (after_checks side h (checks side h) found)
+    parts = checks-keep side h (Parts side h offset) (parts-kept side h offset) (checks side h) found (peers-checked side h) first-parts
+
+-- ---- a second pass
+
+-- adds nothing, whatever the first found
+pub second-finds : (side : Side) (h : History) (found : List Finding) → Known side h found → more side h (checks side h) (after_checks side h (checks side h) found) ≡ []
+second-finds side h found known = by (fault_of (after_checks side h (checks side h) found)) refl
+  where
+    by : (o : Option ErrorCode) → fault_of (after_checks side h (checks side h) found) ≡ o → more side h (checks side h) (after_checks side h (checks side h) found) ≡ []
+    by None e = quiet-more side h (after_checks side h (checks side h) found) (checks side h) (rest-quiet side h (after_checks side h (checks side h) found) (comes-to-rest side h found known e))
+    by (Some code) e = more-faulty side h (checks side h) (after_checks side h (checks side h) found) code e
+
+pub at-rest : (side : Side) (h : History) (found : List Finding) → Known side h found → after_checks side h (checks side h) (after_checks side h (checks side h) found) ≡ after_checks side h (checks side h) found
+at-rest side h found known =
+    checks-add side h (checks side h) (after_checks side h (checks side h) found)
+    ∙ ap (λ (xs : List Finding). after_checks side h (checks side h) found ++ xs) (second-finds side h found known) ∙ append-nil (after_checks side h (checks side h) found)
