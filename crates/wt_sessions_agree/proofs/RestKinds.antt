@@ -1,6 +1,5 @@
 -- What one check finds where it finds no fault, and the streams of a kind after such checks: of none is more found.
 use Rattle.std.specs.Prelude.{[], ◌%◌, ◌&&◌, ◌*◌, ◌++◌, ◌+◌, ◌/◌, ◌<◌, ◌==◌, ◌∷◌, ◌||◌, ◌≡◌, ◌≤◌, Bool, Err, List, None, Ok, Option, Result, Some, false, filter, if◌then◌else◌, is_some, length, nat_lt, not, suc, true, zero, ℕ}
-use Rattle.std.specs.List.{list_any}
 use Rattle.std.specs.Option.{option_or}
 use Rattle.std.proofs.Common.{◌∙◌, ap, arith, refl, subst, sym}
 use Rattle.std.proofs.lemmas.Bool.{eq-eqb, eqb-true}
@@ -19,7 +18,7 @@ use Rattle.wt_proto.specs.declared.session_walk.SessionWalk.{SessionWalk}
 use Rattle.wt_proto.specs.declared.verdict.Verdict.{Verdict}
 use Rattle.wt_seam_spec.specs.Reports.{end_of, is_running, stop_of}
 use Rattle.wt_seam_spec.specs.Streams.{local_uni}
-use Rattle.wt_sessions_agree.proofs.Appends.{and-left, and-right, classified-append, cons-append, dequeued-append, filter-fewer, filter-ids, ids-more, one-if, or-false}
+use Rattle.wt_sessions_agree.proofs.Appends.{and-left, classified-append, dequeued-append, filter-fewer, filter-ids, ids-more, one-if, or-false}
 use Rattle.wt_sessions_agree.specs.Orderly.{unclassified}
 use Rattle.wt_wire.specs.declared.error.ErrorCode.{ErrorCode}
 use Rattle.wt_wire.specs.declared.side.Side.{Side}

@@ -7,7 +7,7 @@ use Rattle.std.proofs.lemmas.List.{append-nil, length-append}
 use Rattle.std.proofs.lemmas.List.Elements.{filter-append}
 use Rattle.std.proofs.lemmas.List.Folds.{list_all-append}
 use Rattle.wt_message.specs.Datagram.{datagram_of}
-use Rattle.wt_meaning.specs.Findings.{DatagramRead, Finding, SessionClosed, SettingsRead, control_in, fault_of, first_of, is_datagram, reads_settings, settings_came, verdict_of}
+use Rattle.wt_meaning.specs.Findings.{Finding, SessionClosed, SettingsRead, control_in, fault_of, first_of, is_datagram, reads_settings, settings_came, verdict_of}
 use Rattle.wt_meaning.specs.History.{History, contents, events, stream_count}
 use Rattle.wt_meaning.specs.Moments.{Check, ControlFault, DecoderEnd, EncoderEnd, LocalStop, ReadDatagram, ReadSettings, WalkSession, after_checks, checks, closing, control_walk, datagram_checks, datagram_found, found_by, ids_from, is_ready, reading, session_found, stream_checks}
 use Rattle.wt_meaning.specs.SessionWalk.{is_over, session_walk_of}
@@ -18,10 +18,10 @@ use Rattle.wt_proto.specs.ResponseWalk.{response_walk_of}
 use Rattle.wt_proto.specs.declared.session_walk.SessionWalk.{SessionWalk}
 use Rattle.wt_seam_spec.specs.Reports.{datagrams_of, end_of}
 use Rattle.wt_seam_spec.specs.Streams.{peer_bi, peer_count, peer_uni}
-use Rattle.wt_sessions_agree.proofs.Appends.{and-left, and-right, any-append}
+use Rattle.wt_sessions_agree.proofs.Appends.{and-left, any-append}
 use Rattle.wt_sessions_agree.proofs.CriticalLaws.{checks-append}
 use Rattle.wt_sessions_agree.proofs.OrderlyLaws.{Parts, parts-kept}
-use Rattle.wt_sessions_agree.proofs.RestKinds.{Classifies, Closes, Dequeues, Finds, KeptOn, NoFault, Nothing, Reads, Settles, Still, StillTo, fault-behind, fault-first, kind-kept, kind-still, pass-finds, pass-keeps, pass-step, still-finds, under}
+use Rattle.wt_sessions_agree.proofs.RestKinds.{Classifies, Closes, Dequeues, Finds, KeptOn, NoFault, Nothing, Reads, Settles, StillTo, fault-behind, fault-first, kind-kept, kind-still, pass-finds, pass-keeps, pass-step, still-finds, under}
 use Rattle.wt_sessions_agree.specs.Orderly.{Known}
 use Rattle.wt_wire.specs.declared.error.ErrorCode.{ErrorCode}
 use Rattle.wt_wire.specs.declared.side.Side.{Side}
