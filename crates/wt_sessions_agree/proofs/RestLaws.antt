@@ -1,5 +1,5 @@
 -- After a moment that found no fault everything is at rest: the same checks find nothing more.
-use Rattle.std.specs.Prelude.{[], ◌&&◌, ◌*◌, ◌++◌, ◌+◌, ◌<◌, ◌==◌, ◌∷◌, ◌||◌, ◌≡◌, ◌≤◌, Bool, Err, List, None, Ok, Option, Result, Some, drop, false, filter, if◌then◌else◌, is_some, length, map, not, suc, true, unwrap_or, zero, ℕ}
+use Rattle.std.specs.Prelude.{[], ◌&&◌, ◌*◌, ◌++◌, ◌+◌, ◌<◌, ◌==◌, ◌∷◌, ◌||◌, ◌≡◌, ◌≤◌, Bool, Err, List, None, Ok, Option, Result, Some, drop, false, filter, if◌then◌else◌, is_some, length, map, not, suc, true, zero, ℕ}
 use Rattle.std.specs.List.{list_all}
 use Rattle.std.proofs.Common.{◌∙◌, ap, arith, refl, subst, sym}
 use Rattle.std.proofs.lemmas.Bool.{eq-eqb, eqb-true}
@@ -7,14 +7,13 @@ use Rattle.std.proofs.lemmas.List.{append-nil, length-append}
 use Rattle.std.proofs.lemmas.List.Elements.{filter-append}
 use Rattle.std.proofs.lemmas.List.Folds.{list_all-append}
 use Rattle.wt_message.specs.Datagram.{datagram_of}
-use Rattle.wt_meaning.specs.Findings.{Finding, SessionClosed, SettingsRead, control_in, fault_of, first_of, is_datagram, reads_settings, settings_came, verdict_of}
+use Rattle.wt_meaning.specs.Findings.{Finding, SessionClosed, SettingsRead, control_in, fault_of, first_of, is_datagram, reads_settings, settings_came}
 use Rattle.wt_meaning.specs.History.{History, contents, events, stream_count}
 use Rattle.wt_meaning.specs.Moments.{Check, ControlFault, DecoderEnd, EncoderEnd, LocalStop, ReadDatagram, ReadSettings, WalkSession, after_checks, checks, closing, control_walk, datagram_checks, datagram_found, found_by, ids_from, is_ready, reading, session_found, stream_checks}
 use Rattle.wt_meaning.specs.SessionWalk.{is_over, session_walk_of}
-use Rattle.wt_meaning.specs.Windows.{after_request, after_response, is_established, is_gone, is_gone_by_call, lives, makes_gone, session_part}
+use Rattle.wt_meaning.specs.Windows.{is_established, is_gone, is_gone_by_call, lives, makes_gone, session_part}
 use Rattle.wt_promise.proofs.Grows.{adds, asks_peers, checks-add, checks-keep, more, peers-checked}
 use Rattle.wt_promise.proofs.MomentActs.{lives-before}
-use Rattle.wt_proto.specs.ResponseWalk.{response_walk_of}
 use Rattle.wt_proto.specs.declared.session_walk.SessionWalk.{SessionWalk}
 use Rattle.wt_seam_spec.specs.Reports.{datagrams_of, end_of}
 use Rattle.wt_seam_spec.specs.Streams.{peer_bi, peer_count, peer_uni}
@@ -22,7 +21,7 @@ use Rattle.wt_sessions_agree.proofs.Appends.{and-left, any-append}
 use Rattle.wt_sessions_agree.proofs.CriticalLaws.{checks-append}
 use Rattle.wt_sessions_agree.proofs.OrderlyLaws.{Parts, parts-kept}
 use Rattle.wt_sessions_agree.proofs.RestKinds.{Classifies, Closes, Dequeues, Finds, KeptOn, NoFault, Nothing, Reads, Settles, StillTo, fault-behind, fault-first, kind-kept, kind-still, pass-finds, pass-keeps, pass-step, still-finds, under}
-use Rattle.wt_sessions_agree.specs.Orderly.{Known}
+use Rattle.wt_sessions_agree.specs.Orderly.{Known, begins_at}
 use Rattle.wt_wire.specs.declared.error.ErrorCode.{ErrorCode}
 use Rattle.wt_wire.specs.declared.side.Side.{Side}
 use Rattle.wt_wire.specs.declared.side.Side.TheVariants.{Client, Server}
@@ -133,7 +132,7 @@ module _ (side : Side) (h : History) (offset : ℕ → ℕ) where
       by true false false = refl
 
   part-is : (found : List Finding) (s : ℕ) → Parts side h offset found → lives h found s ≡ true → session_part h found s ≡ drop (offset s) (contents h s)
-  part-is found s p l = p.begin s (and-left (is_established h s) (not (is_gone h found s)) l)
+  part-is found s p l = ap (λ (n : ℕ). drop n (contents h s)) (p.begin s (and-left (is_established h s) (not (is_gone h found s)) l))
 
   walk-one : (found : List Finding) (s : ℕ) → Parts side h offset found → NoFault (found ++ closing h found s) → lives h (found ++ closing h found s) s ≡ true → walk s ≡ walks.Running
   walk-one found s p e l = by (walk s) refl (fault-behind found (closing h found s) e)
@@ -371,7 +370,7 @@ comes-to-rest side h found known e = record {
 
     -- each session's part begins where it began before the moment
     offset : ℕ → ℕ
-    offset s = unwrap_or (after_request (verdict_of found s)) (after_response (response_walk_of (contents h s) (end_of (events h) s)))
+    offset s = begins_at h found s
 
     first-parts : Parts side h offset found
     first-parts = record { begin = λ k q. refl; known = known }
