@@ -45,3 +45,6 @@ pub mod ChecksThere
 pub mod MembersKept
 pub mod RestKinds
 pub mod RestLaws
+pub mod CallReplies
+pub mod CallTells
+pub mod CallOpenings

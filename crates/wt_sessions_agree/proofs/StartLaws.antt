@@ -26,6 +26,7 @@ stands-first side offset = record {
   };
   halves = record { given_up = λ k. refl; reset = λ k. refl; read = λ k. refl; priority = λ k e. refl };
   openings = λ k. NotOpening refl refl;
+  unfailed = λ k e. refl;
   delivered = λ k. refl;
   request = refl;
   handshake = record { waiting = refl; requested = λ c. refl; awaits = λ c. refl; begun = tt };

@@ -9,7 +9,7 @@ use Rattle.wt_meaning.specs.Calls.{being_opened, opened_by, opening_ends}
 use Rattle.wt_meaning.specs.Findings.{first_of}
 use Rattle.wt_meaning.specs.Halves.{is_done, priority_by, read_by, was_read}
 use Rattle.wt_meaning.specs.Handshakes.{begun_by, last_begun}
-use Rattle.wt_meaning.specs.History.{History, Pair, actions_out, answers_reset, all_events, answers_stop, events, is_given_up, is_open, is_reset, is_reset_of, stream_count, was_finished, with_event}
+use Rattle.wt_meaning.specs.History.{History, Pair, actions_out, answers_reset, all_events, answers_stop, events, exists, is_given_up, is_open, is_reset, is_reset_of, stream_count, was_finished, with_event}
 use Rattle.wt_meaning.specs.Lawful.{fails_incoming, has_request, is_of_request, is_waiting, polls}
 use Rattle.wt_meaning.specs.Meaning.{with_pair}
 use Rattle.wt_meaning.specs.Moments.{findings, ids_from}
@@ -21,6 +21,7 @@ use Rattle.wt_seam_spec.specs.Sent as sends
 use Rattle.wt_seam_spec.specs.Arrivals.{event_entry}
 use Rattle.wt_seam_spec.specs.Streams.{one_more_if, peer_count, peer_opens}
 use Rattle.wt_promise.proofs.Actions.{opened-out}
+use Rattle.wt_promise.proofs.Stays.{exists-stays}
 use Rattle.wt_sessions.specs.Answers.{log_after}
 use Rattle.wt_sessions.specs.Driver as drivers
 use Rattle.wt_sessions.specs.Halves as halves
@@ -33,7 +34,7 @@ use Rattle.wt_sessions_agree.proofs.OutLaws.{any-newest, same-out}
 use Rattle.wt_sessions_agree.proofs.TransportLaws.{flushed, is_single, turn_agrees}
 use Rattle.wt_sessions_agree.specs.Agrees.{Agrees, IsTable}
 use Rattle.wt_sessions_agree.specs.Orderly.{Orderly, session_at}
-use Rattle.wt_sessions_agree.specs.Stands.{BegunAgrees, CallsAgree, HalvesAgree, HandshakeAgrees, IsOpening, NotOpening, OpeningAgrees, SameOut, Stands}
+use Rattle.wt_sessions_agree.specs.Stands.{BegunAgrees, CallsAgree, HalvesAgree, HandshakeAgrees, IsOpening, NotOpening, OpeningAgrees, SameOut, Stands, fails_opening}
 use Rattle.wt_turn.specs.Log.{CallRecord, Called, Entry, Event, Log, ResetUnsent, Sent, actions_of, calls_of, events_of, with_actions}
 use Rattle.wt_turn.specs.Log as logs
 use Rattle.wt_turn.specs.Turns.{event_of, is_call}
@@ -331,6 +332,7 @@ module _ (side : Side) (offset : ℕ → ℕ) (h : History) (log : Log) (x : Sta
       orderly = orderly;
       halves = halves-after;
       openings = opening-after;
+      unfailed = λ k e. ap (list_any (fails_opening k)) called ∙ x.unfailed k (missing-before k e);
       delivered = λ k. x.delivered k ∙ ap (list_any (delivers k)) (sym called);
       request = x.request ∙ ap requested_stream (sym called);
       handshake = handshake-after;
@@ -339,6 +341,13 @@ module _ (side : Side) (offset : ℕ → ℕ) (h : History) (log : Log) (x : Sta
         or-no : (o : Option ℕ) → option_or o None ≡ o
         or-no None = refl
         or-no (Some s) = refl
+
+        missing-before : (k : ℕ) → exists side after k ≡ false → exists side h k ≡ false
+        missing-before k e = by (exists side h k) refl
+          where
+            by : (b : Bool) → exists side h k ≡ b → b ≡ false
+            by false q = refl
+            by true q = absurd (let r = exists-stays side (record { turn = turn; answer = answer replies.Done (join_all [] xs) }) h k q in cc (sym r ∙ e))
 
 -- ---- the log after the turn
 

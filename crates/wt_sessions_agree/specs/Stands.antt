@@ -5,7 +5,7 @@ use Rattle.url.specs.Parser.{parse_url}
 use Rattle.wt_meaning.specs.Calls.{being_opened}
 use Rattle.wt_meaning.specs.Halves.{is_done, priority_of, was_read}
 use Rattle.wt_meaning.specs.Handshakes.{acceptance_frame, last_begun, was_given}
-use Rattle.wt_meaning.specs.History.{History, Pair, actions_out, contents, events, is_given_up, is_handed_out, is_reset, is_reset_of, stream_count}
+use Rattle.wt_meaning.specs.History.{History, Pair, actions_out, contents, events, exists, is_given_up, is_handed_out, is_reset, is_reset_of, stream_count}
 use Rattle.wt_meaning.specs.Lawful.{all_answered, fails_incoming, has_request, is_client, is_first, is_waiting}
 use Rattle.wt_meaning.specs.Moments.{findings, ids_from, is_ready}
 use Rattle.wt_meaning.specs.Targets.{Target, target_of}
@@ -25,7 +25,7 @@ use Rattle.wt_sessions.specs.Handshake.{HandshakeState, awaits_answer, awaits_re
 use Rattle.wt_sessions.specs.StreamTable.{CallView, TransportView, was_established}
 use Rattle.wt_sessions_agree.specs.Agrees.{Agrees, IsTable}
 use Rattle.wt_sessions_agree.specs.Orderly.{Orderly, session_at}
-use Rattle.wt_turn.specs.Log.{Log, actions_of, calls_of}
+use Rattle.wt_turn.specs.Log.{CallRecord, Log, OpeningFailed, actions_of, calls_of}
 use Rattle.wt_turn.specs.declared.action.Action.{Action}
 use Rattle.wt_turn.specs.declared.call.Call.{Call}
 use Rattle.wt_wire.specs.declared.side.Side.{Side}
@@ -80,6 +80,11 @@ pub data OpeningAgrees (h : History) (log : Log) (k : ℕ) : Type 0 where
   NotOpening : being_opened h k ≡ None → opening_session log k ≡ None → OpeningAgrees h log k
   IsOpening : (name : Option ℕ) (s : ℕ) → being_opened h k ≡ Some name → named h name ≡ Some s → opening_session log k ≡ Some s → OpeningAgrees h log k
 
+-- the call's record fails the opening of this stream
+abbrev pub fails_opening : ℕ → CallRecord → Bool
+fails_opening k (OpeningFailed id) = id == k
+fails_opening k _ = false
+
 -- ---- what calls ask of the handshake
 
 -- the call begins this response
@@ -125,6 +130,7 @@ pub record Stands (side : Side) (offset : ℕ → ℕ) (h : History) (log : Log)
   pub orderly : Orderly side h (call_view log) offset (findings side h)
   pub halves : HalvesAgree h log
   pub openings : (k : ℕ) → OpeningAgrees h log k
+  pub unfailed : (k : ℕ) → exists side h k ≡ false → list_any (fails_opening k) (calls_of log) ≡ false
   pub delivered : (k : ℕ) → was_given h k ≡ list_any (delivers k) (calls_of log)
   pub request : unwrap_or (last_request h) 0 ≡ requested_stream (calls_of log)
   pub handshake : HandshakeAgrees side h (handshake_state (calls_of log))
