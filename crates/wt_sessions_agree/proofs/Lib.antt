@@ -48,3 +48,4 @@ pub mod RestLaws
 pub mod CallReplies
 pub mod CallTells
 pub mod CallOpenings
+pub mod PendingLaws
