@@ -32,6 +32,7 @@ pub mod EventTurns
 pub mod PartLaws
 pub mod ThereLaws
 pub mod SessionTurns
+pub mod ReceivedLaws
 pub mod OrderTurns
 pub mod CallTurns
 pub mod ByteTurns

@@ -43,7 +43,7 @@ early-checks side h e (c ∷ cs) found none k =
 -- ---- a fault changes nothing else
 
 -- what is kept by a fault alone is kept by a stream's fault
-stream-fault-keeps : (Good : List Finding → Type 0) → ((found : List Finding) (code : ErrorCode) → Good found → Good (found ++ Faulted code ∷ [])) → (found before : List Finding) (v : Verdict) → Good found → Good (found ++ stream_fault before v)
+pub stream-fault-keeps : (Good : List Finding → Type 0) → ((found : List Finding) (code : ErrorCode) → Good found → Good (found ++ Faulted code ∷ [])) → (found before : List Finding) (v : Verdict) → Good found → Good (found ++ stream_fault before v)
 stream-fault-keeps Good kept found before v g = by v
   where
     none : Good (found ++ [])

@@ -1,5 +1,5 @@
 -- Where an established session's part of its stream begins is settled: by its request on a server, by its response on a client.
-use Rattle.std.specs.Prelude.{[], ◌%◌, ◌&&◌, ◌++◌, ◌+◌, ◌==◌, ◌||◌, ◌∷◌, ◌≡◌, Bool, List, None, Option, Some, drop, false, filter_map, if◌then◌else◌, is_some, true, unwrap_or, ℕ}
+use Rattle.std.specs.Prelude.{[], ◌%◌, ◌&&◌, ◌++◌, ◌+◌, ◌==◌, ◌||◌, ◌∷◌, ◌≡◌, Bool, List, None, Option, Some, drop, false, filter_map, if◌then◌else◌, is_some, not, true, unwrap_or, ℕ}
 use Rattle.std.specs.List.{cons_option, list_any}
 use Rattle.std.specs.Option.{option_or}
 use Rattle.std.proofs.Common.{◌∙◌, ap, refl, subst, sym}
@@ -18,6 +18,7 @@ use Rattle.wt_promise.proofs.Established.{established-rightly}
 use Rattle.wt_promise.proofs.Few.{given-queued, has}
 use Rattle.wt_promise.proofs.Grows.{AClassified, AClosed, ADatagram, ADequeued, AFault, ASettings, Adds, Nothing, findings-add, findings-keep, first_of-append, first_of-stays, news, of-stream-fault}
 use Rattle.wt_promise.proofs.HandedOut.{verdict-stays}
+use Rattle.wt_promise.proofs.Verdicts.{given-classified}
 use Rattle.wt_promise.specs.Promise.{EstablishedFor, IsHistory}
 use Rattle.wt_proto.proofs.ResponseWalkLaws.{response_walk_stays}
 use Rattle.wt_proto.specs.Bi.{bi_verdict_of}
@@ -27,7 +28,7 @@ use Rattle.wt_proto.specs.Walk.{whole_walk}
 use Rattle.wt_proto.specs.declared.response_walk.ResponseWalk.{ResponseWalk}
 use Rattle.wt_proto.specs.declared.verdict.Verdict.{Verdict}
 use Rattle.wt_seam_spec.specs.Reports.{end_of}
-use Rattle.wt_sessions_agree.specs.Orderly.{begins_at}
+use Rattle.wt_sessions_agree.specs.Orderly.{begins_at, is_of_peer}
 use Rattle.wt_turn.specs.declared.answer.Answer.{Answer}
 use Rattle.wt_turn.specs.declared.turn.Turn.{Turn}
 use Rattle.wt_wire.specs.HeaderList.{Fields}
@@ -272,6 +273,23 @@ parted-new Client h turn k i e =
     all-of true true c q = (refl, q)
     all-of true false c q = absurd (cc q)
     all-of false b c q = absurd (cc q)
+
+-- its stream has a verdict before its moment, where the peer opened it
+pub known-new : (side : Side) (h : History) (turn : Turn) (k : ℕ) → IsHistory side (with_pair h turn (next side h turn)) → EstablishedFor side h (with_pair h turn (next side h turn)) k
+    → (is_of_peer side k && not (is_classified (findings side h) k)) ≡ false
+known-new Server h turn k i e =
+    let given = last-given (with_pair h turn (next Server h turn)) k (numbered k (last_request (with_pair h turn (next Server h turn))) (and-left _ _ e.asked)) in
+    let c = given-classified Server (record { turn = turn; answer = next Server h turn }) h i k given in
+    rw c (none (is_of_peer Server k))
+  where
+    none : (b : Bool) → (b && not true) ≡ false
+    none true = refl
+    none false = refl
+known-new Client h turn k i e = rw (eqb-true k 0 (front (k == 0) (is_opened (with_pair h turn (next Client h turn))) _ e.asked)) refl
+  where
+    front : (a b c : Bool) → (a && b && c) ≡ true → a ≡ true
+    front true b c q = refl
+    front false b c q = absurd (cc q)
 
 -- every established session
 pub parted : (side : Side) (h : History) → IsHistory side h → (k : ℕ) → is_established h k ≡ true → Parted side h k

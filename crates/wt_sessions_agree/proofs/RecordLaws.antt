@@ -22,34 +22,34 @@ use Rattle.wt_turn.specs.declared.stream_error.StreamReadExactError.TheVariants 
 
 module _ {T : Type 0} (ask : CallRecord → T) (none : T) where
   -- the question passes over what calls leave that answer Done, Pending or Failed
-  record Passes : Type 0 where
-    polled : ask Polled ≡ none
-    unsent : (k code : ℕ) → ask (ResetUnsent k code) ≡ none
-    priority : (k : ℕ) (p : ℤ) → ask (PrioritySet k p) ≡ none
-    given_up : (k : ℕ) → ask (StreamGivenUp k) ≡ none
-    rejected : (s : ℕ) → ask (RequestRejected s) ≡ none
-    started : (reserved : Option (List ℕ)) (head : List ℕ) → ask (ConnectStarted reserved head) ≡ none
-    response : (accepts : Bool) (head : List ℕ) → ask (ResponseStarted accepts head) ≡ none
-    over : ask HandshakeOver ≡ none
-    failed : ask AcceptanceFailed ≡ none
+  pub record Passes : Type 0 where
+    pub polled : ask Polled ≡ none
+    pub unsent : (k code : ℕ) → ask (ResetUnsent k code) ≡ none
+    pub priority : (k : ℕ) (p : ℤ) → ask (PrioritySet k p) ≡ none
+    pub given_up : (k : ℕ) → ask (StreamGivenUp k) ≡ none
+    pub rejected : (s : ℕ) → ask (RequestRejected s) ≡ none
+    pub started : (reserved : Option (List ℕ)) (head : List ℕ) → ask (ConnectStarted reserved head) ≡ none
+    pub response : (accepts : Bool) (head : List ℕ) → ask (ResponseStarted accepts head) ≡ none
+    pub over : ask HandshakeOver ≡ none
+    pub failed : ask AcceptanceFailed ≡ none
 
   module _ (p : Passes) (side : Side) (h : History) where
     either : (b : Bool) (r s : CallRecord) → ask r ≡ none → ask s ≡ none → ask (if b then r else s) ≡ none
     either true r s e f = e
     either false r s e f = f
 
-    done-passes : (c : Call) → ask (done_record side h c) ≡ none
+    pub done-passes : (c : Call) → ask (done_record side h c) ≡ none
     done-passes (calls.ResetSend id code) = either (is_open h) Polled (ResetUnsent id code) p.polled (p.unsent id code)
     done-passes (calls.SetPriority id priority) = either (is_done h id) Polled (PrioritySet id priority) p.polled (p.priority id priority)
     done-passes (calls.StopRecv id code) = p.given_up id
     done-passes (calls.EndSession name) = either (is_open h) (RequestRejected _) Polled (p.rejected _) p.polled
     done-passes c = p.polled
 
-    connect-passes : (t : Result Target ConnectingError) → ask (connect_record t) ≡ none
+    pub connect-passes : (t : Result Target ConnectingError) → ask (connect_record t) ≡ none
     connect-passes (Err e) = p.polled
     connect-passes (Ok t) = p.started t.reserved t.frame
 
-    pending-passes : (c : Call) → ask (pending_record c) ≡ none
+    pub pending-passes : (c : Call) → ask (pending_record c) ≡ none
     pending-passes (calls.Connect options lookup outcome) = connect-passes (target_of (parse_url None options.0) options.1 lookup outcome)
     pending-passes (calls.Accept headers) = p.response true _
     pending-passes calls.Forbidden = p.response false _
@@ -57,7 +57,7 @@ module _ {T : Type 0} (ask : CallRecord → T) (none : T) where
     pending-passes calls.TooManyRequests = p.response false _
     pending-passes c = p.polled
 
-    failure-passes : (c : Call) → ask (failure_record c) ≡ none
+    pub failure-passes : (c : Call) → ask (failure_record c) ≡ none
     failure-passes calls.Incoming = p.over
     failure-passes (calls.Accept headers) = p.failed
     failure-passes calls.Handshake = p.failed

@@ -190,7 +190,7 @@ drop-pairs zero ds = refl
 drop-pairs (suc n) [] = refl
 drop-pairs (suc n) (d ∷ ds) = drop-pairs n ds
 
-waiting-pairs : (side : Side) (h : History) (s : ℕ) → waiting_datagrams h (findings side h) s ≡ map pair-of (left_datagrams side h s)
+pub waiting-pairs : (side : Side) (h : History) (s : ℕ) → waiting_datagrams h (findings side h) s ≡ map pair-of (left_datagrams side h s)
 waiting-pairs side h s =
     ap (λ (ds : List (ℕ × List ℕ)). drop (received_count h s) (filter (λ (d : ℕ × List ℕ). d.0 == s) ds)) (admitted-pairs (findings side h))
     ∙ ap (drop (received_count h s)) (filter-pairs (λ (k : ℕ). k == s) (filter_map admitted_in (findings side h)))
