@@ -50,3 +50,4 @@ pub mod CallReplies
 pub mod CallTells
 pub mod CallOpenings
 pub mod PendingLaws
+pub mod RestTurns
