@@ -1,6 +1,6 @@
 -- After a moment that found no fault everything is at rest: the same checks find nothing more.
 use Rattle.std.specs.Prelude.{[], ◌&&◌, ◌*◌, ◌++◌, ◌+◌, ◌<◌, ◌==◌, ◌∷◌, ◌||◌, ◌≡◌, ◌≤◌, Bool, Err, List, None, Ok, Option, Result, Some, drop, false, filter, if◌then◌else◌, is_some, length, map, not, suc, true, zero, ℕ}
-use Rattle.std.specs.List.{list_all}
+use Rattle.std.specs.List.{list_all, list_any}
 use Rattle.std.proofs.Common.{◌∙◌, ap, arith, refl, subst, sym}
 use Rattle.std.proofs.lemmas.Bool.{eq-eqb, eqb-true}
 use Rattle.std.proofs.lemmas.List.{append-nil, length-append}
@@ -119,11 +119,11 @@ module _ (side : Side) (h : History) (offset : ℕ → ℕ) where
   -- a session that is closed lives no more
   closed-dies : (found : List Finding) (s code : ℕ) (reason : List ℕ) (b : Bool) → lives h (found ++ SessionClosed s code reason b ∷ []) s ≡ false
   closed-dies found s code reason b =
-      ap (λ (x : Bool). is_established h s && not (is_gone_by_call h s || x)) (any-append (makes_gone s) found (SessionClosed s code reason b) ∙ ap (λ (x : Bool). list_any_ || x) (eq-eqb s s refl))
-      ∙ by (is_established h s) (is_gone_by_call h s) list_any_
+      ap (λ (x : Bool). is_established h s && not (is_gone_by_call h s || x)) (any-append (makes_gone s) found (SessionClosed s code reason b) ∙ ap (λ (x : Bool). by-found || x) (eq-eqb s s refl))
+      ∙ by (is_established h s) (is_gone_by_call h s) by-found
     where
-      list_any_ : Bool
-      list_any_ = Rattle.std.specs.List.list_any (makes_gone s) found
+      by-found : Bool
+      by-found = list_any (makes_gone s) found
 
       by : (x y z : Bool) → (x && not (y || (z || true))) ≡ false
       by false y z = refl

@@ -1,14 +1,14 @@
 -- A lawful history that is open is at rest; a call that establishes no session, or a loss, leaves it so.
-use Rattle.std.specs.Prelude.{[], ◌&&◌, ◌*◌, ◌++◌, ◌+◌, ◌/◌, ◌<◌, ◌∷◌, ◌||◌, ◌≡◌, ◌≤◌, Bool, List, None, Option, Some, drop, false, filter, if◌then◌else◌, is_some, length, nat_le, not, true, unwrap_or, ℕ}
+use Rattle.std.specs.Prelude.{[], ◌&&◌, ◌*◌, ◌++◌, ◌+◌, ◌<◌, ◌∷◌, ◌||◌, ◌≡◌, ◌≤◌, Bool, List, None, Option, Some, false, filter, if◌then◌else◌, is_some, length, nat_le, not, true, ℕ}
 use Rattle.std.proofs.Common.{◌∙◌, ap, arith, refl, subst, sym}
 use Rattle.std.proofs.lemmas.List.{append-nil}
-use Rattle.wt_meaning.specs.Findings.{Faulted, Finding, SettingsRead, control_in, decoder_in, encoder_in, fault_of, first_of, is_classified, is_datagram, settings_came, verdict_of}
-use Rattle.wt_meaning.specs.History.{History, Pair, contents, events, is_open, stream_count, with_bytes, with_event}
-use Rattle.wt_meaning.specs.Moments.{ControlFault, DecoderEnd, EncoderEnd, LocalStop, ReadSettings, after_checks, after_moments, checks, control_walk, end_fault, fault_if, findings, found_by, ids_from, is_ready, verdict}
+use Rattle.wt_meaning.specs.Findings.{Faulted, Finding, SettingsRead, control_in, decoder_in, encoder_in, fault_of, first_of, is_classified, is_datagram, settings_came}
+use Rattle.wt_meaning.specs.History.{History, Pair, contents, events, is_open, stream_count, with_bytes}
+use Rattle.wt_meaning.specs.Moments.{ControlFault, DecoderEnd, EncoderEnd, LocalStop, ReadSettings, after_checks, after_moments, checks, control_walk, end_fault, fault_if, findings, is_ready, verdict}
 use Rattle.wt_meaning.specs.SessionWalk.{session_walk_of}
-use Rattle.wt_meaning.specs.Windows.{after_request, after_response, is_established, is_gone, lives, session_in, session_part}
+use Rattle.wt_meaning.specs.Windows.{is_established, is_gone, lives, session_in, session_part}
 use Rattle.wt_promise.proofs.Few.{gone-later}
-use Rattle.wt_promise.proofs.Grows.{checks-add, more, more-by, news, news-open}
+use Rattle.wt_promise.proofs.Grows.{checks-add}
 use Rattle.wt_promise.proofs.OpenStays.{no-fault}
 use Rattle.wt_promise.proofs.Opened.{open-before}
 use Rattle.wt_promise.proofs.Phases.{same-established}
@@ -16,11 +16,9 @@ use Rattle.wt_promise.proofs.Silent.{established-begun}
 use Rattle.wt_promise.proofs.Verdicts.{given-classified}
 use Rattle.wt_promise.proofs.Begun.{BegunFor}
 use Rattle.wt_promise.specs.Promise.{IsHistory}
-use Rattle.wt_proto.specs.ControlWalk.{control_walk_of}
-use Rattle.wt_proto.specs.ResponseWalk.{response_walk_of}
 use Rattle.wt_proto.specs.declared.control_walk.ControlWalk.{ControlWalk}
 use Rattle.wt_proto.specs.declared.verdict.Verdict.{Verdict}
-use Rattle.wt_seam_spec.specs.Reports.{credit, datagrams_of, end_of, is_connected, is_running, stop_of, unis_allowed}
+use Rattle.wt_seam_spec.specs.Reports.{credit, datagrams_of, end_of, is_connected, stop_of, unis_allowed}
 use Rattle.wt_seam_spec.specs.Streams.{local_uni, peer_bi, peer_count, peer_uni}
 use Rattle.wt_sessions_agree.proofs.Appends.{and-left, filter-ids}
 use Rattle.wt_sessions_agree.proofs.RestKinds.{Left, Still, Taken, is_incomplete, is_stuck, stuck}
@@ -28,19 +26,16 @@ use Rattle.wt_sessions_agree.proofs.RestLaws.{And, AtRest, Empty, Quiet, at-rest
 use Rattle.wt_sessions_agree.proofs.ThereLaws.{established-there}
 use Rattle.wt_sessions_agree.specs.Orderly.{Known, is_of_peer}
 use Rattle.wt_turn.specs.Log.{Event, Loss}
-use Rattle.wt_turn.specs.Turns.{event_of}
 use Rattle.wt_turn.specs.declared.call.Call.{Call}
 use Rattle.wt_turn.specs.declared.loss.LossReason.{LossReason}
 use Rattle.wt_turn.specs.declared.reply.Reply.{Reply}
 use Rattle.wt_turn.specs.declared.turn.Turn.{Turn}
-use Rattle.wt_wire.specs.declared.error.ErrorCode.{ErrorCode}
 use Rattle.wt_wire.specs.declared.side.Side.{Side}
 use Rattle.wt_wire.specs.declared.side.StreamEnd.{StreamEnd}
 use Rattle.wt_wire.specs.declared.side.Side.TheVariants.{Client, Server}
 use Rattle.wt_turn.specs.declared.reply.Reply.TheVariants as replies
 use Rattle.wt_turn.specs.declared.turn.Turn.TheVariants as turns
 use Rattle.wt_wire.specs.declared.error.ErrorCode.TheVariants as h3
-use Rattle.wt_proto.specs.declared.session_walk.SessionWalk.TheVariants as walks
 
 -- ---- a lawful history
 
