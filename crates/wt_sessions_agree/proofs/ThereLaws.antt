@@ -1,4 +1,4 @@
--- A stream that a moment looked at is there; so is that of every established session, which is the first end's bidirectional one.
+-- A stream that was dequeued is there; so is that of every established session, which is a bidirectional one that the client opened.
 use Rattle.std.specs.Prelude.{[], ◌%◌, ◌&&◌, ◌*◌, ◌++◌, ◌+◌, ◌/◌, ◌<◌, ◌==◌, ◌||◌, ◌∷◌, ◌≡◌, ◌≤◌, Bool, List, None, Option, Some, false, if◌then◌else◌, is_some, map, nat_lt, not, suc, true, zero, ℕ}
 use Rattle.std.specs.List.{cons_option, list_all, list_any}
 use Rattle.std.proofs.Common.{◌∙◌, ap, arith, refl, sym}
