@@ -1,3 +1,4 @@
+pub mod SessionReader
 pub mod StreamTable
 pub mod Scan
 pub mod Driver
