@@ -51,3 +51,4 @@ pub mod CallTells
 pub mod CallOpenings
 pub mod PendingLaws
 pub mod RestTurns
+pub mod CameLaws
