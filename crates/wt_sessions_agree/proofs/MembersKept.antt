@@ -6,16 +6,16 @@ use Rattle.std.proofs.lemmas.Bool.{eqb-true}
 use Rattle.std.proofs.lemmas.List.Folds.{list_any-append}
 use Rattle.wt_meaning.specs.Findings.{Classified, DatagramRead, Dequeued, Faulted, Finding, SessionClosed, SettingsRead, fault_of, is_classified, is_dequeued, verdict_in, verdict_of}
 use Rattle.wt_meaning.specs.History.{History, exists, is_handed_out}
-use Rattle.wt_meaning.specs.Moments.{Check, after_checks, found_by, stream_fault}
+use Rattle.wt_meaning.specs.Moments.{Check, after_checks, keeps, stream_fault, verdict}
 use Rattle.wt_meaning.specs.Sends.{admits, session_gone_actions}
 use Rattle.wt_meaning.specs.Windows.{is_established, is_gone, is_gone_by_call, makes_gone}
 use Rattle.wt_promise.proofs.Accepted.{and-left, or-true}
-use Rattle.wt_promise.proofs.Grows.{AClassified, AClosed, ADatagram, ADequeued, AFault, ASettings, Adds, Nothing, first_of-stays, is_peers, of-stream-fault}
+use Rattle.wt_promise.proofs.Grows.{AClassified, AClosed, ADatagram, ADequeued, AFault, ASettings, Adds, Kept, Nothing, asks_peers, checks-keep, first_of-stays, is_peers, of-stream-fault}
 use Rattle.wt_promise.proofs.MomentActs.{closes_session}
 use Rattle.wt_proto.specs.declared.verdict.Verdict.{Verdict}
 use Rattle.wt_sessions.specs.StreamTable.{CallView, StreamTable, TransportView, dispatched_streams, gone_actions}
 use Rattle.wt_sessions_agree.proofs.Appends.{or-false}
-use Rattle.wt_sessions_agree.proofs.ChecksThere.{KeptThere, asks_there, check-keeps, checks-keep, there-more}
+use Rattle.wt_sessions_agree.proofs.CameLaws.{Came, verdict-there}
 use Rattle.wt_sessions_agree.proofs.MembersLaws.{gone-alike}
 use Rattle.wt_sessions_agree.specs.Agrees.{IsTable}
 use Rattle.wt_sessions_agree.specs.Members.{HalvesSeen, MembersIn, is_opened_for}
@@ -30,7 +30,7 @@ pub record Good (side : Side) (h : History) (calls : CallView) (found : List Fin
   pub ended : (k : ℕ) → is_gone_by_call h k ≡ true → is_peers side k ≡ true → is_classified found k ≡ true
   pub known : (k : ℕ) → is_established h k ≡ true → is_peers side k ≡ true → is_classified found k ≡ true
   pub closed : (k : ℕ) → list_any (closes_session k) found ≡ true → is_established h k ≡ true
-  pub dequeued : (k : ℕ) → is_dequeued found k ≡ true → exists side h k ≡ true
+  pub came : Came side h
 
 -- ---- what a check admits
 
@@ -49,13 +49,19 @@ admits-itself : (s k j : ℕ) (v : Verdict) (b : Bool) → admits s k (Classifie
 admits-itself s k j (verdicts.WebTransport t offset) true e = and-left (j == k) (t == s) e
 admits-itself s k j v b e = absurd (cc e)
 
--- a stream that is admitted anew was dequeued, and had no verdict
-record Admitted (side : Side) (found : List Finding) (k : ℕ) : Type 0 where
+-- a stream that is admitted anew had no verdict before, and has one now
+record Admitted (side : Side) (h : History) (found : List Finding) (k : ℕ) : Type 0 where
   new : is_classified found k ≡ false
   peers : is_peers side k ≡ true
-  dequeued : is_dequeued found k ≡ true
+  some : verdict h k ≡ verdicts.Incomplete → ⊥
 
-admitted-new : (side : Side) (h : History) (s k : ℕ) (found new : List Finding) → Adds side h found new → list_any (admits s k) new ≡ true → Admitted side found k
+-- a verdict that admits is one
+admits-some : (s k j : ℕ) (v : Verdict) (b : Bool) → admits s k (Classified j v b) ≡ true → v ≡ verdicts.Incomplete → ⊥
+admits-some s k j verdicts.Incomplete b e q = cc e
+admits-some s k j (verdicts.WebTransport t offset) b e q = cc q
+admits-some s k j v b e q = cc e
+
+admitted-new : (side : Side) (h : History) (s k : ℕ) (found new : List Finding) → Adds side h found new → list_any (admits s k) new ≡ true → Admitted side h found k
 admitted-new side h s k found [] Nothing e = absurd (cc e)
 admitted-new side h s k found new (ADequeued j p) e = absurd (cc e)
 admitted-new side h s k found new (ADatagram n t payload c) e = absurd (cc e)
@@ -63,8 +69,9 @@ admitted-new side h s k found new (AClosed t code reason b l) e = absurd (cc e)
 admitted-new side h s k found new (ASettings c) e = absurd (cc e)
 admitted-new side h s k found new (AFault code) e = absurd (cc e)
 admitted-new side h s k found new (AClassified j v more p d c w m) e =
-    let i : j ≡ k = eqb-true j k (admits-itself s k j v _ (only-first _ _ e (ap (list_any (admits s k)) m ∙ no-admits s k found v))) in
-    record { new = ap (is_classified found) (sym i) ∙ c; peers = ap (is_peers side) (sym i) ∙ p; dequeued = ap (is_dequeued found) (sym i) ∙ d }
+    let a : admits s k (Classified j v (keeps h found v)) ≡ true = only-first _ _ e (ap (list_any (admits s k)) m ∙ no-admits s k found v) in
+    let i : j ≡ k = eqb-true j k (admits-itself s k j v (keeps h found v) a) in
+    record { new = ap (is_classified found) (sym i) ∙ c; peers = ap (is_peers side) (sym i) ∙ p; some = λ n. admits-some s k j v (keeps h found v) a (sym w ∙ ap (verdict h) i ∙ n) }
 
 -- what closes a session says so of one that lives
 closing-lived : (side : Side) (h : History) (k : ℕ) (found new : List Finding) → Adds side h found new → list_any (closes_session k) new ≡ true → is_established h k ≡ true
@@ -110,28 +117,25 @@ members-more side h calls found new fresh x = record {
     there s k true e q = (fresh s k e).1
     there s k false e q = x.there s k (ap (λ (b : Bool). b || is_opened_for h s k) (sym (or-false (list_any (admits s k) found))) ∙ q)
 
-not-handed : (side : Side) (h : History) (calls : CallView) (found : List Finding) → Good side h calls found → (k : ℕ) → Admitted side found k → (is_handed_out h k ≡ false) × (exists side h k ≡ true)
-not-handed side h calls found g k a = (by (is_handed_out h k) refl, g.dequeued k a.dequeued)
+not-handed : (side : Side) (h : History) (calls : CallView) (found : List Finding) → Good side h calls found → (k : ℕ) → Admitted side h found k → (is_handed_out h k ≡ false) × (exists side h k ≡ true)
+not-handed side h calls found g k a = (by (is_handed_out h k) refl, verdict-there side h g.came k a.some)
   where
     by : (b : Bool) → is_handed_out h k ≡ b → b ≡ false
     by true e = absurd (let r : true ≡ false = sym (g.handed k e a.peers) ∙ a.new in cc r)
     by false e = refl
 
 -- each check of a moment keeps it
-pub good-kept : (side : Side) (h : History) (calls : CallView) → KeptThere side h (Good side h calls)
-good-kept side h calls found new a there f g = record {
+pub good-kept : (side : Side) (h : History) (calls : CallView) → Kept side h (Good side h calls)
+good-kept side h calls found new a f g = record {
   members = members-more side h calls found new (λ s k e. not-handed side h calls found g k (admitted-new side h s k found new a e)) g.members;
   handed = λ k e p. classified-more found new k (g.handed k e p);
   ended = λ k e p. classified-more found new k (g.ended k e p);
   known = λ k e p. classified-more found new k (g.known k e p);
   closed = closed-more side h found new a g.closed;
-  dequeued = there-more side h found new there g.dequeued;
+  came = g.came;
 }
 
-pub good-check : (side : Side) (h : History) (calls : CallView) (found : List Finding) (c : Check) → asks_there side h c ≡ true → fault_of found ≡ None → Good side h calls found → Good side h calls (found ++ found_by side h found c)
-good-check side h calls = check-keeps side h (Good side h calls) (good-kept side h calls)
-
-pub good-checks : (side : Side) (h : History) (calls : CallView) (cs : List Check) (found : List Finding) → list_all (asks_there side h) cs ≡ true → Good side h calls found → Good side h calls (after_checks side h cs found)
+pub good-checks : (side : Side) (h : History) (calls : CallView) (cs : List Check) (found : List Finding) → list_all (asks_peers side) cs ≡ true → Good side h calls found → Good side h calls (after_checks side h cs found)
 good-checks side h calls = checks-keep side h (Good side h calls) (good-kept side h calls)
 
 -- ---- what it is good for
