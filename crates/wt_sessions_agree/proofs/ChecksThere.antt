@@ -105,7 +105,7 @@ pub kind-checked : (side : Side) (h : History) (kind n count : ℕ) → ((i : �
 kind-checked side h kind n zero t = refl
 kind-checked side h kind n (suc count) t = rw (t n (omega arith), kind-checked side h kind (suc n) count (λ i l. t i (omega (arith, l)))) refl
 
-datagrams-checked : (side : Side) (h : History) (n : ℕ) (pieces : List (List ℕ)) → list_all (asks_there side h) (datagram_checks n pieces) ≡ true
+pub datagrams-checked : (side : Side) (h : History) (n : ℕ) (pieces : List (List ℕ)) → list_all (asks_there side h) (datagram_checks n pieces) ≡ true
 datagrams-checked side h n [] = refl
 datagrams-checked side h n (piece ∷ later) = datagrams-checked side h (suc n) later
 
@@ -143,7 +143,7 @@ there-checked side h =
 abbrev pub NewThere : Side → History → List Finding → Type 0
 NewThere side h new = (k : ℕ) → list_any (dequeues k) new ≡ true → exists side h k ≡ true
 
-none-there : (side : Side) (h : History) (new : List Finding) → ((k : ℕ) → list_any (dequeues k) new ≡ false) → NewThere side h new
+pub none-there : (side : Side) (h : History) (new : List Finding) → ((k : ℕ) → list_any (dequeues k) new ≡ false) → NewThere side h new
 none-there side h new n k e = absurd (let r : true ≡ false = sym e ∙ n k in cc r)
 
 fault-none : (k : ℕ) (b : Bool) (code : ErrorCode) → list_any (dequeues k) (fault_if b code) ≡ false
