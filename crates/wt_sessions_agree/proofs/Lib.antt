@@ -52,3 +52,4 @@ pub mod CallOpenings
 pub mod PendingLaws
 pub mod RestTurns
 pub mod CameLaws
+pub mod CallKeeps
