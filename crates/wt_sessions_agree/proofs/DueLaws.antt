@@ -169,7 +169,7 @@ record Answered (h : History) (r : ℕ) : Type 0 where
   idle : last_request h ≡ Some r → is_asked h ≡ false
 
 -- a call of the handshake asks that a response be due
-polls-due : (h : History) (c : Call) → may_call Server h c ≡ true → polls (turns.Call c) ≡ true → is_asked h ≡ true
+pub polls-due : (h : History) (c : Call) → may_call Server h c ≡ true → polls (turns.Call c) ≡ true → is_asked h ≡ true
 polls-due h (calls.Connect options lookup outcome) l p = absurd (cc l)
 polls-due h calls.Handshake l p = rw l (or-true (has_request h))
 polls-due h (calls.Accept headers) l p = rw (and-right (not (is_first h)) (has_request h) l) refl

@@ -40,6 +40,9 @@ pub mod EstablishTurns
 pub mod DueLaws
 pub mod MembersLaws
 pub mod DueEnds
+pub mod ReplyLaws
+pub mod ShakeLaws
+pub mod HandshakeTurns
 pub mod QuietLaws
 pub mod MomentSends
 pub mod ChecksThere
