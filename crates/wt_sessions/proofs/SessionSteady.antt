@@ -1,17 +1,16 @@
 -- The walk over a session's stream is steady: what it decides stays under more bytes, and rests on its item's own bytes.
 use Rattle.std.proofs.Common.{◌≡◌, ℕ, zero, suc, ◌+◌, ◌≤◌, Bool, true, false, List, [], ◌∷◌, ◌++◌, length, drop, Option, Some, None, cond, refl, sym, ap, ◌∙◌, arith}
-use Rattle.std.specs.Prelude.{◌==◌, nat_lt}
-use Rattle.std.proofs.lemmas.List.{length-append, length-drop, drop-append-le}
+use Rattle.std.specs.Prelude.{◌==◌}
+use Rattle.std.proofs.lemmas.List.{length-drop, drop-append-le}
 use Rattle.wt_proto.specs.declared.session_walk.SessionWalk.{SessionWalk}
-use Rattle.wt_proto.specs.declared.walk.Step.{Step}
-use Rattle.wt_proto.specs.declared.walk.Step.TheVariants.{Cut, Goes, Stops}
+use Rattle.wt_proto.specs.declared.walk.Step.TheVariants.{Cut, Stops}
 use Rattle.wt_proto.specs.Steady.{IsSteady, size_of_step}
 use Rattle.wt_proto.specs.WalkProgress.{WalkProgress, progress_after, reached_in}
 use Rattle.wt_proto.proofs.WalkLaws.{outcome-stays}
-use Rattle.wt_meaning.specs.SessionWalk.{SessionProgress, capsule_decides, data_byte, data_step, frame_step, frame_step_with_length, frame_step_with_type, is_over, session_decides, session_start, session_step, session_unfinished, session_walk_of}
+use Rattle.wt_meaning.specs.SessionWalk.{SessionProgress, capsule_decides, data_step, frame_step, frame_step_with_length, frame_step_with_type, is_over, session_decides, session_start, session_step, session_unfinished, session_walk_of}
 use Rattle.wt_wire.specs.declared.side.StreamEnd.{StreamEnd}
 use Rattle.wt_wire.specs.declared.side.StreamEnd.TheVariants.{Running}
-use Rattle.wt_wire.specs.Frames.{data_type, is_known_type, settings_type, signal_type}
+use Rattle.wt_wire.specs.Frames.{signal_type}
 use Rattle.wt_proto.specs.declared.session_walk.SessionWalk.TheVariants as walks
 use Rattle.wt_wire.specs.declared.error.ErrorCode.TheVariants.{FrameUnexpected}
 use Rattle.std.proofs.lemmas.Grind.{common_steps}

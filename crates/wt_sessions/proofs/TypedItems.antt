@@ -9,7 +9,7 @@ use Rattle.wt_proto.proofs.WantedLaws.{after-onward, after-still, varint-few, va
 use Rattle.wt_wire.specs.Varint.{varint_at}
 use Rattle.wt_wire.proofs.VarintLaws.{varint_at-front, varint_at-more, varint_at-within}
 
--- how an item is judged: some types at once, after so many bytes; others with their length, and how many bytes that wants
+-- how an item is judged: some types at once, after their own bytes; others with their length, and how many bytes that wants
 pub record Judge (O : Type 0) : Type 0 where
   pub early : ℕ → Bool
   pub at_once : ℕ → Step (Unit {0}) O
