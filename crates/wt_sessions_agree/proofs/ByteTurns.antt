@@ -27,7 +27,7 @@ use Rattle.wt_sessions_agree.specs.Agrees.{Agrees, IsTable}
 use Rattle.wt_sessions_agree.specs.Members.{MembersIn}
 use Rattle.wt_sessions_agree.specs.Orderly.{Orderly}
 use Rattle.wt_sessions_agree.specs.Stands.{CallsAgree, SeesAlike, Stands}
-use Rattle.wt_turn.specs.Log.{CallRecord, Entry, Log, Loss, Received, Reported, actions_of, calls_of, closes, events_of, with_actions}
+use Rattle.wt_turn.specs.Log.{CallRecord, Entry, Log, Loss, Received, Reported, ReportedLate, actions_of, calls_of, closes, events_of, with_actions}
 use Rattle.wt_turn.specs.Log as logs
 use Rattle.wt_turn.specs.declared.action.Action.{Action}
 use Rattle.wt_turn.specs.declared.loss.LossReason.{LossReason}
@@ -194,3 +194,37 @@ module _ (side : Side) (offset : ℕ → ℕ) (h : History) (log : Log) (x : Sta
           subst (λ (g : History). Orderly side g (call_view (log_after side log loss)) offset (findings side g)) (sym lost-is)
           (subst (λ (l : Log). Orderly side (lost ∷ h) (call_view l) offset (findings side (lost ∷ h))) (sym same-log)
           (subst (Orderly side (lost ∷ h) (call_view (Reported (Loss reason) ∷ log)) offset) (sym found) orderly))
+
+  -- after a close it is an event that comes late
+  pub loss-late : is_open h ≡ false → logs.is_open log ≡ false
+      → Orderly side (lost ∷ h) (call_view log) offset (findings side h)
+      → MembersIn side (step side h loss) (call_view (log_after side log loss)) (findings side (step side h loss))
+      → TurnAgrees side h log loss
+  loss-late o p orderly members = turn-agrees-by side offset h log x hist loss refl lawful sent opened table order members
+    where
+      after-is : log_after side log loss ≡ log_and_flush side log (ReportedLate (Loss reason))
+      after-is = ap (λ (b : Bool). log_and_flush side log (event_entry b (Loss reason))) p
+
+      same-log : log_after side log loss ≡ ReportedLate (Loss reason) ∷ log
+      same-log = after-is ∙ flush-as side log (ReportedLate (Loss reason))
+
+      sent : actions_of (log_after side log loss) ≡ newest_first (sends-now side h loss) (actions_of log)
+      sent = ap actions_of same-log
+
+      opened : is_open (step side h loss) ≡ logs.is_open (log_after side log loss)
+      opened = ap is_open lost-is ∙ closed-more h lost o ∙ sym p ∙ ap logs.is_open (sym same-log)
+
+      found : findings side (lost ∷ h) ≡ findings side h
+      found = found-same side lost h o
+
+      table : IsTable (findings side (step side h loss)) (stream_table side (log_after side log loss))
+      table =
+          subst (λ (g : History). IsTable (findings side g) (stream_table side (log_after side log loss))) (sym lost-is)
+          (subst (IsTable (findings side (lost ∷ h))) (sym (ap (stream_table side) after-is ∙ table-same side log (ReportedLate (Loss reason)) refl))
+          (subst (λ (found : List Finding). IsTable found (stream_table side log)) (sym found) x.table))
+
+      order : Orderly side (step side h loss) (call_view (log_after side log loss)) offset (findings side (step side h loss))
+      order =
+          subst (λ (g : History). Orderly side g (call_view (log_after side log loss)) offset (findings side g)) (sym lost-is)
+          (subst (λ (l : Log). Orderly side (lost ∷ h) (call_view l) offset (findings side (lost ∷ h))) (sym same-log)
+          (subst (Orderly side (lost ∷ h) (call_view log) offset) (sym found) orderly))
