@@ -33,7 +33,7 @@ idle side h (k ∷ ids) found r u = by (fault_of found) refl (idle side h ids fo
         ∙ check-step side h (Classify k) (stream_checks ids) found [] e p ∙ ap (after_checks side h (stream_checks ids)) (append-nil found) ∙ again
 
 pub kind-keeps : (side : Side) (h : History) (t : TransportView) (calls : CallView) (v : ℕ → Verdict) (kind count : ℕ) → kind < 4 → t.ready ≡ is_ready side h → ((m : ℕ) → verdict h (4 * m + kind) ≡ v (4 * m + kind)) → Admits h t calls
-    → (Keeps : List Finding → StreamTable → Type 0) → ScanKeeps h t calls kind count Keeps → (found : List Finding) (table : StreamTable) → (is_ready side h ≡ false → (k : ℕ) → is_dequeued found k ≡ false)
+    → (Keeps : List Finding → StreamTable → Type 0) → ScanKeeps h t calls kind Keeps → (found : List Finding) (table : StreamTable) → (is_ready side h ≡ false → (k : ℕ) → is_dequeued found k ≡ false)
     → ((i : ℕ) → is_dequeued found (4 * i + kind) ≡ true → is_classified found (4 * i + kind) ≡ false → nat_lt (length (filter (λ (j : ℕ). not (is_classified found j)) (ids_from kind 0 i))) 4 ≡ true)
     → Keeps found table → Keeps (after_checks side h (stream_checks (ids_from kind 0 count)) found) (scan_kind t calls v (stream_ids kind 0 count) table)
 kind-keeps side h t calls v kind count small same seen admits Keeps kept found table untaken few holds = by (is_ready side h) refl
@@ -44,11 +44,11 @@ kind-keeps side h t calls v kind count small same seen admits Keeps kept found t
         let q : t.ready ≡ true = same ∙ e in
         let u : filter (is_unclassified table) (ids_from kind 0 count) ≡ filter (λ (j : ℕ). not (is_classified found j)) (ids_from kind 0 count)
               = filter-ids (is_unclassified table) (λ (j : ℕ). not (is_classified found j)) kind 0 count (λ i a b. sym (ripe-agrees (4 * i + kind) found table (kept.table found table holds))) in
-        rw (q, ids-same kind 0 count, u) (scan-keeps side h t calls v kind small e seen admits Keeps count kept found table few holds)
+        rw (q, ids-same kind 0 count, u) (scan-keeps side h t calls v kind small e seen admits Keeps kept count found table few holds)
 
 -- they lead to the table that holds what was found
 pub kind-agrees : (side : Side) (h : History) (t : TransportView) (calls : CallView) (v : ℕ → Verdict) (kind count : ℕ) → kind < 4 → t.ready ≡ is_ready side h → ((m : ℕ) → verdict h (4 * m + kind) ≡ v (4 * m + kind)) → Admits h t calls
     → (found : List Finding) (table : StreamTable) → (is_ready side h ≡ false → (k : ℕ) → is_dequeued found k ≡ false)
     → ((i : ℕ) → is_dequeued found (4 * i + kind) ≡ true → is_classified found (4 * i + kind) ≡ false → nat_lt (length (filter (λ (j : ℕ). not (is_classified found j)) (ids_from kind 0 i))) 4 ≡ true)
     → IsTable found table → IsTable (after_checks side h (stream_checks (ids_from kind 0 count)) found) (scan_kind t calls v (stream_ids kind 0 count) table)
-kind-agrees side h t calls v kind count small same seen admits = kind-keeps side h t calls v kind count small same seen admits IsTable (table-kept h t calls kind count)
+kind-agrees side h t calls v kind count small same seen admits = kind-keeps side h t calls v kind count small same seen admits IsTable (table-kept h t calls kind)

@@ -45,7 +45,6 @@ pub mod ShakeLaws
 pub mod HandshakeTurns
 pub mod QuietLaws
 pub mod MomentSends
-pub mod ChecksThere
 pub mod MembersKept
 pub mod RestKinds
 pub mod RestLaws

@@ -6,7 +6,7 @@ use Rattle.std.proofs.lemmas.List.Folds.{list_all-append}
 use Rattle.wt_meaning.specs.Findings.{Finding}
 use Rattle.wt_meaning.specs.History.{History, events, stream_count}
 use Rattle.wt_meaning.specs.Moments.{Check, ControlFault, DecoderEnd, EncoderEnd, LocalStop, ReadSettings, WalkSession, after_checks, checks, datagram_checks, ids_from, stream_checks}
-use Rattle.wt_promise.proofs.Grows.{asks_peers, peers-checked}
+use Rattle.wt_promise.proofs.Grows.{asks_peers, is_peers, peers-checked}
 use Rattle.wt_proto.specs.Bi.{bi_verdict_of}
 use Rattle.wt_proto.specs.Uni.{uni_verdict_of}
 use Rattle.wt_seam_spec.specs.Reports.{datagrams_of}
@@ -14,7 +14,6 @@ use Rattle.wt_seam_spec.specs.Streams.{peer_bi, peer_count, peer_uni}
 use Rattle.wt_sessions.specs.Scan.{check_sessions, in_order, on_progress, scan_bis, scan_order, scan_unis, take_datagrams, with_no_actions}
 use Rattle.wt_sessions.specs.StreamTable.{CallView, StreamTable, TransportView}
 use Rattle.wt_sessions_agree.proofs.Appends.{and-left}
-use Rattle.wt_sessions_agree.proofs.ChecksThere.{bi-there, is_there, uni-there}
 use Rattle.wt_sessions_agree.proofs.CriticalLaws.{checks-append, critical-agrees, critical_steps, step-keeps}
 use Rattle.wt_sessions_agree.proofs.DatagramLaws.{datagrams-agree}
 use Rattle.wt_sessions_agree.proofs.KindLaws.{kind-keeps}
@@ -53,6 +52,14 @@ bi-direction : (side : Side) (m : ℕ) → is_bidirectional (4 * m + peer_bi sid
 bi-direction Client m = is-zero ((4 * m + 1) / 2 % 2) (omega arith)
 bi-direction Server m = is-zero ((4 * m + 0) / 2 % 2) (omega arith)
 
+uni-peers : (side : Side) (m : ℕ) → is_peers side (4 * m + peer_uni side) ≡ true
+uni-peers Client m = let r : (4 * m + 3) % 4 ≡ 3 = omega arith in rw r refl
+uni-peers Server m = let r : (4 * m + 2) % 4 ≡ 2 = omega arith in rw r refl
+
+bi-peers : (side : Side) (m : ℕ) → is_peers side (4 * m + peer_bi side) ≡ true
+bi-peers Client m = let r : (4 * m + 1) % 4 ≡ 1 = omega arith in rw r refl
+bi-peers Server m = let r : (4 * m + 0) % 4 ≡ 0 = omega arith in rw r refl
+
 -- ---- the whole moment
 
 abbrev pub critical_checks : List Check
@@ -60,7 +67,7 @@ critical_checks = LocalStop ∷ ReadSettings ∷ ControlFault ∷ EncoderEnd ∷
 
 -- what each part of a moment keeps, of what was found and the table; of datagrams and critical streams the table is known
 pub record MomentKeeps (side : Side) (h : History) (t : TransportView) (calls : CallView) (Keeps : List Finding → StreamTable → Type 0) : Type 0 where
-  pub scanned : (kind total : ℕ) → ((m : ℕ) → m < total → is_there side h (4 * m + kind) ≡ true) → ScanKeeps h t calls kind total Keeps
+  pub scanned : (kind : ℕ) → ((m : ℕ) → is_peers side (4 * m + kind) ≡ true) → ScanKeeps h t calls kind Keeps
   pub read : (found : List Finding) (table : StreamTable) → IsTable (after_checks side h (datagram_checks 0 (datagrams_of (events h))) found) (take_datagrams t calls table) → Keeps found table
       → Keeps (after_checks side h (datagram_checks 0 (datagrams_of (events h))) found) (take_datagrams t calls table)
   pub walked : WalkKeeps h t calls Keeps
@@ -101,13 +108,13 @@ module _ (side : Side) (h : History) (t : TransportView) (calls : CallView) (off
   unis-keep : (found : List Finding) (table : StreamTable) → Orderly side h calls offset found → Keeps found table → Keeps (after_checks side h unis found) (scan_unis t calls table)
   unis-keep found table o holds =
       rw (s.views.own, s.unis) (kind-keeps side h t calls (λ (k : ℕ). uni_verdict_of (t.contents k) (t.end k)) (peer_uni side) (peer_count side (events h) (peer_uni side)) (uni-small side) s.ready
-      (λ m. rw (uni-direction side m, s.views.contents (4 * m + peer_uni side), s.views.end (4 * m + peer_uni side)) refl) (admits-agree h t calls s.calls) Keeps (kept.scanned (peer_uni side) (peer_count side (events h) (peer_uni side)) (uni-there side h)) found table o.none_early (o.few (peer_uni side) (uni-small side)) holds)
+      (λ m. rw (uni-direction side m, s.views.contents (4 * m + peer_uni side), s.views.end (4 * m + peer_uni side)) refl) (admits-agree h t calls s.calls) Keeps (kept.scanned (peer_uni side) (uni-peers side)) found table o.none_early (o.few (peer_uni side) (uni-small side)) holds)
 
   -- its bidirectional ones
   bis-keep : (found : List Finding) (table : StreamTable) → Orderly side h calls offset found → Keeps found table → Keeps (after_checks side h bis found) (scan_bis t calls table)
   bis-keep found table o holds =
       rw (s.views.own, s.bis) (kind-keeps side h t calls (λ (k : ℕ). bi_verdict_of (t.contents k) (t.end k)) (peer_bi side) (peer_count side (events h) (peer_bi side)) (bi-small side) s.ready
-      (λ m. rw (bi-direction side m, s.views.contents (4 * m + peer_bi side), s.views.end (4 * m + peer_bi side)) refl) (admits-agree h t calls s.calls) Keeps (kept.scanned (peer_bi side) (peer_count side (events h) (peer_bi side)) (bi-there side h)) found table o.none_early (o.few (peer_bi side) (bi-small side)) holds)
+      (λ m. rw (bi-direction side m, s.views.contents (4 * m + peer_bi side), s.views.end (4 * m + peer_bi side)) refl) (admits-agree h t calls s.calls) Keeps (kept.scanned (peer_bi side) (bi-peers side)) found table o.none_early (o.few (peer_bi side) (bi-small side)) holds)
 
   -- the established sessions
   sessions-keep : (found : List Finding) (table : StreamTable) → Orderly side h calls offset found → Keeps found table → Keeps (after_checks side h sessions found) (check_sessions t calls table)
@@ -144,7 +151,7 @@ pub moment-agrees : (side : Side) (h : History) (t : TransportView) (calls : Cal
     → (found : List Finding) (table : StreamTable) → Orderly side h calls offset found → IsTable found table → IsTable (after_checks side h (checks side h) found) (scan_order t calls table)
 moment-agrees side h t calls offset s found table o holds =
     moment-keeps side h t calls offset s IsTable (record {
-      scanned = λ kind total there. table-kept h t calls kind total;
+      scanned = λ kind peers. table-kept h t calls kind;
       read = λ found table later before. later;
       walked = table-walked h t calls;
       critical = λ found table later before. later;

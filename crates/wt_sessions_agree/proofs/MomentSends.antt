@@ -1,19 +1,18 @@
 -- What a moment sends beside this end's control stream: what its findings lead to is what its steps gathered, and the close for a fault.
-use Rattle.std.specs.Prelude.{[], ◌&&◌, ◌*◌, ◌++◌, ◌+◌, ◌<◌, ◌==◌, ◌||◌, ◌∷◌, ◌≡◌, Bool, Err, List, None, Ok, Option, Result, Some, drop, false, filter, if◌then◌else◌, is_some, length, map, nat_lt, not, suc, true, ℕ}
-use Rattle.std.specs.List.{list_all, list_any}
+use Rattle.std.specs.Prelude.{[], ◌&&◌, ◌*◌, ◌++◌, ◌+◌, ◌==◌, ◌||◌, ◌∷◌, ◌≡◌, Bool, Err, List, None, Ok, Option, Result, Some, drop, false, filter, if◌then◌else◌, is_some, length, map, nat_lt, not, suc, true, ℕ}
+use Rattle.std.specs.List.{list_all}
 use Rattle.std.specs.Option.{option_or}
 use Rattle.std.proofs.Common.{◌∙◌, ap, append_assoc, refl, subst, sym}
 use Rattle.std.proofs.Math.Seq.{drop-append_seam}
-use Rattle.std.proofs.lemmas.Bool.{eqb-true}
 use Rattle.std.proofs.lemmas.List.{append-nil}
-use Rattle.wt_meaning.specs.Findings.{Classified, Dequeued, Faulted, Finding, SessionClosed, SettingsRead, control_in, decoder_in, dequeues, encoder_in, fault_in, fault_of, first_of, is_classified, is_datagram, is_dequeued, settings_came}
-use Rattle.wt_meaning.specs.History.{History, exists, events}
+use Rattle.wt_meaning.specs.Findings.{Classified, Dequeued, Faulted, Finding, SessionClosed, SettingsRead, control_in, decoder_in, encoder_in, fault_in, fault_of, first_of, is_classified, is_datagram, is_dequeued, settings_came}
+use Rattle.wt_meaning.specs.History.{History, events}
 use Rattle.wt_meaning.specs.Moments.{Check, ControlFault, DecoderEnd, EncoderEnd, LocalStop, ReadDatagram, ReadSettings, after_checks, checks, control_walk, datagram_checks, datagram_found, end_fault, fault_if, found_by, is_ready, keeps, session_found, stream_fault, verdict}
 use Rattle.wt_meaning.specs.Sends.{actions_for, actions_for_all, session_finish, session_gone_actions}
 use Rattle.wt_meaning.specs.Sends as sends
 use Rattle.wt_meaning.specs.Windows.{is_gone, lives}
 use Rattle.wt_message.specs.Datagram.{datagram_of}
-use Rattle.wt_promise.proofs.Grows.{AClassified, AClosed, ADequeued, AFault, checks-add, first_of-append, is_peers, more, of-stream-fault}
+use Rattle.wt_promise.proofs.Grows.{AClassified, AClosed, ADequeued, AFault, Kept, asks_peers, checks-add, checks-keep, first_of-append, is_peers, more}
 use Rattle.wt_proto.specs.ControlWalk.{control_walk_of}
 use Rattle.wt_proto.specs.declared.control_walk.ControlWalk.{ControlWalk}
 use Rattle.wt_proto.specs.declared.session_walk.SessionWalk.{SessionWalk}
@@ -24,8 +23,7 @@ use Rattle.wt_sessions.specs.Driver.{close_actions}
 use Rattle.wt_sessions.specs.Scan.{admit_datagram, check_control, check_qpack, critical_if, in_order, is_admitted, on_progress, scan_order, session_end, session_walked, take_datagrams, take_each, take_parsed, unless_ended, with_classified, with_fault, with_more, with_no_actions}
 use Rattle.wt_sessions.specs.StreamTable.{CallView, Consequence, DriverProgress, StreamTable, TransportView, admit_or_stop, consequence, control_start, decoder_start, dispatched_streams, encoder_start, first_at, gone_actions, has_room, only_once}
 use Rattle.wt_sessions.specs.StreamTable as tables
-use Rattle.wt_sessions_agree.proofs.Appends.{and-left, and-right, cons-append, or-false, table-same}
-use Rattle.wt_sessions_agree.proofs.ChecksThere.{KeptThere, asks_there, checks-keep, datagrams-checked, is_there, none-there}
+use Rattle.wt_sessions_agree.proofs.Appends.{and-left, and-right, cons-append, table-same}
 use Rattle.wt_sessions_agree.proofs.CriticalLaws.{critical_steps}
 use Rattle.wt_sessions_agree.proofs.MomentAgrees.{MomentKeeps, critical_checks, moment-keeps}
 use Rattle.wt_sessions_agree.proofs.ScanLaws.{ScanKeeps, checks-faulty, faults-agree, faults_of, ripe-table}
@@ -137,6 +135,10 @@ reads-quiet : (n : ℕ) (pieces : List (List ℕ)) → list_all is_quiet (datagr
 reads-quiet n [] = refl
 reads-quiet n (piece ∷ later) = reads-quiet (suc n) later
 
+reads-peers : (side : Side) (n : ℕ) (pieces : List (List ℕ)) → list_all (asks_peers side) (datagram_checks n pieces) ≡ true
+reads-peers side n [] = refl
+reads-peers side n (piece ∷ later) = reads-peers side (suc n) later
+
 -- ---- steps that gather nothing
 
 faults-act : (o : Option ErrorCode) (p : DriverProgress) → (with_fault o p).actions ≡ p.actions
@@ -209,7 +211,7 @@ critical-acts t table = in-order-acts (critical_steps t) (own, (controlled, (enc
 
 -- ---- the whole moment
 
-module _ (side : Side) (h : History) (t : TransportView) (calls : CallView) (offset : ℕ → ℕ) (s : SeesAlike side h t calls offset) (Good : List Finding → Type 0) (kept : KeptThere side h Good)
+module _ (side : Side) (h : History) (t : TransportView) (calls : CallView) (offset : ℕ → ℕ) (s : SeesAlike side h t calls offset) (Good : List Finding → Type 0) (kept : Kept side h Good)
     (alike : (found : List Finding) (table : StreamTable) → Good found → IsTable found table → (k : ℕ) → is_gone h found k ≡ false → session_gone_actions side h found k ≡ gone_actions t (dispatched_streams calls table) k)
     (fresh : (found : List Finding) → Good found → (k : ℕ) → is_peers side k ≡ true → is_classified found k ≡ false → is_gone h found k ≡ false)
     (base : List Action) where
@@ -235,9 +237,6 @@ module _ (side : Side) (h : History) (t : TransportView) (calls : CallView) (off
       ∙ ap (λ (l : List Action). base ++ l) (sym (append_assoc table.progress.actions own (close_actions later.progress.fault)) ∙ ap (λ (l : List Action). l ++ close_actions later.progress.fault) (sym a))
 
   -- ---- a stream that is classified
-
-  no-dequeue : (j : ℕ) (found : List Finding) (v : Verdict) → list_any (dequeues j) (stream_fault found v) ≡ false
-  no-dequeue j = of-stream-fault (λ (fs : List Finding). list_any (dequeues j) fs ≡ false) refl (λ code. refl)
 
   ripe-acts : (found : List Finding) (table : StreamTable) (k : ℕ) (w : Verdict) → Good found → IsTable found table → is_peers side k ≡ true → is_classified found k ≡ false
       → actions_for side h found (Classified k w (consequence t (dispatched_streams calls table) k w).admitted) ≡ (consequence t (dispatched_streams calls table) k w).actions
@@ -283,7 +282,7 @@ module _ (side : Side) (h : History) (t : TransportView) (calls : CallView) (off
         (rw (ripe-acts found table k w keep.good keep.holds p r, fault-sends side h (found ++ Classified k w c.admitted ∷ []) c.fault)
         (ap (λ (o : Option ErrorCode). c.actions ++ close_actions o) (sym (now-fault c.fault (with_more c.actions table.progress) none)))));
     good = subst Good (ap (λ (l : List Finding). found ++ l) same ∙ cons-append found (Classified k w c.admitted) (faults_of c.fault))
-        (kept found (Classified k w (keeps h found w) ∷ stream_fault found w) (AClassified k w (stream_fault found w) p d r v refl) (none-there side h (Classified k w (keeps h found w) ∷ stream_fault found w) (λ j. no-dequeue j found w)) f keep.good);
+        (kept found (Classified k w (keeps h found w) ∷ stream_fault found w) (AClassified k w (stream_fault found w) p d r v refl) f keep.good);
   }
     where
       c : Consequence
@@ -299,18 +298,18 @@ module _ (side : Side) (h : History) (t : TransportView) (calls : CallView) (off
       now-fault None p e = e
       now-fault (Some code) p e = refl
 
-  scan-kept : (kind total : ℕ) → ((m : ℕ) → m < total → is_there side h (4 * m + kind) ≡ true) → ScanKeeps h t calls kind total Keeps
-  scan-kept kind total there = record {
+  scan-kept : (kind : ℕ) → ((m : ℕ) → is_peers side (4 * m + kind) ≡ true) → ScanKeeps h t calls kind Keeps
+  scan-kept kind peers = record {
     table = λ found table keep. keep.holds;
-    taken = λ m lt found table f keep. taken m lt found table f keep;
-    ripe = λ m lt found table w f d r v keep. ripe-keeps found table (4 * m + kind) w f (and-left (is_peers side (4 * m + kind)) (exists side h (4 * m + kind)) (there m lt)) d r v keep;
+    taken = λ m found table f keep. taken m found table f keep;
+    ripe = λ m found table w f d r v keep. ripe-keeps found table (4 * m + kind) w f (peers m) d r v keep;
   }
     where
-      taken : (m : ℕ) → m < total → (found : List Finding) (table : StreamTable) → fault_of found ≡ None → Keeps found table → Keeps (found ++ Dequeued (4 * m + kind) ∷ []) table
-      taken m lt found table f keep = record {
+      taken : (m : ℕ) (found : List Finding) (table : StreamTable) → fault_of found ≡ None → Keeps found table → Keeps (found ++ Dequeued (4 * m + kind) ∷ []) table
+      taken m found table f keep = record {
         holds = table-same found table (Dequeued (4 * m + kind)) refl refl refl refl refl refl keep.holds;
         sends = let n : table.progress.fault ≡ None = sym keep.holds.fault ∙ f in step-sends found (Dequeued (4 * m + kind) ∷ []) table table [] keep.sends n (sym (append-nil table.progress.actions)) (ap close_actions (sym n));
-        good = kept found (Dequeued (4 * m + kind) ∷ []) (ADequeued (4 * m + kind) (and-left (is_peers side (4 * m + kind)) (exists side h (4 * m + kind)) (there m lt))) (λ j e. ap (exists side h) (sym (eqb-true (4 * m + kind) j (sym (or-false (4 * m + kind == j)) ∙ e))) ∙ and-right (is_peers side (4 * m + kind)) (exists side h (4 * m + kind)) (there m lt)) f keep.good;
+        good = kept found (Dequeued (4 * m + kind) ∷ []) (ADequeued (4 * m + kind) (peers m)) f keep.good;
       }
 
   -- ---- a session that is walked
@@ -321,14 +320,14 @@ module _ (side : Side) (h : History) (t : TransportView) (calls : CallView) (off
   walked found table k by_capsule (walks.Fault code) f l keep = record {
     holds = walked-table t calls found table k by_capsule (walks.Fault code) f keep.holds;
     sends = step-sends found (Faulted code ∷ []) table (session_walked t calls k by_capsule (walks.Fault code) table) [] keep.sends (sym keep.holds.fault ∙ f) (sym (append-nil table.progress.actions)) refl;
-    good = kept found (Faulted code ∷ []) (AFault code) (λ j e. absurd (cc e)) f keep.good;
+    good = kept found (Faulted code ∷ []) (AFault code) f keep.good;
   }
   walked found table k by_capsule (walks.Closed code reason) f l keep = record {
     holds = walked-table t calls found table k by_capsule (walks.Closed code reason) f keep.holds;
     sends = step-sends found (SessionClosed k code reason by_capsule ∷ []) table (session_walked t calls k by_capsule (walks.Closed code reason) table) (session_end t k by_capsule ++ gone_actions t (dispatched_streams calls table) k) keep.sends none refl
         (append-nil (actions_for side h found (SessionClosed k code reason by_capsule)) ∙ acts by_capsule ∙ sym (append-nil (session_end t k by_capsule ++ gone_actions t (dispatched_streams calls table) k))
         ∙ ap (λ (o : Option ErrorCode). (session_end t k by_capsule ++ gone_actions t (dispatched_streams calls table) k) ++ close_actions o) (sym none));
-    good = kept found (SessionClosed k code reason by_capsule ∷ []) (AClosed k code reason by_capsule l) (λ j e. absurd (cc e)) f keep.good;
+    good = kept found (SessionClosed k code reason by_capsule ∷ []) (AClosed k code reason by_capsule l) f keep.good;
   }
     where
       none : table.progress.fault ≡ None
@@ -355,7 +354,7 @@ module _ (side : Side) (h : History) (t : TransportView) (calls : CallView) (off
 
   -- ---- datagrams and critical streams
 
-  quiet-keeps : (cs : List Check) → list_all is_quiet cs ≡ true → list_all (asks_there side h) cs ≡ true → (found : List Finding) (table later : StreamTable) → later.progress.actions ≡ table.progress.actions
+  quiet-keeps : (cs : List Check) → list_all is_quiet cs ≡ true → list_all (asks_peers side) cs ≡ true → (found : List Finding) (table later : StreamTable) → later.progress.actions ≡ table.progress.actions
       → IsTable (after_checks side h cs found) later → Keeps found table → Keeps (after_checks side h cs found) later
   quiet-keeps cs q a found table later e holds keep = record { holds = holds; sends = by (fault_of found) refl; good = checks-keep side h Good kept cs found a keep.good }
     where
@@ -373,8 +372,8 @@ module _ (side : Side) (h : History) (t : TransportView) (calls : CallView) (off
 
   moment-kept : MomentKeeps side h t calls Keeps
   moment-kept = record {
-    scanned = λ kind total there. scan-kept kind total there;
-    read = λ found table holds keep. quiet-keeps (datagram_checks 0 (datagrams_of (events h))) (reads-quiet 0 (datagrams_of (events h))) (datagrams-checked side h 0 (datagrams_of (events h))) found table _ (datagrams-acts t calls table) holds keep;
+    scanned = λ kind peers. scan-kept kind peers;
+    read = λ found table holds keep. quiet-keeps (datagram_checks 0 (datagrams_of (events h))) (reads-quiet 0 (datagrams_of (events h))) (reads-peers side 0 (datagrams_of (events h))) found table _ (datagrams-acts t calls table) holds keep;
     walked = walk-kept;
     critical = λ found table holds keep. quiet-keeps critical_checks refl refl found table _ (critical-acts t table) holds keep;
   }
@@ -382,7 +381,7 @@ module _ (side : Side) (h : History) (t : TransportView) (calls : CallView) (off
 -- ---- what a moment sends
 
 -- what goes out for all that a moment finds
-pub moment-sends : (side : Side) (h : History) (t : TransportView) (calls : CallView) (offset : ℕ → ℕ) → SeesAlike side h t calls offset → (Good : List Finding → Type 0) → KeptThere side h Good
+pub moment-sends : (side : Side) (h : History) (t : TransportView) (calls : CallView) (offset : ℕ → ℕ) → SeesAlike side h t calls offset → (Good : List Finding → Type 0) → Kept side h Good
     → ((found : List Finding) (table : StreamTable) → Good found → IsTable found table → (k : ℕ) → is_gone h found k ≡ false → session_gone_actions side h found k ≡ gone_actions t (dispatched_streams calls table) k)
     → ((found : List Finding) → Good found → (k : ℕ) → is_peers side k ≡ true → is_classified found k ≡ false → is_gone h found k ≡ false)
     → (found : List Finding) (table : StreamTable) → Orderly side h calls offset found → Good found → IsTable found table → fault_of found ≡ None

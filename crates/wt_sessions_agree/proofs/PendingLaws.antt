@@ -9,13 +9,12 @@ use Rattle.wt_meaning.specs.Moments.{checks, findings}
 use Rattle.wt_meaning.specs.Sends.{actions_for_all, moment_actions, session_gone_actions}
 use Rattle.wt_meaning.specs.Sends as sends
 use Rattle.wt_meaning.specs.Windows.{is_gone, session_in}
-use Rattle.wt_promise.proofs.Grows.{is_peers, more, more-by, news-dropped, news-open}
+use Rattle.wt_promise.proofs.Grows.{Kept, is_peers, more, more-by, news-dropped, news-open}
 use Rattle.wt_seam_spec.specs.Streams.{local_uni}
 use Rattle.wt_sessions.specs.Driver.{actions_after, apply_if, call_view, close_actions, control_actions, control_sent, is_moment, pending_actions, stream_table, transport_view}
 use Rattle.wt_sessions.specs.Scan.{scan_order}
 use Rattle.wt_sessions.specs.StreamTable.{StreamTable, dispatched_streams, gone_actions}
 use Rattle.wt_sessions_agree.proofs.AnswerLaws.{control-agrees}
-use Rattle.wt_sessions_agree.proofs.ChecksThere.{KeptThere}
 use Rattle.wt_sessions_agree.proofs.MomentSends.{moment-sends}
 use Rattle.wt_sessions_agree.specs.Agrees.{IsTable}
 use Rattle.wt_sessions_agree.specs.Orderly.{Orderly}
@@ -59,7 +58,7 @@ was-open p h o = by (ends_by p) (list_any ends_by h) o
 
 module _ (side : Side) (offset : ℕ → ℕ) (p : Pair) (h : History) (log : Log) (e : Entry) (opened : is_open (p ∷ h) ≡ true) (moment : (is_moment e && logs.is_open (e ∷ log)) ≡ true)
     (at : events (p ∷ h) ≡ events_of (e ∷ log)) (out : SameOut (actions_out (p ∷ h)) (actions_of (e ∷ log))) (s : SeesAlike side (p ∷ h) (transport_view side (e ∷ log)) (call_view (e ∷ log)) offset)
-    (Good : List Finding → Type 0) (kept : KeptThere side (p ∷ h) Good)
+    (Good : List Finding → Type 0) (kept : Kept side (p ∷ h) Good)
     (alike : (found : List Finding) (table : StreamTable) → Good found → IsTable found table → (k : ℕ) → is_gone (p ∷ h) found k ≡ false
         → session_gone_actions side (p ∷ h) found k ≡ gone_actions (transport_view side (e ∷ log)) (dispatched_streams (call_view (e ∷ log)) table) k)
     (fresh : (found : List Finding) → Good found → (k : ℕ) → is_peers side k ≡ true → is_classified found k ≡ false → is_gone (p ∷ h) found k ≡ false)

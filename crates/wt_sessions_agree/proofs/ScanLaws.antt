@@ -121,24 +121,24 @@ lt-less a b l e = grind (arith, l, e)
 abbrev pub Admits : History → TransportView → CallView → Type 0
 Admits h t calls = (found : List Finding) (table : StreamTable) (k : ℕ) (w : Verdict) → IsTable found table → (consequence t (dispatched_streams calls table) k w).admitted ≡ keeps h found w
 
--- what the step of a kind's streams, of which there are so many, keeps of what was found and the table
-pub record ScanKeeps (h : History) (t : TransportView) (calls : CallView) (kind total : ℕ) (Keeps : List Finding → StreamTable → Type 0) : Type 0 where
+-- what the step of a kind's streams keeps, of what was found and the table
+pub record ScanKeeps (h : History) (t : TransportView) (calls : CallView) (kind : ℕ) (Keeps : List Finding → StreamTable → Type 0) : Type 0 where
   pub table : (found : List Finding) (table : StreamTable) → Keeps found table → IsTable found table
-  pub taken : (m : ℕ) → m < total → (found : List Finding) (table : StreamTable) → fault_of found ≡ None → Keeps found table → Keeps (found ++ Dequeued (4 * m + kind) ∷ []) table
-  pub ripe : (m : ℕ) → m < total → (found : List Finding) (table : StreamTable) (w : Verdict) → fault_of found ≡ None → is_dequeued found (4 * m + kind) ≡ true → is_classified found (4 * m + kind) ≡ false → verdict h (4 * m + kind) ≡ w → Keeps found table
+  pub taken : (m : ℕ) (found : List Finding) (table : StreamTable) → fault_of found ≡ None → Keeps found table → Keeps (found ++ Dequeued (4 * m + kind) ∷ []) table
+  pub ripe : (m : ℕ) (found : List Finding) (table : StreamTable) (w : Verdict) → fault_of found ≡ None → is_dequeued found (4 * m + kind) ≡ true → is_classified found (4 * m + kind) ≡ false → verdict h (4 * m + kind) ≡ w → Keeps found table
       → let c = consequence t (dispatched_streams calls table) (4 * m + kind) w in Keeps ((found ++ finds.Classified (4 * m + kind) w c.admitted ∷ []) ++ faults_of c.fault) (with_classified (4 * m + kind) w c table)
 
 -- that the table holds what was found is kept
-pub table-kept : (h : History) (t : TransportView) (calls : CallView) (kind total : ℕ) → ScanKeeps h t calls kind total IsTable
-table-kept h t calls kind total = record {
+pub table-kept : (h : History) (t : TransportView) (calls : CallView) (kind : ℕ) → ScanKeeps h t calls kind IsTable
+table-kept h t calls kind = record {
   table = λ found table holds. holds;
-  taken = λ m lt found table f holds. table-same found table (Dequeued (4 * m + kind)) refl refl refl refl refl refl holds;
-  ripe = λ m lt found table w f d r e holds.
+  taken = λ m found table f holds. table-same found table (Dequeued (4 * m + kind)) refl refl refl refl refl refl holds;
+  ripe = λ m found table w f d r e holds.
       let c : Consequence = consequence t (dispatched_streams calls table) (4 * m + kind) w in ripe-table found table (4 * m + kind) w c.admitted c.actions c.fault f holds;
 }
 
 module _ (side : Side) (h : History) (t : TransportView) (calls : CallView) (v : ℕ → Verdict) (kind : ℕ) (small : kind < 4) (ready : is_ready side h ≡ true) (seen : (m : ℕ) → verdict h (4 * m + kind) ≡ v (4 * m + kind)) (admits : Admits h t calls)
-    (Keeps : List Finding → StreamTable → Type 0) (total : ℕ) (kept : ScanKeeps h t calls kind total Keeps) where
+    (Keeps : List Finding → StreamTable → Type 0) (kept : ScanKeeps h t calls kind Keeps) where
   -- the stream is unsettled
   abbrev unripe : List Finding → ℕ → Bool
   unripe found j = not (is_classified found j)
@@ -161,7 +161,6 @@ module _ (side : Side) (h : History) (t : TransportView) (calls : CallView) (v :
     few : Few later
     holds : Keeps later table
     none : fault_of later ≡ None
-    within : m < total
 
   -- one more ripe stream leaves fewer unsettled
   fewer : (found later : List Finding) → ((j : ℕ) → is_classified found j ≡ true → is_classified later j ≡ true) → (i : ℕ) → unsettled later i ≤ unsettled found i
@@ -172,15 +171,14 @@ module _ (side : Side) (h : History) (t : TransportView) (calls : CallView) (v :
       by j true e q = absurd (cc (sym q ∙ ap not (more j e)))
 
   -- the stream is taken now
-  now-taken : (m : ℕ) → m < total → (found : List Finding) (table : StreamTable) → nat_lt (unsettled found m) 4 ≡ true → fault_of found ≡ None → Few found → Keeps found table → Took m found (found ++ Dequeued (4 * m + kind) ∷ []) table
-  now-taken m within found table lt f few holds = record {
+  now-taken : (m : ℕ) (found : List Finding) (table : StreamTable) → nat_lt (unsettled found m) 4 ≡ true → fault_of found ≡ None → Few found → Keeps found table → Took m found (found ++ Dequeued (4 * m + kind) ∷ []) table
+  now-taken m found table lt f few holds = record {
     ripe = same;
     taken = dequeued-append found (Dequeued (4 * m + kind)) (4 * m + kind) ∙ ap (λ b. is_dequeued found (4 * m + kind) || b) (self (4 * m + kind) ∙ sym lt);
     few = λ i x y. lt-less _ (unsettled found i) (fewer found (found ++ Dequeued (4 * m + kind) ∷ []) (λ j q. same j ∙ q) i)
         (by i (4 * m + kind == 4 * i + kind) refl (sym (dequeued-append found (Dequeued (4 * m + kind)) (4 * i + kind)) ∙ x) (sym (same (4 * i + kind)) ∙ y));
-    holds = kept.taken m within found table f holds;
+    holds = kept.taken m found table f holds;
     none = first-append fault_in found (Dequeued (4 * m + kind)) ∙ or-none (fault_of found) ∙ f;
-    within = within;
   }
     where
       same : (j : ℕ) → is_classified (found ++ Dequeued (4 * m + kind) ∷ []) j ≡ is_classified found j
@@ -194,23 +192,23 @@ module _ (side : Side) (h : History) (t : TransportView) (calls : CallView) (v :
       by i false e x y = few i (sym (or-false (is_dequeued found (4 * i + kind))) ∙ sym (ap (λ b. is_dequeued found (4 * i + kind) || b) e) ∙ x) y
 
   -- nothing changes
-  not-taken : (m : ℕ) → m < total → (found : List Finding) (table : StreamTable) → (is_dequeued found (4 * m + kind) ≡ (is_dequeued found (4 * m + kind) || nat_lt (unsettled found m) 4)) → fault_of found ≡ None → Few found → Keeps found table
+  not-taken : (m : ℕ) (found : List Finding) (table : StreamTable) → (is_dequeued found (4 * m + kind) ≡ (is_dequeued found (4 * m + kind) || nat_lt (unsettled found m) 4)) → fault_of found ≡ None → Few found → Keeps found table
       → Took m found (found ++ []) table
-  not-taken m within found table e f few holds = subst (λ (l : List Finding). Took m found l table) (sym (append-nil found)) (record { ripe = λ j. refl; taken = e; few = few; holds = holds; none = f; within = within })
+  not-taken m found table e f few holds = subst (λ (l : List Finding). Took m found l table) (sym (append-nil found)) (record { ripe = λ j. refl; taken = e; few = few; holds = holds; none = f })
 
-  took : (m : ℕ) → m < total → (found : List Finding) (table : StreamTable) → fault_of found ≡ None → Few found → Keeps found table → Took m found (found ++ dequeuing side h found (4 * m + kind)) table
-  took m within found table f few holds = by (is_dequeued found (4 * m + kind)) refl (nat_lt (unsettled found m) 4) refl
+  took : (m : ℕ) (found : List Finding) (table : StreamTable) → fault_of found ≡ None → Few found → Keeps found table → Took m found (found ++ dequeuing side h found (4 * m + kind)) table
+  took m found table f few holds = by (is_dequeued found (4 * m + kind)) refl (nat_lt (unsettled found m) 4) refl
     where
       by : (a : Bool) → is_dequeued found (4 * m + kind) ≡ a → (b : Bool) → nat_lt (unsettled found m) 4 ≡ b → Took m found (found ++ dequeuing side h found (4 * m + kind)) table
       by false ta true lb =
           let q : dequeuing side h found (4 * m + kind) ≡ Dequeued (4 * m + kind) ∷ [] = rw (ta, ready, before-is found m, lb) refl in
-          subst (λ (xs : List Finding). Took m found (found ++ xs) table) (sym q) (now-taken m within found table lb f few holds)
+          subst (λ (xs : List Finding). Took m found (found ++ xs) table) (sym q) (now-taken m found table lb f few holds)
       by true ta b lb =
           let q : dequeuing side h found (4 * m + kind) ≡ [] = rw ta refl in
-          subst (λ (xs : List Finding). Took m found (found ++ xs) table) (sym q) (not-taken m within found table (rw ta refl) f few holds)
+          subst (λ (xs : List Finding). Took m found (found ++ xs) table) (sym q) (not-taken m found table (rw ta refl) f few holds)
       by false ta false lb =
           let q : dequeuing side h found (4 * m + kind) ≡ [] = rw (ta, ready, before-is found m, lb) refl in
-          subst (λ (xs : List Finding). Took m found (found ++ xs) table) (sym q) (not-taken m within found table (rw (ta, lb) refl) f few holds)
+          subst (λ (xs : List Finding). Took m found (found ++ xs) table) (sym q) (not-taken m found table (rw (ta, lb) refl) f few holds)
 
   -- ---- one stream after another
 
@@ -291,7 +289,7 @@ module _ (side : Side) (h : History) (t : TransportView) (calls : CallView) (v :
       let o : unsettled more (suc m) ≡ unsettled found m
             = ids-more (unripe more) kind 0 m ∙ ap (λ (i : ℕ). unsettled more m + one-if (unripe more (4 * i + kind))) i0 ∙ rw (itself m later w c.admitted c.fault) (omega (arith, z)) in
       rw (l, s, sym u) (again n more (with_classified (4 * m + kind) w c table) (q ∙ ap (λ (y : ℕ). 4 - y) (sym o)) (few-fault (later ++ finds.Classified (4 * m + kind) w c.admitted ∷ []) c.fault (few-ripe later (4 * m + kind) w c.admitted g.few))
-          (kept.ripe m g.within later table w g.none dequeued (g.ripe (4 * m + kind) ∙ unripe-now) shows g.holds))
+          (kept.ripe m later table w g.none dequeued (g.ripe (4 * m + kind) ∙ unripe-now) shows g.holds))
 
   -- what the verdict of a stream that is taken leads to
   decided : (count m n p : ℕ) (found later : List Finding) (table : StreamTable) → Took m found later table → Again count m → is_classified found (4 * m + kind) ≡ false → is_dequeued later (4 * m + kind) ≡ true
@@ -358,18 +356,18 @@ module _ (side : Side) (h : History) (t : TransportView) (calls : CallView) (v :
           or-true false = refl
 
   -- looks at a kind's streams lead to the same as its scan
-  scan-from : (count m n : ℕ) (found : List Finding) (table : StreamTable) → n ≡ 4 - unsettled found m → m + count ≤ total → Few found → Keeps found table
+  scan-from : (count m n : ℕ) (found : List Finding) (table : StreamTable) → n ≡ 4 - unsettled found m → Few found → Keeps found table
       → Keeps (after_checks side h (stream_checks (ids_from kind m count)) found) (scan t calls v n (filter (unripe found) (ids_from kind m count)) table)
-  scan-from zero m n found table q le few holds = holds
-  scan-from (suc count) m n found table q le few holds = by (fault_of found) refl (λ n' f' t' q' w' h'. scan-from count (suc m) n' f' t' q' (omega (arith, le)) w' h')
+  scan-from zero m n found table q few holds = holds
+  scan-from (suc count) m n found table q few holds = by (fault_of found) refl (λ n' f' t' q' w' h'. scan-from count (suc m) n' f' t' q' w' h')
     where
       by : (o : Option ErrorCode) → fault_of found ≡ o → Again count m
           → Keeps (after_checks side h (stream_checks (ids_from kind m (suc count))) found) (scan t calls v n (filter (unripe found) (ids_from kind m (suc count))) table)
       by (Some c) e again = rw (checks-faulty side h (stream_checks (ids_from kind m (suc count))) found c e, scan-faulty t calls v n (filter (unripe found) (ids_from kind m (suc count))) table c (sym (kept.table found table holds).fault ∙ e)) holds
       by None e again = rw (check-step side h (Dequeue (4 * m + kind)) (Classify (4 * m + kind) ∷ stream_checks (ids_from kind (suc m) count)) found (dequeuing side h found (4 * m + kind)) e refl)
-          (after-took count m n found (found ++ dequeuing side h found (4 * m + kind)) table (took m (omega (arith, le)) found table e few holds) again few q)
+          (after-took count m n found (found ++ dequeuing side h found (4 * m + kind)) table (took m found table e few holds) again few q)
 
   -- from the first stream on, with 4 places
-  pub scan-keeps : (found : List Finding) (table : StreamTable) → Few found → Keeps found table
-      → Keeps (after_checks side h (stream_checks (ids_from kind 0 total)) found) (scan t calls v 4 (filter (unripe found) (ids_from kind 0 total)) table)
-  scan-keeps found table few holds = scan-from total 0 4 found table refl (omega arith) few holds
+  pub scan-keeps : (count : ℕ) (found : List Finding) (table : StreamTable) → Few found → Keeps found table
+      → Keeps (after_checks side h (stream_checks (ids_from kind 0 count)) found) (scan t calls v 4 (filter (unripe found) (ids_from kind 0 count)) table)
+  scan-keeps count found table few holds = scan-from count 0 4 found table refl few holds
