@@ -55,3 +55,5 @@ pub mod PendingLaws
 pub mod RestTurns
 pub mod CameLaws
 pub mod CallKeeps
+pub mod SecondMoment
+pub mod MomentAlike

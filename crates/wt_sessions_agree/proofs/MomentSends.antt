@@ -145,7 +145,7 @@ faults-act : (o : Option ErrorCode) (p : DriverProgress) → (with_fault o p).ac
 faults-act None p = refl
 faults-act (Some code) p = refl
 
-datagrams-acts : (t : TransportView) (calls : CallView) (table : StreamTable) → (take_datagrams t calls table).progress.actions ≡ table.progress.actions
+pub datagrams-acts : (t : TransportView) (calls : CallView) (table : StreamTable) → (take_datagrams t calls table).progress.actions ≡ table.progress.actions
 datagrams-acts t calls table = by t.ready
   where
     admitted : (b : Bool) (session : ℕ) (payload : List ℕ) (u : StreamTable) → (admit_datagram b session payload u).progress.actions ≡ u.progress.actions
@@ -182,7 +182,7 @@ in-order-acts (f ∷ fs) n table = in-order-acts fs n.1 (unless_ended table.prog
     by None = n.0 table
     by (Some code) = refl
 
-critical-acts : (t : TransportView) (table : StreamTable) → (in_order (critical_steps t) table).progress.actions ≡ table.progress.actions
+pub critical-acts : (t : TransportView) (table : StreamTable) → (in_order (critical_steps t) table).progress.actions ≡ table.progress.actions
 critical-acts t table = in-order-acts (critical_steps t) (own, (controlled, (encoded, (decoded, tt)))) table
   where
     stopped : (b : Bool) (p : DriverProgress) → (critical_if b p).actions ≡ p.actions

@@ -9,6 +9,8 @@ use Rattle.wt_meaning.specs.Moments.{checks, findings}
 use Rattle.wt_meaning.specs.Sends.{actions_for_all, moment_actions, session_gone_actions}
 use Rattle.wt_meaning.specs.Sends as sends
 use Rattle.wt_meaning.specs.Windows.{is_gone, session_in}
+use Rattle.wt_promise.proofs.BytesOut.{quiet-all}
+use Rattle.wt_promise.proofs.BytesOut as outs
 use Rattle.wt_promise.proofs.Grows.{Kept, is_peers, more, more-by, news-dropped, news-open}
 use Rattle.wt_seam_spec.specs.Streams.{local_uni}
 use Rattle.wt_sessions.specs.Driver.{actions_after, apply_if, call_view, close_actions, control_actions, control_sent, is_moment, pending_actions, stream_table, transport_view}
@@ -47,7 +49,7 @@ pub second-sends : (side : Side) (h : History) (id : ℕ) (found : List Finding)
 second-sends side h id found e = ap (actions_for_all side h found) (second-pass side h id found e)
 
 -- an open connection was open before
-was-open : (p : Pair) (h : History) → is_open (p ∷ h) ≡ true → is_open h ≡ true
+pub was-open : (p : Pair) (h : History) → is_open (p ∷ h) ≡ true → is_open h ≡ true
 was-open p h o = by (ends_by p) (list_any ends_by h) o
   where
     by : (a b : Bool) → not (a || b) ≡ true → not b ≡ true
@@ -94,3 +96,9 @@ module _ (side : Side) (offset : ℕ → ℕ) (p : Pair) (h : History) (log : Lo
   pub pending-twice : (id : ℕ) → p.answer.reply ≡ replies.Session id → more side (p ∷ h) (checks side (p ∷ h)) (findings side h ++ more side (p ∷ h) (checks side (p ∷ h)) (findings side h)) ≡ []
       → pending_actions side (e ∷ log) ≡ moment_actions side (p ∷ h)
   pending-twice id r second = pending-by (ap (λ (r : Reply). more-by side (p ∷ h) r (findings side h)) r ∙ second-pass side (p ∷ h) id (findings side h) second)
+
+  -- none of it is sent on this end's control stream
+  pub moment-silent : let after = scan_order (transport_view side (e ∷ log)) (call_view (e ∷ log)) (stream_table side log) in list_any (outs.sends (local_uni side)) (after.progress.actions ++ close_actions after.progress.fault) ≡ false
+  moment-silent =
+      ap (list_any (outs.sends (local_uni side))) (sym (moment-sends side (p ∷ h) (transport_view side (e ∷ log)) (call_view (e ∷ log)) offset s Good kept alike fresh (findings side h) (stream_table side log) orderly good holds none))
+      ∙ quiet-all (local_uni side) side (p ∷ h) (findings side h) (more side (p ∷ h) (checks side (p ∷ h)) (findings side h))
