@@ -1,5 +1,5 @@
 -- All that goes out at a moment is the same in both, where what calls and halves are asked is the same.
-use Rattle.std.specs.Prelude.{[], ◌&&◌, ◌++◌, ◌∷◌, ◌≡◌, false, List, None, true, ℕ}
+use Rattle.std.specs.Prelude.{[], ◌&&◌, ◌++◌, ◌∷◌, ◌≡◌, false, None, true, ℕ}
 use Rattle.std.specs.List.{list_any}
 use Rattle.wt_meaning.specs.History.{History, Pair, actions_out, events, is_open}
 use Rattle.wt_meaning.specs.Moments.{checks, findings}

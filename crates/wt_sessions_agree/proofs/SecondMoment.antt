@@ -1,17 +1,15 @@
 -- A moment that finds nothing sends nothing; so does the second one of a reply that establishes a session.
-use Rattle.std.specs.Prelude.{[], ◌&&◌, ◌*◌, ◌++◌, ◌+◌, ◌∷◌, ◌||◌, ◌≡◌, Bool, List, None, Option, Some, drop, false, if◌then◌else◌, is_some, length, nat_lt, not, true, ℕ}
-use Rattle.std.specs.List.{list_all, list_any}
+use Rattle.std.specs.Prelude.{[], ◌&&◌, ◌*◌, ◌++◌, ◌+◌, ◌∷◌, ◌||◌, ◌≡◌, Bool, List, None, Option, Some, drop, false, if◌then◌else◌, length, nat_lt, not, true, ℕ}
+use Rattle.std.specs.List.{list_any}
 use Rattle.std.proofs.Common.{◌∙◌, ap, append_assoc, refl, subst, sym}
 use Rattle.std.proofs.Math.Seq.{drop-append_seam}
 use Rattle.std.proofs.lemmas.List.{append-nil}
 use Rattle.std.proofs.lemmas.List.Folds.{list_any-append}
-use Rattle.wt_meaning.specs.Findings.{Classified, Dequeued, Faulted, Finding, SessionClosed, fault_of, is_classified, is_dequeued}
-use Rattle.wt_meaning.specs.History.{History, Pair, actions_out, events, is_open}
-use Rattle.wt_meaning.specs.Moments.{Check, after_checks, checks, datagram_checks, findings, session_found, verdict}
-use Rattle.wt_meaning.specs.Windows.{lives, session_in}
+use Rattle.wt_meaning.specs.Findings.{Classified, Dequeued, Faulted, Finding, SessionClosed, fault_of}
+use Rattle.wt_meaning.specs.History.{History, events}
+use Rattle.wt_meaning.specs.Moments.{Check, after_checks, checks, datagram_checks, session_found}
 use Rattle.wt_promise.proofs.Grows.{checks-add, more}
 use Rattle.wt_proto.specs.declared.session_walk.SessionWalk.{SessionWalk}
-use Rattle.wt_proto.specs.declared.verdict.Verdict.{Verdict}
 use Rattle.wt_promise.proofs.BytesOut.{sends}
 use Rattle.wt_seam_spec.specs.Joined.{newest_first}
 use Rattle.wt_seam_spec.specs.Reports.{credit, datagrams_of, unis_allowed}
@@ -28,7 +26,7 @@ use Rattle.wt_sessions_agree.proofs.OutLaws.{acted}
 use Rattle.wt_sessions_agree.proofs.PendingLaws.{entry-table}
 use Rattle.wt_sessions_agree.proofs.QuietLaws.{control-quiet}
 use Rattle.wt_sessions_agree.proofs.ScanLaws.{ScanKeeps, faults_of, ripe-table}
-use Rattle.wt_sessions_agree.proofs.SessionLaws.{WalkKeeps, walked-table}
+use Rattle.wt_sessions_agree.proofs.SessionLaws.{walked-table}
 use Rattle.wt_sessions_agree.proofs.TurnFinds.{table-then}
 use Rattle.wt_sessions_agree.specs.Agrees.{IsTable}
 use Rattle.wt_sessions_agree.specs.Orderly.{Orderly}
