@@ -57,3 +57,5 @@ pub mod CameLaws
 pub mod CallKeeps
 pub mod SecondMoment
 pub mod MomentAlike
+pub mod MembersBefore
+pub mod MembersTurns

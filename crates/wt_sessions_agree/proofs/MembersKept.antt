@@ -4,7 +4,7 @@ use Rattle.std.specs.List.{list_all, list_any}
 use Rattle.std.proofs.Common.{◌∙◌, ap, refl, sym}
 use Rattle.std.proofs.lemmas.Bool.{eqb-true}
 use Rattle.std.proofs.lemmas.List.Folds.{list_any-append}
-use Rattle.wt_meaning.specs.Findings.{Classified, DatagramRead, Dequeued, Faulted, Finding, SessionClosed, SettingsRead, fault_of, is_classified, is_dequeued, verdict_in, verdict_of}
+use Rattle.wt_meaning.specs.Findings.{Classified, DatagramRead, Dequeued, Faulted, Finding, SessionClosed, SettingsRead, is_classified, verdict_in, verdict_of}
 use Rattle.wt_meaning.specs.History.{History, exists, is_handed_out}
 use Rattle.wt_meaning.specs.Moments.{Check, after_checks, keeps, stream_fault, verdict}
 use Rattle.wt_meaning.specs.Sends.{admits, session_gone_actions}
@@ -57,9 +57,8 @@ record Admitted (side : Side) (h : History) (found : List Finding) (k : ℕ) : T
 
 -- a verdict that admits is one
 admits-some : (s k j : ℕ) (v : Verdict) (b : Bool) → admits s k (Classified j v b) ≡ true → v ≡ verdicts.Incomplete → ⊥
-admits-some s k j verdicts.Incomplete b e q = cc e
 admits-some s k j (verdicts.WebTransport t offset) b e q = cc q
-admits-some s k j v b e q = cc e
+admits-some s k j v b e q = cc
 
 admitted-new : (side : Side) (h : History) (s k : ℕ) (found new : List Finding) → Adds side h found new → list_any (admits s k) new ≡ true → Admitted side h found k
 admitted-new side h s k found [] Nothing e = absurd (cc e)
