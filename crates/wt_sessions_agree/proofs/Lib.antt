@@ -59,3 +59,4 @@ pub mod SecondMoment
 pub mod MomentAlike
 pub mod MembersBefore
 pub mod MembersTurns
+pub mod TransportTurns

@@ -221,7 +221,7 @@ module _ (side : Side) (offset : ℕ → ℕ) (h : History) (log : Log) (x : Sta
         ∙ sym (more-ids h offset 0 (stream_count side h 0) (stream_count side after 0) le (λ m l. none-behind m (omega (arith, l))))
 
   module _ (log2 : Log) (called : calls_of log2 ≡ calls_of log) (sent : actions_of log2 ≡ newest_first xs (actions_of log)) where
-    out-after : SameOut (actions_out after) (actions_of log2)
+    pub out-after : SameOut (actions_out after) (actions_of log2)
     out-after = subst (λ (as_ : List Action). SameOut (newest_first (join_all [] xs) (actions_out h)) as_) (sym sent) (same-out xs (actions_out h) (actions_of log) x.out)
 
     -- a reset of the history is one of the log
@@ -298,7 +298,7 @@ module _ (side : Side) (offset : ℕ → ℕ) (h : History) (log : Log) (x : Sta
         ∙ ap (λ (rs : List CallRecord). list_any (is_reset_of k) (actions_of log2) || list_any (unsent-reset k) rs) (sym called)
         ∙ sym (resets-apart k log2)
 
-    halves-after : HalvesAgree after log2
+    pub halves-after : HalvesAgree after log2
     halves-after = record {
       given_up = λ k. ap (λ (b : Bool). b || is_given_up h k) (no-stop k turn plain) ∙ x.halves.given_up k ∙ ap (list_any (gives_up k)) (sym called);
       reset = reset-after;
