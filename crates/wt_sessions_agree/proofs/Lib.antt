@@ -60,3 +60,4 @@ pub mod MomentAlike
 pub mod MembersBefore
 pub mod MembersTurns
 pub mod TransportTurns
+pub mod MembersMoments
