@@ -18,7 +18,7 @@ use Rattle.wt_wire.specs.declared.error.ErrorCode.{ErrorCode}
 
 -- ---- lists
 
-miss-filter : (p : ℕ → Bool) (j : ℕ) (ks : List ℕ) → is_in j ks ≡ false → is_in j (filter p ks) ≡ false
+pub miss-filter : (p : ℕ → Bool) (j : ℕ) (ks : List ℕ) → is_in j ks ≡ false → is_in j (filter p ks) ≡ false
 miss-filter p j [] e = refl
 miss-filter p j (k ∷ ks) e = by (p k) (or_parts (k == j) (is_in j ks) e) (miss-filter p j ks (or_parts (k == j) (is_in j ks) e).1)
   where
@@ -94,7 +94,7 @@ module _ (t : TransportView) (calls : CallView) where
         by true f again = f
         by false f again = again f
 
-    scan-keeps : (n j : ℕ) (w : Verdict) (ks : List ℕ) (table : StreamTable) → verdict_of j table.classified ≡ Some w → verdict_of j (scan t calls verdict n ks table).classified ≡ Some w
+    pub scan-keeps : (n j : ℕ) (w : Verdict) (ks : List ℕ) (table : StreamTable) → verdict_of j table.classified ≡ Some w → verdict_of j (scan t calls verdict n ks table).classified ≡ Some w
     scan-keeps n j w [] table e = e
     scan-keeps zero j w (k ∷ ks) table e = e
     scan-keeps (suc n) j w (k ∷ ks) table e = by table.progress.fault (verdict k) (λ m T f. scan-keeps m j w ks T f)
@@ -116,7 +116,7 @@ module _ (t : TransportView) (calls : CallView) where
         by None v again = again (places_after v n) (classify t calls k v table) (one v)
 
     -- those without a verdict after a scan are among those before it
-    fewer : (n : ℕ) (ks : List ℕ) (table : StreamTable) (j : ℕ)
+    pub fewer : (n : ℕ) (ks : List ℕ) (table : StreamTable) (j : ℕ)
         → is_unclassified (scan t calls verdict n ks table) j ≡ (is_unclassified table j && is_unclassified (scan t calls verdict n ks table) j)
     fewer n ks table j = by (verdict_of j table.classified) refl
       where
@@ -212,7 +212,7 @@ module _ (t : TransportView) (calls : CallView) (sent : ControlSent) (open_ : Bo
   more-datagrams table k v = fault-datagrams (led t calls table k v).fault (with_more (led t calls table k v).actions table.progress)
 
   module _ (verdict : ℕ → Verdict) where
-    scan-datagrams : (n : ℕ) (ks : List ℕ) (table : StreamTable) → (scan t calls verdict n ks table).progress.datagrams ≡ table.progress.datagrams
+    pub scan-datagrams : (n : ℕ) (ks : List ℕ) (table : StreamTable) → (scan t calls verdict n ks table).progress.datagrams ≡ table.progress.datagrams
     scan-datagrams n [] table = refl
     scan-datagrams zero (k ∷ ks) table = refl
     scan-datagrams (suc n) (k ∷ ks) table = by table.progress.fault (verdict k) (λ m T. scan-datagrams m ks T)
@@ -233,7 +233,7 @@ module _ (t : TransportView) (calls : CallView) (sent : ControlSent) (open_ : Bo
         by (Some code) v again = refl
         by None v again = again (places_after v n) (classify t calls k v table) ∙ one v
 
-    kind-datagrams : (ids : List ℕ) (table : StreamTable) → (scan_kind t calls verdict ids table).progress.datagrams ≡ table.progress.datagrams
+    pub kind-datagrams : (ids : List ℕ) (table : StreamTable) → (scan_kind t calls verdict ids table).progress.datagrams ≡ table.progress.datagrams
     kind-datagrams ids table = by t.ready
       where
         by : (b : Bool) → (cond b (scan t calls verdict 4 (filter (is_unclassified table) ids) table) table).progress.datagrams ≡ table.progress.datagrams
@@ -274,7 +274,7 @@ module _ (t : TransportView) (calls : CallView) (sent : ControlSent) (open_ : Bo
     pub apart : AllMiss (uni_ids t) (bi_ids t)
     pub apart_too : AllMiss (bi_ids t) (uni_ids t)
     pub unreceived : AreUnreceived t calls sent open_ table.progress.datagrams
-    pub distinct : AreDistinct t calls sent open_ calls.sessions
+    pub distinct : AreDistinct calls.sessions
 
   -- the steps lead to the same, one after another
   abbrev Commutes : List (StreamTable → StreamTable) → List (DriverState → DriverState) → StreamTable → Type 0
@@ -332,20 +332,20 @@ module _ (t : TransportView) (calls : CallView) (sent : ControlSent) (open_ : Bo
   from-critical : (table : StreamTable) → Commutes last_steps last_now table
   from-critical table = (refl, from-control (unless_ended table.progress.fault critical_step table))
 
-  from-sessions : (table : StreamTable) → AreDistinct t calls sent open_ calls.sessions → Commutes (check_sessions t calls ∷ last_steps) ((λ s. check_each_now t s.sessions s) ∷ last_now) table
+  from-sessions : (table : StreamTable) → AreDistinct calls.sessions → Commutes (check_sessions t calls ∷ last_steps) ((λ s. check_each_now t s.sessions s) ∷ last_now) table
   from-sessions table distinct = (
     check-follows t calls sent open_ calls.sessions table distinct,
     from-critical (unless_ended table.progress.fault (check_sessions t calls) table),
   )
 
-  from-datagrams : (table : StreamTable) → AreDistinct t calls sent open_ calls.sessions → AreUnreceived t calls sent open_ table.progress.datagrams
+  from-datagrams : (table : StreamTable) → AreDistinct calls.sessions → AreUnreceived t calls sent open_ table.progress.datagrams
       → Commutes (take_datagrams t calls ∷ check_sessions t calls ∷ last_steps) (take_datagrams_now t ∷ (λ s. check_each_now t s.sessions s) ∷ last_now) table
   from-datagrams table distinct un = (datagrams-follow table un, from-sessions (unless_ended table.progress.fault (take_datagrams t calls) table) distinct)
 
   un-by : (m n : ℕ) → n ≡ m → AreUnreceived t calls sent open_ m → AreUnreceived t calls sent open_ n
   un-by m n e un k le = un k (omega (arith, e, le))
 
-  from-bis : (table : StreamTable) → Sound t calls table (bi_ids t) → AllMiss (bi_ids t) (uni_ids t) → AreDistinct t calls sent open_ calls.sessions → AreUnreceived t calls sent open_ table.progress.datagrams
+  from-bis : (table : StreamTable) → Sound t calls table (bi_ids t) → AllMiss (bi_ids t) (uni_ids t) → AreDistinct calls.sessions → AreUnreceived t calls sent open_ table.progress.datagrams
       → Commutes (scan_bis t calls ∷ take_datagrams t calls ∷ check_sessions t calls ∷ last_steps) (scan_bis_now t ∷ take_datagrams_now t ∷ (λ s. check_each_now t s.sessions s) ∷ last_now) table
   from-bis table sound miss distinct un = (
     bis-follow table sound miss,

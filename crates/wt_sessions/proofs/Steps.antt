@@ -146,6 +146,15 @@ unclosed true b c e = absurd (true≢false e)
 unclosed false true c e = absurd (true≢false e)
 unclosed false false c e = refl
 
+-- the id is one of these sessions'
+abbrev pub is_among : ℕ → List Session → Bool
+is_among k xs = list_any (λ (s : Session). s.id == k) xs
+
+-- no session stands twice
+abbrev pub AreDistinct : List Session → Type 0
+AreDistinct [] = Unit {0}
+AreDistinct (s ∷ later) = (is_among s.id later ≡ false) × AreDistinct later
+
 module _ (t : TransportView) (calls : CallView) (sent : ControlSent) (open_ : Bool) where
   walked-follows : (k : ℕ) (by_capsule : Bool) (walk : SessionWalk) (table : StreamTable) → is_gone calls table k ≡ false
       → kept_of t calls sent open_ (session_walked t calls k by_capsule walk table) ≡ walked_now t k by_capsule walk (kept_of t calls sent open_ table)
@@ -161,22 +170,13 @@ module _ (t : TransportView) (calls : CallView) (sent : ControlSent) (open_ : Bo
       }
 
   -- another session stays as it is
-  gone-apart : (k j : ℕ) (by_capsule : Bool) (walk : SessionWalk) (table : StreamTable) → (k == j) ≡ false
+  pub gone-apart : (k j : ℕ) (by_capsule : Bool) (walk : SessionWalk) (table : StreamTable) → (k == j) ≡ false
       → is_gone calls (session_walked t calls k by_capsule walk table) j ≡ is_gone calls table j
   gone-apart k j by_capsule walks.Running table ne = refl
   gone-apart k j by_capsule (walks.Fault code) table ne = refl
   gone-apart k j by_capsule (walks.Closed code reason) table ne =
       gone-closed calls table (record { id = k; code = code; reason = reason }) (session_walked t calls k by_capsule (walks.Closed code reason) table).progress j
       ∙ ap (λ b. is_gone calls table j || b) ne ∙ or-false (is_gone calls table j)
-
-  -- the id is one of these sessions'
-  abbrev pub is_among : ℕ → List Session → Bool
-  is_among k xs = list_any (λ (s : Session). s.id == k) xs
-
-  -- no session stands twice
-  abbrev pub AreDistinct : List Session → Type 0
-  AreDistinct [] = Unit {0}
-  AreDistinct (s ∷ later) = (is_among s.id later ≡ false) × AreDistinct later
 
   -- those that live
   abbrev pub living : StreamTable → List Session → List Session

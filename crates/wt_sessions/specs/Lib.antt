@@ -11,3 +11,4 @@ pub mod Answers
 pub mod DriverState
 pub mod Step
 pub mod Plans
+pub mod Moment
