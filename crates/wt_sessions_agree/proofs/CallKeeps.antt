@@ -261,29 +261,33 @@ module _ (side : Side) (offset : ℕ → ℕ) (h : History) (log : Log) (x : Sta
   either-reset false false false true t u e f = e
   either-reset false false false false t u e f = e
 
+  -- a reset of the history is one of the log, where a reset that is answered while the connection is open goes out
+  pub reset-from : (k : ℕ) (now : Bool) → (is_open h ≡ true → answers_reset k (turns.Call c) own.reply ≡ true → now ≡ true)
+      → ((list_any (is_reset_of k) (actions_out h) || now) || (answers_reset k (turns.Call c) own.reply || told-resets h k))
+      ≡ ((list_any (is_reset_of k) (actions_out h) || now) || list_any (unsent-reset k) (left ∷ calls_of log))
+  reset-from k now goes =
+      either-reset before now (answers_reset k (turns.Call c) own.reply) (is_open h) (told-resets h k) (list_any (unsent-reset k) (calls_of log)) same goes
+      ∙ ap (λ (b : Bool). (before || now) || (b || list_any (unsent-reset k) (calls_of log))) (sym (reset-by side h c k own.reply))
+    where
+      before : Bool
+      before = list_any (is_reset_of k) (actions_out h)
+
+      same : (before || told-resets h k) ≡ (before || list_any (unsent-reset k) (calls_of log))
+      same = x.halves.reset k ∙ resets-apart k log ∙ ap (λ (b : Bool). b || list_any (unsent-reset k) (calls_of log)) (sym (x.out.reset k))
+
   module _ (log2 : Log) (called : SameCalls (calls_of log2) (left ∷ calls_of log)) (sent : actions_of log2 ≡ newest_first all_sent (actions_of log)) where
     pub reset-after : (k : ℕ) → is_reset after k ≡ sends.is_reset log2 k
     reset-after k =
         ap (λ (b : Bool). b || told-resets after k) went
-        ∙ either-reset before now (answers_reset k (turns.Call c) own.reply) (is_open h) (told-resets h k) (list_any (unsent-reset k) (calls_of log)) same goes
-        ∙ ap (λ (b : Bool). (before || now) || (b || list_any (unsent-reset k) (calls_of log))) (sym (reset-by side h c k own.reply))
+        ∙ reset-from k now (λ o a. any-join_all (is_reset_of k) (λ i p q. refl) [] all_sent ∙ has-left (is_reset_of k) own.actions (moment_actions side (with_pair h (turns.Call c) own)) (reset-goes side h c k o a))
         ∙ ap (λ (b : Bool). b || list_any (unsent-reset k) (left ∷ calls_of log)) (sym went ∙ (out-after log2 sent).reset k)
         ∙ or-with (list_any (is_reset_of k) (actions_of log2)) _ _ (sym (called.unsent k)) ∙ sym (resets-apart k log2)
       where
-        before : Bool
-        before = list_any (is_reset_of k) (actions_out h)
-
         now : Bool
         now = list_any (is_reset_of k) (join_all [] all_sent)
 
-        went : list_any (is_reset_of k) (actions_out after) ≡ (before || now)
+        went : list_any (is_reset_of k) (actions_out after) ≡ (list_any (is_reset_of k) (actions_out h) || now)
         went = any-newest (is_reset_of k) (join_all [] all_sent) (actions_out h)
-
-        same : (before || told-resets h k) ≡ (before || list_any (unsent-reset k) (calls_of log))
-        same = x.halves.reset k ∙ resets-apart k log ∙ ap (λ (b : Bool). b || list_any (unsent-reset k) (calls_of log)) (sym (x.out.reset k))
-
-        goes : is_open h ≡ true → answers_reset k (turns.Call c) own.reply ≡ true → now ≡ true
-        goes o a = any-join_all (is_reset_of k) (λ i p q. refl) [] all_sent ∙ has-left (is_reset_of k) own.actions (moment_actions side (with_pair h (turns.Call c) own)) (reset-goes side h c k o a)
 
     pub halves-after : HalvesAgree after log2
     halves-after = record {

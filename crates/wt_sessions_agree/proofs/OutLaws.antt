@@ -100,6 +100,16 @@ same-out xs as_ bs s = record {
   dialled = any-out dials (λ i p q. refl) xs as_ bs s.dialled;
 }
 
+-- likewise where none are joined
+pub same-raw : (xs as_ bs : List Action) → SameOut as_ bs → SameOut (newest_first xs as_) (newest_first xs bs)
+same-raw xs as_ bs s = record {
+  sent = λ k. sent-newest k xs as_ ∙ ap (λ (bytes : List ℕ). bytes ++ sent-in k xs) (s.sent k) ∙ sym (sent-newest k xs bs);
+  finished = λ k. any-newest (finishes k) xs as_ ∙ ap (λ (b : Bool). b || list_any (finishes k) xs) (s.finished k) ∙ sym (any-newest (finishes k) xs bs);
+  reset = λ k. any-newest (is_reset_of k) xs as_ ∙ ap (λ (b : Bool). b || list_any (is_reset_of k) xs) (s.reset k) ∙ sym (any-newest (is_reset_of k) xs bs);
+  opened = λ kind. let a = opened-out kind xs as_ in let b = opened-out kind xs bs in let c = s.opened kind in omega (arith, a, b, c);
+  dialled = any-newest dials xs as_ ∙ ap (λ (b : Bool). b || list_any dials xs) s.dialled ∙ sym (any-newest dials xs bs);
+}
+
 -- ---- the actions of an answer
 
 pub acted : (xs : List Action) (log : Log) → actions_of (with_actions xs log) ≡ newest_first xs (actions_of log)
