@@ -61,3 +61,4 @@ pub mod MembersBefore
 pub mod MembersTurns
 pub mod TransportTurns
 pub mod MembersMoments
+pub mod OneCall

@@ -28,7 +28,7 @@ pub acted-events : (own : List Action) (log : Log) → events_of (with_actions o
 acted-events [] log = refl
 acted-events (a ∷ own) log = acted-events own (Sent a ∷ log)
 
-acted-all : (own : List Action) (log : Log) → all_events_of (with_actions own log) ≡ all_events_of log
+pub acted-all : (own : List Action) (log : Log) → all_events_of (with_actions own log) ≡ all_events_of log
 acted-all [] log = refl
 acted-all (a ∷ own) log = acted-all own (Sent a ∷ log)
 

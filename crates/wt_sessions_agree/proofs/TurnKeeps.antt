@@ -359,7 +359,7 @@ acted-first : (own : List Action) (e : Entry) (log : Log) → answers.is_first (
 acted-first [] e log = refl
 acted-first (a ∷ own) e log = acted-first own (Sent a) (e ∷ log)
 
-flushed-first : (side : Side) (e : Entry) (log : Log) → answers.is_first (log_and_flush side log e) ≡ false
+pub flushed-first : (side : Side) (e : Entry) (log : Log) → answers.is_first (log_and_flush side log e) ≡ false
 unfolding flush
 flushed-first side e log = by (is_moment e && logs.is_open (e ∷ log))
   where
