@@ -85,7 +85,7 @@ module _ (side : Side) (offset : ℕ → ℕ) (h : History) (log : Log) (x : Sta
       sent-first : actions_of between ≡ newest_first (mine.actions ++ moment_actions side ho) (actions_of log)
       sent-first = called-actions side log mine.actions (left side offset h log x c) ∙ ap (λ (as_ : List Action). newest_first (mine.actions ++ as_) (actions_of log)) (plain.sent-same side offset h log x c (λ e. pending))
 
-      none-then : sent-then side again ≡ []
+      pub none-then : sent-then side again ≡ []
       none-then = by (logs.is_open between) refl
         where
           by : (b : Bool) → logs.is_open between ≡ b → (if logs.is_open again then pending_actions side again else []) ≡ []
@@ -119,7 +119,7 @@ module _ (side : Side) (offset : ℕ → ℕ) (h : History) (log : Log) (x : Sta
     moment-is : (is_moment (Called (left side offset h log x c)) && logs.is_open now) ≡ true
     moment-is = sym (plain.at-open side offset h log x c) ∙ opened
 
-    first-finds : IsTable first (stream_table side between)
+    pub first-finds : IsTable first (stream_table side between)
     first-finds =
         subst (IsTable first) (sym (table-then side (with_actions mine.actions log) (Called (left side offset h log x c)) moment-is))
         (moment-agrees side ho (transport_view side now) (call_view now) offset2 alike (findings side h) (stream_table side (with_actions mine.actions log)) orderly
@@ -142,10 +142,10 @@ module _ (side : Side) (offset : ℕ → ℕ) (h : History) (log : Log) (x : Sta
     bytes-again k = flushed (λ l. streams.contents l k) (λ own l. acted-contents own l k) side (Called (left side offset h log x c)) (with_actions mine.actions log)
 
     module _ (at-now : events ho ≡ events_of now) (bytes : (k : ℕ) → contents ho k ≡ streams.contents now k) where
-      alike-again : SeesAlike side ho (transport_view side again) (call_view again) offset2
+      pub alike-again : SeesAlike side ho (transport_view side again) (call_view again) offset2
       alike-again = sees-alike side offset2 ho again (at-now ∙ sym events-again) (λ k. bytes k ∙ sym (bytes-again k)) (subst (CallsAgree ho) (sym view-again) alike.calls) (ap (λ (v : CallView). v.sessions) view-again ∙ alike.sessions)
 
-      orders-again : Orderly side ho (call_view again) offset2 first
+      pub orders-again : Orderly side ho (call_view again) offset2 first
       orders-again = subst (λ (v : CallView). Orderly side ho v offset2 first) (sym view-again) first-orders
 
       pub settled-finds : IsTable (findings side (step side h (turns.Call c))) (stream_table side settled)

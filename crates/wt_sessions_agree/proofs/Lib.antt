@@ -62,3 +62,4 @@ pub mod MembersTurns
 pub mod TransportTurns
 pub mod MembersMoments
 pub mod OneCall
+pub mod EachTurn

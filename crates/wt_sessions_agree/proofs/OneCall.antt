@@ -7,14 +7,14 @@ use Rattle.wt_meaning.specs.Findings.{Finding}
 use Rattle.wt_meaning.specs.Handshakes.{acceptance_frame, head_left, is_opened, last_begun, poll_rows, send}
 use Rattle.wt_meaning.specs.History.{History, Pair, actions_out, all_events, contents, credit_left, events, is_given_up, is_open, is_reset, is_reset_of, stream_count}
 use Rattle.wt_meaning.specs.Lawful.{is_lawful}
-use Rattle.wt_meaning.specs.Meaning.{own_answer, step, with_pair}
+use Rattle.wt_meaning.specs.Meaning.{next, own_answer, step, with_pair}
 use Rattle.wt_meaning.specs.Moments.{after_checks, checks, findings, ids_from}
 use Rattle.wt_meaning.specs.Rows.{first_row}
 use Rattle.wt_meaning.specs.Sends.{action_if, moment_actions}
 use Rattle.wt_meaning.specs.Windows.{is_established, last_request, session_in}
 use Rattle.wt_promise.proofs.Actions.{none-append, none-if, none-sent, opened-next}
 use Rattle.wt_promise.proofs.Few.{APoll, AnAccept, SessionCall, session-call}
-use Rattle.wt_promise.proofs.Grows.{more}
+use Rattle.wt_promise.proofs.Grows.{checks-add, more}
 use Rattle.wt_promise.proofs.Sessions.{Accepted, AcceptGives, ConnectGives, Connected, PollGives, accept-gives, poll-gives}
 use Rattle.wt_promise.proofs.Tables.{fits-own}
 use Rattle.wt_promise.specs.Promise.{IsHistory, head_of}
@@ -207,6 +207,16 @@ module _ (side : Side) (offset : ℕ → ℕ) (h : History) (log : Log) (x : Sta
   moment-now : is_open (pair ∷ h) ≡ true → (is_moment (Called left) && logs.is_open now) ≡ true
   moment-now o = sym (plain.at-open side offset h log x c) ∙ o
 
+  -- what its moment sends may end the connection
+  ends-after : (is_open (pair ∷ h) ≡ true → pending_actions side now ≡ moment_actions side (pair ∷ h))
+      → list_any logs.ends_by (log_and_flush side front (Called left)) ≡ (list_any closes (mine.actions ++ moment_actions side (pair ∷ h)) || list_any logs.ends_by log)
+  ends-after pending =
+      ap (list_any logs.ends_by) (flush-as side front (Called left)) ∙ ended-acted (sent-then side now) now
+      ∙ ap (λ (as_ : List Action). list_any closes as_ || list_any logs.ends_by now) (plain.sent-same side offset h log x c pending)
+      ∙ ap (λ (b : Bool). list_any closes (moment_actions side (pair ∷ h)) || b) (plain.at-ends side offset h log x c)
+      ∙ or-three (list_any closes (moment_actions side (pair ∷ h))) (list_any closes mine.actions) (list_any logs.ends_by log)
+      ∙ ap (λ (b : Bool). b || list_any logs.ends_by log) (sym (list_any-append closes mine.actions (moment_actions side (pair ∷ h))))
+
   -- what was found is in order by turns and replies, whatever went out
   order-own : (v : CallView) (at : ℕ → ℕ) (found : List Finding) → Orderly side after v at found → Orderly side (pair ∷ h) v at found
   order-own v at found o = record {
@@ -256,21 +266,13 @@ module _ (side : Side) (offset : ℕ → ℕ) (h : History) (log : Log) (x : Sta
     sent-later : actions_of later ≡ newest_first (mine.actions ++ moment_actions side (pair ∷ h)) (actions_of log)
     sent-later = plain.call-sent side offset h log x c none effect pending
 
-    ends-later : list_any logs.ends_by later ≡ (list_any closes (mine.actions ++ moment_actions side (pair ∷ h)) || list_any logs.ends_by log)
-    ends-later =
-        ap (list_any logs.ends_by) (flush-as side front (Called left)) ∙ ended-acted (sent-then side now) now
-        ∙ ap (λ (as_ : List Action). list_any closes as_ || list_any logs.ends_by now) (plain.sent-same side offset h log x c pending)
-        ∙ ap (λ (b : Bool). list_any closes (moment_actions side (pair ∷ h)) || b) (plain.at-ends side offset h log x c)
-        ∙ or-three (list_any closes (moment_actions side (pair ∷ h))) (list_any closes mine.actions) (list_any logs.ends_by log)
-        ∙ ap (λ (b : Bool). b || list_any logs.ends_by log) (sym (list_any-append closes mine.actions (moment_actions side (pair ∷ h))))
-
     plain-stands : Stands side offset after later
     plain-stands =
         call-keeps side offset h log x hist c lawful later (same-called (calls_of later) (left ∷ calls_of log) called-later) sent-later
         (flushed events_of acted-events side (Called left) front ∙ acted-events mine.actions log)
         (flushed all_events_of acted-all side (Called left) front ∙ acted-all mine.actions log)
         (λ k. flushed (λ l. streams.contents l k) (λ own l. acted-contents own l k) side (Called left) front ∙ acted-contents mine.actions log k)
-        (plain.ends-alike h log c mine.reply (mine.actions ++ moment_actions side (pair ∷ h)) later x.came.openness ends-later)
+        (plain.ends-alike h log c mine.reply (mine.actions ++ moment_actions side (pair ∷ h)) later x.came.openness (ends-after pending))
         offset (flushed-first side (Called left) front)
         (plain.call-finds side offset h log x c none effect alike orderly (λ o. idle-call side h pair hist o none c refl))
         (sessions-call side offset h log x hist c lawful later called-later none)
@@ -285,3 +287,107 @@ module _ (side : Side) (offset : ℕ → ℕ) (h : History) (log : Log) (x : Sta
       after = subst (λ (l : Log). Agree side after l) (sym (plain.later-is side offset h log x c none effect))
           (offset, (lawful, refl, hist), members-then later called-later, plain-stands);
     }
+
+  -- ---- a call that establishes a session
+
+  module _ (id : ℕ) (reply-is : mine.reply ≡ replies.Session id) where
+    -- where its part of its stream begins
+    abbrev begins : ℕ → ℕ
+    begins = with-offset id (part_start side h id) offset
+
+    abbrev settled : Log
+    settled = gives.settled side offset h log x c id reply-is
+
+    abbrev between : Log
+    between = log_and_flush side front (Called left)
+
+    given : session_in mine.reply ≡ Some id
+    given = ap session_in reply-is
+
+    opened : is_open (pair ∷ h) ≡ true
+    opened =
+        let g = gives-open side h c id given in
+        plain.at-open side offset h log x c
+        ∙ ap not (plain.at-ends side offset h log x c ∙ ap (λ (b : Bool). b || list_any logs.ends_by log) g.closes-none) ∙ sym x.came.openness ∙ g.opened
+
+    alike-first : SeesAlike side (pair ∷ h) (transport_view side now) (call_view now) begins
+    alike-first = alike-by begins (sessions-session side offset h log x hist c lawful now called-now id reply-is)
+
+    order-first : Orderly side (pair ∷ h) (call_view now) begins (findings side h)
+    order-first = order-own (call_view now) begins (findings side h) (order-session side offset h log x hist c lawful now called-now id reply-is)
+
+    -- after the first moment everything is at rest
+    abbrev first : List Finding
+    first = after_checks side (pair ∷ h) (checks side (pair ∷ h)) (findings side h)
+
+    second : more side (pair ∷ h) (checks side (pair ∷ h)) first ≡ []
+    second = second-finds side (pair ∷ h) (findings side h) (known-before side (record { turn = turns.Call c; answer = next side h (turns.Call c) }) h (lawful, refl, hist))
+
+    pending-first : pending_actions side now ≡ moment_actions side (pair ∷ h)
+    pending-first =
+        sends-twice side begins pair h hist front (Called left) opened (moment-now opened) events-now out-now alike-first seen order-first good table-front id reply-is
+        (subst (λ (found : List Finding). more side (pair ∷ h) (checks side (pair ∷ h)) found ≡ []) (checks-add side (pair ∷ h) (checks side (pair ∷ h)) (findings side h)) second)
+
+    -- the second one finds and sends nothing
+    abbrev again : Log
+    again = Called Polled ∷ between
+
+    alike-again : SeesAlike side (pair ∷ h) (transport_view side again) (call_view again) begins
+    alike-again = gives.alike-again side offset h log x c id reply-is opened begins alike-first order-first second events-now bytes-now
+
+    order-again : Orderly side (pair ∷ h) (call_view again) begins first
+    order-again = gives.orders-again side offset h log x c id reply-is opened begins alike-first order-first second events-now bytes-now
+
+    quiet : logs.is_open between ≡ true → pending_actions side again ≡ []
+    quiet o =
+        second-quiet side begins (pair ∷ h) front (Called left) (Called Polled) (moment-now opened) o (flushed events_of acted-events side (Called left) front) refl
+        (sends-silent side begins pair h hist front (Called left) opened (moment-now opened) events-now out-now alike-first seen order-first good table-front)
+        alike-again first order-again (gives.first-finds side offset h log x c id reply-is opened begins alike-first order-first second) second
+
+    called-settled : calls_of settled ≡ Polled ∷ left ∷ calls_of log
+    called-settled =
+        flushed calls_of acted-calls side (Called Polled) between
+        ∙ ap (λ (rs : List CallRecord). Polled ∷ rs) (flushed calls_of acted-calls side (Called left) front ∙ called-now)
+
+    view-settled : call_view settled ≡ call_view now
+    view-settled = ap view-of called-settled ∙ sym (ap view-of called-now)
+
+    ends-settled : list_any logs.ends_by settled ≡ (list_any closes (mine.actions ++ moment_actions side (pair ∷ h)) || list_any logs.ends_by log)
+    ends-settled =
+        ap (list_any logs.ends_by) (flush-as side between (Called Polled))
+        ∙ ap (λ (as_ : List Action). list_any logs.ends_by (with_actions as_ again)) (gives.none-then side offset h log x c id reply-is effect opened pending-first quiet)
+        ∙ ends-after (λ o. pending-first)
+
+    settled-stands : Stands side begins after settled
+    settled-stands =
+        call-keeps side offset h log x hist c lawful settled (polled-called (calls_of settled) (left ∷ calls_of log) called-settled)
+        (gives.settled-sent side offset h log x c id reply-is effect opened pending-first quiet)
+        (flushed events_of acted-events side (Called Polled) between ∙ flushed events_of acted-events side (Called left) front ∙ acted-events mine.actions log)
+        (flushed all_events_of acted-all side (Called Polled) between ∙ flushed all_events_of acted-all side (Called left) front ∙ acted-all mine.actions log)
+        (λ k. flushed (λ l. streams.contents l k) (λ own l. acted-contents own l k) side (Called Polled) between
+        ∙ flushed (λ l. streams.contents l k) (λ own l. acted-contents own l k) side (Called left) front ∙ acted-contents mine.actions log k)
+        (plain.ends-alike h log c mine.reply (mine.actions ++ moment_actions side (pair ∷ h)) settled x.came.openness ends-settled)
+        begins (flushed-first side (Called Polled) between)
+        (gives.settled-finds side offset h log x c id reply-is opened begins alike-first order-first second events-now bytes-now)
+        (ap (λ (v : CallView). v.sessions) view-settled ∙ sessions-session side offset h log x hist c lawful now called-now id reply-is)
+        (λ s. ap (λ (v : CallView). was_established v s) view-settled ∙ established-now s)
+        (subst (λ (v : CallView). Orderly side after v begins (findings side after)) (ap view-of (sym (flushed calls_of acted-calls side (Called Polled) between)))
+        (order-all (call_view again) begins (findings side after) (gives.settled-orders side offset h log x c id reply-is opened begins alike-first order-first second events-now bytes-now)))
+        (subst (λ (rs : List CallRecord). HandshakeAgrees side after (handshake_state rs)) (sym called-settled)
+        (subst (λ (rs : List CallRecord). HandshakeAgrees side after (handshake_state rs)) called-now (shakes now called-now)))
+
+    pub session-call-agrees : TurnAgrees side h log (turns.Call c)
+    session-call-agrees = record {
+      same = gives.settled-same side offset h log x c id reply-is effect opened pending-first quiet;
+      after = subst (λ (l : Log). Agree side after l) (sym (gives.settled-is side offset h log x c id reply-is effect))
+          (begins, (lawful, refl, hist), subst (λ (v : CallView). MembersIn side after v (findings side after)) (sym view-settled) (members-then now called-now), settled-stands);
+    }
+
+  -- ---- every call
+
+  pub call-turn : TurnAgrees side h log (turns.Call c)
+  call-turn = by (session_in mine.reply) refl
+    where
+      by : (o : Option ℕ) → session_in mine.reply ≡ o → TurnAgrees side h log (turns.Call c)
+      by None e = plain-call e
+      by (Some id) e = session-call-agrees id (session-reply mine.reply id e)

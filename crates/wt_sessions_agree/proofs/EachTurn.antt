@@ -1,0 +1,28 @@
+-- Each lawful turn agrees, and so does each list of turns.
+use Rattle.std.specs.Prelude.{[], ◌∷◌, ◌≡◌, List, true, ℕ}
+use Rattle.std.proofs.Common.{refl}
+use Rattle.wt_meaning.specs.History.{History}
+use Rattle.wt_meaning.specs.Lawful.{is_lawful}
+use Rattle.wt_sessions_agree.proofs.ListLaws.{lists-agree, runs-agree}
+use Rattle.wt_sessions_agree.proofs.OneCall.{call-turn}
+use Rattle.wt_sessions_agree.proofs.TransportTurns.{transport-turn}
+use Rattle.wt_sessions_agree.specs.Agreement.{Agree, EachTurnAgrees, ListsAgree, RunsAgree, TurnAgrees, is_one}
+use Rattle.wt_turn.specs.Log.{Log}
+use Rattle.wt_turn.specs.declared.turn.Turn.{Turn}
+use Rattle.wt_wire.specs.declared.side.Side.{Side}
+use Rattle.wt_turn.specs.declared.turn.Turn.TheVariants as turns
+
+pub each-turn-agrees : (side : Side) → EachTurnAgrees side
+each-turn-agrees side h log (turns.Call c) x one lawful = call-turn side x.0 h log x.3 x.1 x.2 c lawful
+each-turn-agrees side h log (turns.Bytes id (b ∷ [])) x one lawful = transport-turn side x.0 h log x.3 x.1 x.2 (turns.Bytes id (b ∷ [])) refl lawful
+each-turn-agrees side h log (turns.Bytes id (b ∷ c ∷ later)) x one lawful = absurd (cc one)
+each-turn-agrees side h log (turns.Bytes id []) x one lawful = absurd (cc one)
+each-turn-agrees side h log turn x one lawful = transport-turn side x.0 h log x.3 x.1 x.2 turn refl lawful
+
+-- what a lawful list of turns means is what the definitions for code answer
+pub meaning-agrees : (side : Side) → ListsAgree side
+meaning-agrees side = lists-agree side (each-turn-agrees side)
+
+-- and a list of any turns runs as far, with the same answers
+pub run-agrees : (side : Side) → RunsAgree side
+run-agrees side = runs-agree side (each-turn-agrees side)
