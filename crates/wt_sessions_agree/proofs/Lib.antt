@@ -19,7 +19,6 @@ pub mod ConnectRows
 pub mod RowsAgree
 pub mod AnswerLaws
 pub mod StartLaws
-pub mod PlanLaws
 pub mod LawfulLaws
 pub mod RecordLaws
 pub mod TurnKeeps

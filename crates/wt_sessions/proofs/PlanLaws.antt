@@ -1,10 +1,13 @@
 -- The plans of the calls on a session, performed, are what these calls do.
-use Rattle.std.specs.Prelude.{◌≡◌, Bool, None, Option, Some, false, true, ℕ}
+use Rattle.std.specs.Prelude.{◌++◌, ◌≡◌, Bool, None, Option, Some, false, true, ℕ}
 use Rattle.std.proofs.Common.{refl}
 use Rattle.wt_seam_spec.specs.Outgoing.{may_open}
 use Rattle.wt_sessions.specs.Connection.{accept_stream, end_session, give_datagram, give_stream, next_datagram, next_stream, open_stream, receive_datagram}
-use Rattle.wt_sessions.specs.Driver.{is_session_gone}
-use Rattle.wt_sessions.specs.Plans.{accept_plan, datagram_plan, end_plan, facts_of, give_plan, open_plan, perform, receive_plan}
+use Rattle.wt_sessions.specs.Answers.{in_session, named_session, on_session}
+use Rattle.wt_sessions.specs.Driver.{ending_actions, is_session_gone}
+use Rattle.wt_sessions.specs.Effect.{Effect}
+use Rattle.wt_sessions.specs.Handshake.{close_when_alone, end_rejection}
+use Rattle.wt_sessions.specs.Plans.{Plan, accept_plan, datagram_plan, end_plan, facts_of, give_plan, in_session_plan, open_plan, perform, receive_plan, rejected_plan}
 use Rattle.wt_sessions.specs.StreamTable.{Admitted, Waiting}
 use Rattle.wt_turn.specs.Log.{Log, is_open}
 use Rattle.wt_turn.specs.declared.reply.Reply.{Reply}
@@ -39,3 +42,15 @@ ends side log s = by (is_open log) refl
     by : (b : Bool) → is_open log ≡ b → perform side log (end_plan (facts_of side log) s) ≡ end_session side log s
     by true e = rw e refl
     by false e = rw e refl
+
+pub rejects : (side : Side) (log : Log) (s : ℕ) → perform side log (rejected_plan (facts_of side log) s) ≡ end_rejection side log s (ending_actions side log s ++ close_when_alone side log)
+rejects side log s = refl
+
+-- a call on the session that it names, where its plan on that session does what the call does
+pub in-session : (side : Side) (log : Log) (plan : ℕ → Plan) (call : ℕ → Effect) (name : Option ℕ) → ((s : ℕ) → perform side log (plan s) ≡ call s)
+    → perform side log (in_session_plan plan (named_session log name)) ≡ on_session side log name call
+in-session side log plan call name same = by (named_session log name)
+  where
+    by : (o : Option ℕ) → perform side log (in_session_plan plan o) ≡ in_session side log call o
+    by None = refl
+    by (Some s) = same s
