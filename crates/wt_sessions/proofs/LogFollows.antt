@@ -12,6 +12,7 @@ use Rattle.wt_sessions.proofs.Scans.{IsFresh, filter-both, is_in}
 use Rattle.wt_sessions.proofs.StreamIds.{bi-low, fewer-miss, ids-more, kinds-differ, kinds-differ-so, kinds-miss, next-misses, uni-low}
 use Rattle.wt_sessions.specs.Driver.{apply_if, call_view, control_sent, flush, is_moment, log_and_flush, pending_actions, sessions_of, stream_table, transport_view}
 use Rattle.wt_sessions.specs.DriverState.{DriverState, state_by, state_of}
+use Rattle.wt_sessions.specs.Effect.{log_call}
 use Rattle.wt_sessions.specs.Moment.{Fits, MayFollow, MayRecord, actions_if, flush_state, is_known, is_peers, moment_actions, moment_state, scan_if, scans, state_with_actions}
 use Rattle.wt_sessions.specs.Scan.{is_unclassified, scan_order, stream_ids}
 use Rattle.wt_sessions.specs.Step.{after_entry, control_after, scan_state, sent_length, step_actions}
@@ -338,3 +339,12 @@ log-sends side log e fits = by (is_moment e && is_open (e ∷ log)) (entry-follo
     by true f =
         ap (λ (as_ : List Action). with_actions as_ (e ∷ log)) (actions-follow side (e ∷ log))
         ∙ ap (λ (z : DriverState). with_actions (step_actions (transport_view side (e ∷ log)) z) (e ∷ log)) f
+
+-- a call's record after its own actions: these go out, and then the record's moment comes
+pub call-follows : (side : Side) (log : Log) (own : List Action) (r : CallRecord) → Fits side log → MayRecord side (with_actions own log) r
+    → state_of side (log_call side log own r)
+    ≡ moment_state (transport_view side (with_actions own log)) (transport_view side (Called r ∷ with_actions own log)) (Called r) (state_with_actions (transport_view side log) own (state_of side log))
+call-follows side log own r fits may =
+    log-follows side (with_actions own log) (Called r) (may, sent-fits side own log fits)
+    ∙ ap (λ (s : DriverState). moment_state (transport_view side (with_actions own log)) (transport_view side (Called r ∷ with_actions own log)) (Called r) s)
+    (sent-all-follow side own log (transport_view side log) refl fits)
