@@ -233,11 +233,9 @@ module _ (side : Side) (log : Log) (held : Holds side log) where
       by true = deliver-leads (dispatched side log).requests server requests-fresh requests-known
       by false = deliver-leads [] server tt tt
 
-  -- a session is established, and the call goes on
+  -- a session is established
   establish-leads : (own : List Action) (id offset : ℕ) → MayCome side log (SessionEstablished id offset) → Leads side (establish side log own id offset)
-  establish-leads own id offset may = record {
-    holds = call-holds side (log_call side log own (SessionEstablished id offset)) [] Polled (tt, tt) (call-holds side log own (SessionEstablished id offset) may held);
-  }
+  establish-leads own id offset may = does own (SessionEstablished id offset) (replies.Session id) may
 
   -- ---- a server's response
 

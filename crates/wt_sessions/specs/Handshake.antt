@@ -75,7 +75,7 @@ fail_handshake side log own reply = reply_with (log_call side log own HandshakeO
 
 -- the session is established; its part of the stream begins at this offset
 abbrev pub establish : Side → Log → List Action → ℕ → ℕ → Effect
-establish side log own id offset = poll_only side (log_call side log own (SessionEstablished id offset)) (replies.Session id)
+establish side log own id offset = reply_with (log_call side log own (SessionEstablished id offset)) (replies.Session id)
 
 -- ---- a server's request
 

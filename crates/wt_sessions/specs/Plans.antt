@@ -6,7 +6,6 @@ use Rattle.wt_sessions.specs.Answers.{named_session}
 use Rattle.wt_sessions.specs.Connection.{next_datagram, next_stream, session_end_actions}
 use Rattle.wt_sessions.specs.Driver.{ending_actions, has_no_session, is_living, is_session_gone}
 use Rattle.wt_sessions.specs.Effect.{Effect, log_call, reply_with, session_error, transport_error}
-use Rattle.wt_sessions.specs.Handshake.{establish}
 use Rattle.wt_sessions.specs.StreamTable.{Admitted, Waiting}
 use Rattle.wt_turn.specs.Log.{CallRecord, DatagramReceived, Log, OpeningStarted, Polled, RequestRejected, StreamAccepted, is_open}
 use Rattle.wt_turn.specs.declared.action.Action.{Action}
@@ -16,19 +15,22 @@ use Rattle.wt_wire.specs.declared.side.Side.{Side}
 use Rattle.wt_turn.specs.declared.action.Action.TheVariants as actions
 use Rattle.wt_turn.specs.declared.reply.Reply.TheVariants as replies
 
--- what a call does
-pub data Plan : Type 0 where
-  Step : (own : List Action) (call : CallRecord) (reply : Reply) → Plan  -- these go out, then this is recorded
-  Establish : (own : List Action) (id offset : ℕ) → Plan  -- these go out, the session is established, and reported
+-- what a call does: these go out, then this is recorded and answered
+pub record Plan : Type 0 where
+  pub own : List Action
+  pub call : CallRecord
+  pub reply : Reply
+
+abbrev pub plan : List Action → CallRecord → Reply → Plan
+plan own call reply = record { own = own; call = call; reply = reply }
 
 -- what a plan leads to after a log
 abbrev pub perform : Side → Log → Plan → Effect
-perform side log (Step own call reply) = reply_with (log_call side log own call) reply
-perform side log (Establish own id offset) = establish side log own id offset
+perform side log p = reply_with (log_call side log p.own p.call) p.reply
 
 -- nothing goes out, and nothing else is recorded
 abbrev pub only_reply : Reply → Plan
-only_reply reply = Step [] Polled reply
+only_reply reply = plan [] Polled reply
 
 -- ---- what calls ask of sessions
 
@@ -79,7 +81,7 @@ left_plan f s = only_reply (if f.is_open && f.is_living s then replies.Pending e
 
 -- the stream is given; without one the call waits or fails
 abbrev pub give_plan : SessionFacts → (ℕ → Reply) → ℕ → Option Waiting → Plan
-give_plan f reply s (Some w) = Step [] (StreamAccepted w.id s) (reply w.id)
+give_plan f reply s (Some w) = plan [] (StreamAccepted w.id s) (reply w.id)
 give_plan f reply s None = left_plan f s
 
 -- the next stream of this kind of the session
@@ -88,7 +90,7 @@ accept_plan f reply kind s = give_plan f reply s (f.next_stream kind s)
 
 -- the datagram is given; without one the call waits or fails
 abbrev pub datagram_plan : SessionFacts → ℕ → Option Admitted → Plan
-datagram_plan f s (Some d) = Step [] (DatagramReceived d.index) (replies.Datagram d.payload)
+datagram_plan f s (Some d) = plan [] (DatagramReceived d.index) (replies.Datagram d.payload)
 datagram_plan f s None = left_plan f s
 
 -- the next datagram of the session
@@ -103,15 +105,15 @@ open_plan f kind s =
     if f.is_gone s then only_reply (replies.Failed (f.error s)) else
     (if not f.is_open then only_reply (replies.Failed f.transport_error) else
     (if f.may_open kind
-    then Step (actions.Opened (f.next_id kind) ∷ []) (OpeningStarted (f.next_id kind) s) (replies.Opening (f.next_id kind))
+    then plan (actions.Opened (f.next_id kind) ∷ []) (OpeningStarted (f.next_id kind) s) (replies.Opening (f.next_id kind))
     else only_reply replies.Pending))
 
 -- the session ends, where the connection is open; one that is gone already sends nothing more
 abbrev pub end_plan : SessionFacts → ℕ → Plan
 end_plan f s =
-    if f.is_open then Step (if f.is_living s then f.end_actions s else []) (RequestRejected s) replies.Done else only_reply replies.Done
+    if f.is_open then plan (if f.is_living s then f.end_actions s else []) (RequestRejected s) replies.Done else only_reply replies.Done
 
 -- the rejection of a request is over: its session is gone, and with no session left the connection is closed
 abbrev pub rejected_plan : SessionFacts → ℕ → Plan
 rejected_plan f s =
-    Step (f.gone_actions s ++ (if f.has_none then (if f.is_open then actions.Close 0 [] ∷ [] else []) else [])) (RequestRejected s) replies.Rejected
+    plan (f.gone_actions s ++ (if f.has_none then (if f.is_open then actions.Close 0 [] ∷ [] else []) else [])) (RequestRejected s) replies.Rejected
