@@ -1,4 +1,4 @@
--- A call that establishes no session agrees, where its moment sends and finds alike and its record keeps the relation.
+-- A call agrees, where its moment sends and finds alike and its record keeps the relation.
 use Rattle.std.specs.Prelude.{[], ◌&&◌, ◌++◌, ◌∷◌, ◌||◌, ◌≡◌, Bool, List, None, Option, false, filter_map, if◌then◌else◌, not, true, ℕ}
 use Rattle.std.specs.List.{list_any}
 use Rattle.std.proofs.Common.{◌∙◌, ap, refl, subst, sym}
@@ -25,10 +25,11 @@ use Rattle.wt_sessions_agree.proofs.AnswerLaws.{answer-agrees, called-actions, s
 use Rattle.wt_sessions_agree.proofs.EventTurns.{ended-acted}
 use Rattle.wt_sessions_agree.proofs.MomentAgrees.{moment-agrees}
 use Rattle.wt_sessions_agree.proofs.OrderlyLaws.{orderly-checks}
+use Rattle.wt_sessions_agree.proofs.RestTurns.{moments-once}
 use Rattle.wt_sessions_agree.proofs.TurnFinds.{acted-table, found-same, table-same, table-then}
 use Rattle.wt_sessions_agree.specs.Agrees.{IsTable}
-use Rattle.wt_sessions_agree.specs.Orderly.{Orderly}
-use Rattle.wt_sessions_agree.specs.Records.{effect_of, record_of, told}
+use Rattle.wt_sessions_agree.specs.Orderly.{Known, Orderly}
+use Rattle.wt_sessions_agree.specs.Records.{effect_of, record_of}
 use Rattle.wt_sessions_agree.specs.Stands.{SeesAlike, Stands}
 use Rattle.wt_turn.specs.Log.{CallRecord, Called, Log, actions_of, calls_of, closes, with_actions}
 use Rattle.wt_turn.specs.Log as logs
@@ -41,23 +42,12 @@ use Rattle.wt_wire.specs.declared.side.Side.{Side}
 use Rattle.wt_turn.specs.declared.reply.Reply.TheVariants as replies
 use Rattle.wt_turn.specs.declared.turn.Turn.TheVariants as turns
 
--- ---- replies that establish no session
-
-pub told-plain : (side : Side) (h : History) (log : Log) (c : Call) (a : Answer) (reply : Reply) → session_in reply ≡ None
-    → told side h log c a reply ≡ reply_with (log_call side log a.actions (record_of side h c reply)) reply
-told-plain side h log c a (replies.Session id) e = absurd (cc e)
-told-plain side h log c a reply e = refl
-
-one-moment : (side : Side) (h : History) (reply : Reply) (found : List Finding) → session_in reply ≡ None → after_moments side h reply found ≡ after_checks side h (checks side h) found
-one-moment side h (replies.Session id) found e = absurd (cc e)
-one-moment side h reply found e = refl
-
--- what the newest pair's moment finds, where its reply establishes no session
-pub found-one : (side : Side) (p : Pair) (h : History) → session_in p.answer.reply ≡ None → is_open h ≡ true → findings side (p ∷ h) ≡ after_checks side (p ∷ h) (checks side (p ∷ h)) (findings side h)
+-- what the newest pair's moment finds: a second one, of a reply that establishes a session, finds nothing
+pub found-one : (side : Side) (p : Pair) (h : History) → Known side (p ∷ h) (findings side h) → is_open h ≡ true → findings side (p ∷ h) ≡ after_checks side (p ∷ h) (checks side (p ∷ h)) (findings side h)
 unfolding findings
-found-one side p h d o =
+found-one side p h known o =
     ap (λ (b : Bool). if b then after_moments side (p ∷ h) p.answer.reply (findings side h) else findings side h) o
-    ∙ one-moment side (p ∷ h) p.answer.reply (findings side h) d
+    ∙ moments-once side (p ∷ h) p.answer.reply (findings side h) known
 
 -- ---- both end alike
 
@@ -134,63 +124,60 @@ module _ (side : Side) (offset : ℕ → ℕ) (h : History) (log : Log) (x : Sta
           let n : moment_actions side with_own ≡ [] = rw e refl in
           ap (λ (b : Bool). if b then pending_actions side at else []) o ∙ sym n
 
-  -- ---- a call that establishes no session
+  -- ---- the call
 
-  module _ (plain : session_in own.reply ≡ None) (effect : call_effect side log c ≡ effect_of side h log c own) where
-    -- the log after the call
-    abbrev pub later : Log
-    later = log_call side log own.actions left
+  -- the log after it
+  abbrev pub later : Log
+  later = log_call side log own.actions left
 
-    effect-is : answers.turn_effect side log (turns.Call c) ≡ reply_with later own.reply
-    effect-is = effect ∙ told-plain side h log c own own.reply plain
-
+  module _ (effect : call_effect side log c ≡ effect_of side h log c own) where
     pub later-is : log_after side log (turns.Call c) ≡ later
-    later-is = ap (λ (e : Effect). e.log) effect-is
+    later-is = ap (λ (e : Effect). e.log) effect
 
     module _ (pending : is_open with_own ≡ true → pending_actions side at ≡ moment_actions side with_own) where
       pub call-same : answers.answer_to side log (turns.Call c) ≡ next side h (turns.Call c)
       call-same =
-          ap (λ (e : Effect). record { reply = e.reply; actions = answers.actions_since log e.log }) effect-is
+          ap (λ (e : Effect). record { reply = e.reply; actions = answers.actions_since log e.log }) effect
           ∙ ap (λ (as_ : List Action). record { reply = own.reply; actions = as_ }) (answer-agrees side h log (turns.Call c) own left (sent-same pending))
 
       pub call-sent : actions_of later ≡ newest_first (own.actions ++ moment_actions side with_own) (actions_of log)
       call-sent = called-actions side log own.actions left ∙ ap (λ (as_ : List Action). newest_first (own.actions ++ as_) (actions_of log)) (sent-same pending)
 
-    -- what it finds
-    module _ (alike : SeesAlike side with_own (transport_view side at) (call_view at) offset) (orderly : Orderly side with_own (call_view at) offset (findings side h))
-        (idle : is_open h ≡ true → after_checks side with_own (checks side with_own) (findings side h) ≡ findings side h) where
-      finds-by : (b d : Bool) → is_open h ≡ b → is_open with_own ≡ d → IsTable (findings side with_own) (stream_table side later)
-      finds-by true true o e =
-          let m : (is_moment (Called left) && logs.is_open at) ≡ true = sym at-open ∙ e in
-          subst (λ (found : List Finding). IsTable found (stream_table side later)) (sym (found-one side (record { turn = turns.Call c; answer = own }) h plain o))
-          (subst (IsTable (after_checks side with_own (checks side with_own) (findings side h))) (sym (table-then side (with_actions own.actions log) (Called left) m))
-          (moment-agrees side with_own (transport_view side at) (call_view at) offset alike (findings side h) (stream_table side (with_actions own.actions log)) orderly
-          (subst (IsTable (findings side h)) (sym (acted-table side own.actions log)) x.table)))
-      finds-by true false o e =
-          let m : (is_moment (Called left) && logs.is_open at) ≡ false = sym at-open ∙ e in
-          subst (λ (found : List Finding). IsTable found (stream_table side later)) (sym (found-one side (record { turn = turns.Call c; answer = own }) h plain o ∙ idle o))
-          (subst (IsTable (findings side h)) (sym (table-same side (with_actions own.actions log) (Called left) m ∙ acted-table side own.actions log)) x.table)
-      finds-by false d o e =
-          let m : (is_moment (Called left) && logs.is_open at) ≡ false = sym at-open ∙ shut in
-          subst (λ (found : List Finding). IsTable found (stream_table side later)) (sym (found-same side (record { turn = turns.Call c; answer = own }) h o))
-          (subst (IsTable (findings side h)) (sym (table-same side (with_actions own.actions log) (Called left) m ∙ acted-table side own.actions log)) x.table)
-        where
-          shut : is_open with_own ≡ false
-          shut = by (is_open with_own) refl
-            where
-              by : (b : Bool) → is_open with_own ≡ b → b ≡ false
-              by false q = refl
-              by true q = absurd (let p = open-before q in cc (sym p ∙ o))
+  -- what it finds, where its session's part, if it establishes one, begins at the offset
+  module _ (begins : ℕ → ℕ) (alike : SeesAlike side with_own (transport_view side at) (call_view at) begins) (orderly : Orderly side with_own (call_view at) begins (findings side h))
+      (idle : is_open h ≡ true → is_open with_own ≡ false → after_checks side with_own (checks side with_own) (findings side h) ≡ findings side h) where
+    finds-by : (b d : Bool) → is_open h ≡ b → is_open with_own ≡ d → IsTable (findings side with_own) (stream_table side later)
+    finds-by true true o e =
+        let m : (is_moment (Called left) && logs.is_open at) ≡ true = sym at-open ∙ e in
+        subst (λ (found : List Finding). IsTable found (stream_table side later)) (sym (found-one side (record { turn = turns.Call c; answer = own }) h orderly.known o))
+        (subst (IsTable (after_checks side with_own (checks side with_own) (findings side h))) (sym (table-then side (with_actions own.actions log) (Called left) m))
+        (moment-agrees side with_own (transport_view side at) (call_view at) begins alike (findings side h) (stream_table side (with_actions own.actions log)) orderly
+        (subst (IsTable (findings side h)) (sym (acted-table side own.actions log)) x.table)))
+    finds-by true false o e =
+        let m : (is_moment (Called left) && logs.is_open at) ≡ false = sym at-open ∙ e in
+        subst (λ (found : List Finding). IsTable found (stream_table side later)) (sym (found-one side (record { turn = turns.Call c; answer = own }) h orderly.known o ∙ idle o e))
+        (subst (IsTable (findings side h)) (sym (table-same side (with_actions own.actions log) (Called left) m ∙ acted-table side own.actions log)) x.table)
+    finds-by false d o e =
+        let m : (is_moment (Called left) && logs.is_open at) ≡ false = sym at-open ∙ shut in
+        subst (λ (found : List Finding). IsTable found (stream_table side later)) (sym (found-same side (record { turn = turns.Call c; answer = own }) h o))
+        (subst (IsTable (findings side h)) (sym (table-same side (with_actions own.actions log) (Called left) m ∙ acted-table side own.actions log)) x.table)
+      where
+        shut : is_open with_own ≡ false
+        shut = by (is_open with_own) refl
+          where
+            by : (b : Bool) → is_open with_own ≡ b → b ≡ false
+            by false q = refl
+            by true q = absurd (let p = open-before q in cc (sym p ∙ o))
 
-      pub call-finds : IsTable (findings side (step side h (turns.Call c))) (stream_table side later)
-      call-finds = subst (λ (found : List Finding). IsTable found (stream_table side later)) (sym (same-findings side h (turns.Call c))) (finds-by (is_open h) (is_open with_own) refl refl)
+    pub call-finds : IsTable (findings side (step side h (turns.Call c))) (stream_table side later)
+    call-finds = subst (λ (found : List Finding). IsTable found (stream_table side later)) (sym (same-findings side h (turns.Call c))) (finds-by (is_open h) (is_open with_own) refl refl)
 
-      -- and what was in order stays so
-      order-by : (b : Bool) → is_open h ≡ b → Orderly side with_own (call_view at) offset (findings side with_own)
-      order-by true o =
-          subst (Orderly side with_own (call_view at) offset) (sym (found-one side (record { turn = turns.Call c; answer = own }) h plain o))
-          (orderly-checks side with_own (call_view at) offset (checks side with_own) (peers-checked side with_own) (findings side h) orderly)
-      order-by false o = subst (Orderly side with_own (call_view at) offset) (sym (found-same side (record { turn = turns.Call c; answer = own }) h o)) orderly
+    -- and what was in order stays so
+    order-by : (b : Bool) → is_open h ≡ b → Orderly side with_own (call_view at) begins (findings side with_own)
+    order-by true o =
+        subst (Orderly side with_own (call_view at) begins) (sym (found-one side (record { turn = turns.Call c; answer = own }) h orderly.known o))
+        (orderly-checks side with_own (call_view at) begins (checks side with_own) (peers-checked side with_own) (findings side h) orderly)
+    order-by false o = subst (Orderly side with_own (call_view at) begins) (sym (found-same side (record { turn = turns.Call c; answer = own }) h o)) orderly
 
-      pub call-orders : Orderly side with_own (call_view at) offset (findings side (step side h (turns.Call c)))
-      call-orders = subst (Orderly side with_own (call_view at) offset) (sym (same-findings side h (turns.Call c))) (order-by (is_open h) refl)
+    pub call-orders : Orderly side with_own (call_view at) begins (findings side (step side h (turns.Call c)))
+    call-orders = subst (Orderly side with_own (call_view at) begins) (sym (same-findings side h (turns.Call c))) (order-by (is_open h) refl)

@@ -35,14 +35,12 @@ pub mod ReceivedLaws
 pub mod OrderTurns
 pub mod CallTurns
 pub mod ByteTurns
-pub mod EstablishTurns
 pub mod DueLaws
 pub mod MembersLaws
 pub mod DueEnds
 pub mod ReplyLaws
 pub mod ShakeLaws
 pub mod HandshakeTurns
-pub mod QuietLaws
 pub mod MomentSends
 pub mod MembersKept
 pub mod RestKinds
@@ -54,8 +52,6 @@ pub mod PendingLaws
 pub mod RestTurns
 pub mod CameLaws
 pub mod CallKeeps
-pub mod SecondMoment
-pub mod MomentAlike
 pub mod MembersBefore
 pub mod MembersTurns
 pub mod TransportTurns

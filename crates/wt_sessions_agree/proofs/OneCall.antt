@@ -27,24 +27,21 @@ use Rattle.wt_sessions.specs.Driver.{call_view, gives_up, is_moment, log_and_flu
 use Rattle.wt_sessions.specs.Handshake.{handshake_state}
 use Rattle.wt_sessions.specs.StreamTable.{CallView, Session, was_established}
 use Rattle.wt_sessions_agree.proofs.AnswerLaws.{sent-then}
-use Rattle.wt_sessions_agree.proofs.CallKeeps.{accepted-after, call-keeps, ended-after, given_up-after, polled-called, reset-from, same-called}
+use Rattle.wt_sessions_agree.proofs.CallKeeps.{accepted-after, call-keeps, ended-after, given_up-after, reset-from, same-called}
 use Rattle.wt_sessions_agree.proofs.CallTells.{reset-goes}
 use Rattle.wt_sessions_agree.proofs.CallTurns as plain
 use Rattle.wt_sessions_agree.proofs.DueEnds.{ends-hold}
-use Rattle.wt_sessions_agree.proofs.EstablishTurns as gives
 use Rattle.wt_sessions_agree.proofs.EventTurns.{ended-acted, flush-as, view-of}
 use Rattle.wt_sessions_agree.proofs.HandshakeTurns.{shake-call}
 use Rattle.wt_sessions_agree.proofs.LawfulLaws.{lawful-agrees}
 use Rattle.wt_sessions_agree.proofs.MembersBefore.{good-before, halves-seen, members-moment}
 use Rattle.wt_sessions_agree.proofs.MembersKept.{Good}
 use Rattle.wt_sessions_agree.proofs.MembersTurns.{members-call, members-own}
-use Rattle.wt_sessions_agree.proofs.MomentAlike.{sends-alike, sends-silent, sends-twice}
+use Rattle.wt_sessions_agree.proofs.PendingLaws.{sends-alike}
 use Rattle.wt_sessions_agree.proofs.OrderTurns.{order-call, order-session}
 use Rattle.wt_sessions_agree.proofs.OutLaws.{acted, any-newest, same-raw}
-use Rattle.wt_sessions_agree.proofs.RestLaws.{second-finds}
-use Rattle.wt_sessions_agree.proofs.RestTurns.{idle-call, known-before}
+use Rattle.wt_sessions_agree.proofs.RestTurns.{idle-call}
 use Rattle.wt_sessions_agree.proofs.RowsAgree.{call-agrees}
-use Rattle.wt_sessions_agree.proofs.SecondMoment.{second-quiet}
 use Rattle.wt_sessions_agree.proofs.SessionTurns.{calls-established, session-reply, sessions-call, sessions-session, with-offset}
 use Rattle.wt_sessions_agree.proofs.TransportLaws.{acted-all, acted-contents, acted-events, flushed}
 use Rattle.wt_sessions_agree.proofs.TurnFinds.{acted-table, sees-alike}
@@ -236,158 +233,64 @@ module _ (side : Side) (offset : ℕ → ℕ) (h : History) (log : Log) (x : Sta
     known = o.known;
   }
 
-  -- ---- what holds of a log that has the call's record, and what its moments sent
+  -- ---- where the sessions' parts begin after it
 
-  module _ (log2 : Log) (called : calls_of log2 ≡ left ∷ calls_of log) where
-    shakes : HandshakeAgrees side after (handshake_state (calls_of log2))
-    shakes = shake-call side offset h log x hist c lawful log2 called
+  -- the log after the call
+  abbrev later : Log
+  later = plain.later side offset h log x c
 
-    members-then : MembersIn side after (call_view log2) (findings side after)
-    members-then = members-moment side h (turns.Call c) hist lawful (call_view log2) (members-call side h log log2 c hist called members)
+  called-later : calls_of later ≡ left ∷ calls_of log
+  called-later = flushed calls_of acted-calls side (Called left) front ∙ called-now
 
-  -- ---- a call that establishes no session
+  module _ (begins : ℕ → ℕ) (sessions : (log2 : Log) → calls_of log2 ≡ left ∷ calls_of log → (call_view log2).sessions ≡ filter_map (session_at after begins) (ids_from 0 0 (stream_count side after 0)))
+      (before : Orderly side after (call_view now) begins (findings side h))
+      (idle : is_open h ≡ true → is_open (pair ∷ h) ≡ false → after_checks side (pair ∷ h) (checks side (pair ∷ h)) (findings side h) ≡ findings side h) where
+    alike : SeesAlike side (pair ∷ h) (transport_view side now) (call_view now) begins
+    alike = alike-by begins (sessions now called-now)
 
-  module _ (none : session_in mine.reply ≡ None) where
-    abbrev later : Log
-    later = plain.later side offset h log x c none effect
-
-    called-later : calls_of later ≡ left ∷ calls_of log
-    called-later = flushed calls_of acted-calls side (Called left) front ∙ called-now
-
-    alike : SeesAlike side (pair ∷ h) (transport_view side now) (call_view now) offset
-    alike = alike-by offset (sessions-call side offset h log x hist c lawful now called-now none)
-
-    orderly : Orderly side (pair ∷ h) (call_view now) offset (findings side h)
-    orderly = order-own (call_view now) offset (findings side h) (order-call side offset h log x hist c lawful now called-now none)
+    orderly : Orderly side (pair ∷ h) (call_view now) begins (findings side h)
+    orderly = order-own (call_view now) begins (findings side h) before
 
     pending : is_open (pair ∷ h) ≡ true → pending_actions side now ≡ moment_actions side (pair ∷ h)
-    pending o = sends-alike side offset pair h hist front (Called left) o (moment-now o) events-now out-now alike seen orderly good table-front none
+    pending o = sends-alike side begins pair h hist front (Called left) o (moment-now o) events-now out-now alike seen orderly good table-front
 
-    sent-later : actions_of later ≡ newest_first (mine.actions ++ moment_actions side (pair ∷ h)) (actions_of log)
-    sent-later = plain.call-sent side offset h log x c none effect pending
-
-    plain-stands : Stands side offset after later
-    plain-stands =
-        call-keeps side offset h log x hist c lawful later (same-called (calls_of later) (left ∷ calls_of log) called-later) sent-later
+    stands : Stands side begins after later
+    stands =
+        call-keeps side offset h log x hist c lawful later (same-called (calls_of later) (left ∷ calls_of log) called-later) (plain.call-sent side offset h log x c effect pending)
         (flushed events_of acted-events side (Called left) front ∙ acted-events mine.actions log)
         (flushed all_events_of acted-all side (Called left) front ∙ acted-all mine.actions log)
         (λ k. flushed (λ l. streams.contents l k) (λ own l. acted-contents own l k) side (Called left) front ∙ acted-contents mine.actions log k)
         (plain.ends-alike h log c mine.reply (mine.actions ++ moment_actions side (pair ∷ h)) later x.came.openness (ends-after pending))
-        offset (flushed-first side (Called left) front)
-        (plain.call-finds side offset h log x c none effect alike orderly (λ o. idle-call side h pair hist o none c refl))
-        (sessions-call side offset h log x hist c lawful later called-later none)
+        begins (flushed-first side (Called left) front)
+        (plain.call-finds side offset h log x c begins alike orderly idle)
+        (sessions later called-later)
         (calls-established side offset h log x hist c lawful later called-later)
-        (subst (λ (v : CallView). Orderly side after v offset (findings side after)) (ap view-of (called-now ∙ sym called-later))
-        (order-all (call_view now) offset (findings side after) (plain.call-orders side offset h log x c none effect alike orderly (λ o. idle-call side h pair hist o none c refl))))
-        (shakes later called-later)
+        (subst (λ (v : CallView). Orderly side after v begins (findings side after)) (ap view-of (called-now ∙ sym called-later))
+        (order-all (call_view now) begins (findings side after) (plain.call-orders side offset h log x c begins alike orderly idle)))
+        (shake-call side offset h log x hist c lawful later called-later)
 
-    pub plain-call : TurnAgrees side h log (turns.Call c)
-    plain-call = record {
-      same = plain.call-same side offset h log x c none effect pending;
-      after = subst (λ (l : Log). Agree side after l) (sym (plain.later-is side offset h log x c none effect))
-          (offset, (lawful, refl, hist), members-then later called-later, plain-stands);
+    agrees : TurnAgrees side h log (turns.Call c)
+    agrees = record {
+      same = plain.call-same side offset h log x c effect pending;
+      after = subst (λ (l : Log). Agree side after l) (sym (plain.later-is side offset h log x c effect))
+          (begins, (lawful, refl, hist), members-moment side h (turns.Call c) hist lawful (call_view later) (members-call side h log later c hist called-later members), stands);
     }
 
-  -- ---- a call that establishes a session
-
-  module _ (id : ℕ) (reply-is : mine.reply ≡ replies.Session id) where
-    -- where its part of its stream begins
-    abbrev begins : ℕ → ℕ
-    begins = with-offset id (part_start side h id) offset
-
-    abbrev settled : Log
-    settled = gives.settled side offset h log x c id reply-is
-
-    abbrev between : Log
-    between = log_and_flush side front (Called left)
-
-    given : session_in mine.reply ≡ Some id
-    given = ap session_in reply-is
-
-    opened : is_open (pair ∷ h) ≡ true
-    opened =
-        let g = gives-open side h c id given in
-        plain.at-open side offset h log x c
-        ∙ ap not (plain.at-ends side offset h log x c ∙ ap (λ (b : Bool). b || list_any logs.ends_by log) g.closes-none) ∙ sym x.came.openness ∙ g.opened
-
-    alike-first : SeesAlike side (pair ∷ h) (transport_view side now) (call_view now) begins
-    alike-first = alike-by begins (sessions-session side offset h log x hist c lawful now called-now id reply-is)
-
-    order-first : Orderly side (pair ∷ h) (call_view now) begins (findings side h)
-    order-first = order-own (call_view now) begins (findings side h) (order-session side offset h log x hist c lawful now called-now id reply-is)
-
-    -- after the first moment everything is at rest
-    abbrev first : List Finding
-    first = after_checks side (pair ∷ h) (checks side (pair ∷ h)) (findings side h)
-
-    second : more side (pair ∷ h) (checks side (pair ∷ h)) first ≡ []
-    second = second-finds side (pair ∷ h) (findings side h) (known-before side (record { turn = turns.Call c; answer = next side h (turns.Call c) }) h (lawful, refl, hist))
-
-    pending-first : pending_actions side now ≡ moment_actions side (pair ∷ h)
-    pending-first =
-        sends-twice side begins pair h hist front (Called left) opened (moment-now opened) events-now out-now alike-first seen order-first good table-front id reply-is
-        (subst (λ (found : List Finding). more side (pair ∷ h) (checks side (pair ∷ h)) found ≡ []) (checks-add side (pair ∷ h) (checks side (pair ∷ h)) (findings side h)) second)
-
-    -- the second one finds and sends nothing
-    abbrev again : Log
-    again = Called Polled ∷ between
-
-    alike-again : SeesAlike side (pair ∷ h) (transport_view side again) (call_view again) begins
-    alike-again = gives.alike-again side offset h log x c id reply-is opened begins alike-first order-first second events-now bytes-now
-
-    order-again : Orderly side (pair ∷ h) (call_view again) begins first
-    order-again = gives.orders-again side offset h log x c id reply-is opened begins alike-first order-first second events-now bytes-now
-
-    quiet : logs.is_open between ≡ true → pending_actions side again ≡ []
-    quiet o =
-        second-quiet side begins (pair ∷ h) front (Called left) (Called Polled) (moment-now opened) o (flushed events_of acted-events side (Called left) front) refl
-        (sends-silent side begins pair h hist front (Called left) opened (moment-now opened) events-now out-now alike-first seen order-first good table-front)
-        alike-again first order-again (gives.first-finds side offset h log x c id reply-is opened begins alike-first order-first second) second
-
-    called-settled : calls_of settled ≡ Polled ∷ left ∷ calls_of log
-    called-settled =
-        flushed calls_of acted-calls side (Called Polled) between
-        ∙ ap (λ (rs : List CallRecord). Polled ∷ rs) (flushed calls_of acted-calls side (Called left) front ∙ called-now)
-
-    view-settled : call_view settled ≡ call_view now
-    view-settled = ap view-of called-settled ∙ sym (ap view-of called-now)
-
-    ends-settled : list_any logs.ends_by settled ≡ (list_any closes (mine.actions ++ moment_actions side (pair ∷ h)) || list_any logs.ends_by log)
-    ends-settled =
-        ap (list_any logs.ends_by) (flush-as side between (Called Polled))
-        ∙ ap (λ (as_ : List Action). list_any logs.ends_by (with_actions as_ again)) (gives.none-then side offset h log x c id reply-is effect opened pending-first quiet)
-        ∙ ends-after (λ o. pending-first)
-
-    settled-stands : Stands side begins after settled
-    settled-stands =
-        call-keeps side offset h log x hist c lawful settled (polled-called (calls_of settled) (left ∷ calls_of log) called-settled)
-        (gives.settled-sent side offset h log x c id reply-is effect opened pending-first quiet)
-        (flushed events_of acted-events side (Called Polled) between ∙ flushed events_of acted-events side (Called left) front ∙ acted-events mine.actions log)
-        (flushed all_events_of acted-all side (Called Polled) between ∙ flushed all_events_of acted-all side (Called left) front ∙ acted-all mine.actions log)
-        (λ k. flushed (λ l. streams.contents l k) (λ own l. acted-contents own l k) side (Called Polled) between
-        ∙ flushed (λ l. streams.contents l k) (λ own l. acted-contents own l k) side (Called left) front ∙ acted-contents mine.actions log k)
-        (plain.ends-alike h log c mine.reply (mine.actions ++ moment_actions side (pair ∷ h)) settled x.came.openness ends-settled)
-        begins (flushed-first side (Called Polled) between)
-        (gives.settled-finds side offset h log x c id reply-is opened begins alike-first order-first second events-now bytes-now)
-        (ap (λ (v : CallView). v.sessions) view-settled ∙ sessions-session side offset h log x hist c lawful now called-now id reply-is)
-        (λ s. ap (λ (v : CallView). was_established v s) view-settled ∙ established-now s)
-        (subst (λ (v : CallView). Orderly side after v begins (findings side after)) (ap view-of (sym (flushed calls_of acted-calls side (Called Polled) between)))
-        (order-all (call_view again) begins (findings side after) (gives.settled-orders side offset h log x c id reply-is opened begins alike-first order-first second events-now bytes-now)))
-        (subst (λ (rs : List CallRecord). HandshakeAgrees side after (handshake_state rs)) (sym called-settled)
-        (subst (λ (rs : List CallRecord). HandshakeAgrees side after (handshake_state rs)) called-now (shakes now called-now)))
-
-    pub session-call-agrees : TurnAgrees side h log (turns.Call c)
-    session-call-agrees = record {
-      same = gives.settled-same side offset h log x c id reply-is effect opened pending-first quiet;
-      after = subst (λ (l : Log). Agree side after l) (sym (gives.settled-is side offset h log x c id reply-is effect))
-          (begins, (lawful, refl, hist), subst (λ (v : CallView). MembersIn side after v (findings side after)) (sym view-settled) (members-then now called-now), settled-stands);
-    }
-
-  -- ---- every call
+  -- a call that establishes a session ends nothing
+  gives-idle : (id : ℕ) → session_in mine.reply ≡ Some id → is_open (pair ∷ h) ≡ true
+  gives-idle id given =
+      let g = gives-open side h c id given in
+      plain.at-open side offset h log x c
+      ∙ ap not (plain.at-ends side offset h log x c ∙ ap (λ (b : Bool). b || list_any logs.ends_by log) g.closes-none) ∙ sym x.came.openness ∙ g.opened
 
   pub call-turn : TurnAgrees side h log (turns.Call c)
   call-turn = by (session_in mine.reply) refl
     where
       by : (o : Option ℕ) → session_in mine.reply ≡ o → TurnAgrees side h log (turns.Call c)
-      by None e = plain-call e
-      by (Some id) e = session-call-agrees id (session-reply mine.reply id e)
+      by None e =
+          agrees offset (λ log2 called. sessions-call side offset h log x hist c lawful log2 called e) (order-call side offset h log x hist c lawful now called-now e)
+          (λ o d. idle-call side h pair hist o e c refl)
+      by (Some id) e =
+          let r : mine.reply ≡ replies.Session id = session-reply mine.reply id e in
+          agrees (with-offset id (part_start side h id) offset) (λ log2 called. sessions-session side offset h log x hist c lawful log2 called id r) (order-session side offset h log x hist c lawful now called-now id r)
+          (λ o d. absurd (let t = gives-idle id e in cc (sym t ∙ d)))

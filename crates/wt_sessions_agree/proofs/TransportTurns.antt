@@ -25,7 +25,7 @@ use Rattle.wt_sessions_agree.proofs.MembersBefore.{good-before, halves-seen, mem
 use Rattle.wt_sessions_agree.proofs.MembersKept.{Good, good-alike, good-fresh, good-kept}
 use Rattle.wt_sessions_agree.proofs.MembersTurns.{members-plain}
 use Rattle.wt_sessions_agree.proofs.OrderTurns.{order-plain}
-use Rattle.wt_sessions_agree.proofs.PendingLaws.{pending-is}
+use Rattle.wt_sessions_agree.proofs.PendingLaws.{sends-alike}
 use Rattle.wt_sessions_agree.proofs.RestTurns.{idle-loss}
 use Rattle.wt_sessions_agree.proofs.TransportLaws.{is_single}
 use Rattle.wt_sessions_agree.proofs.TurnAnswers.{done-next, sends-now}
@@ -84,10 +84,7 @@ module _ (side : Side) (offset : ℕ → ℕ) (h : History) (log : Log) (x : Sta
 
     pub entry-sends : is_open h ≡ true → is_open (bare ∷ h) ≡ true → (is_moment e && logs.is_open (e ∷ log)) ≡ true → pending_actions side (e ∷ log) ≡ moment_actions side (bare ∷ h)
     entry-sends o opened moment =
-        pending-is side offset bare h log e opened moment at out alike (Good side (bare ∷ h) (call_view (e ∷ log))) (good-kept side (bare ∷ h) (call_view (e ∷ log)))
-        (λ found table g t k n. good-alike side (bare ∷ h) (call_view (e ∷ log)) found (transport_view side (e ∷ log)) table g t calls seen k n)
-        (λ found g k p n. good-fresh side (bare ∷ h) (call_view (e ∷ log)) found g k p n)
-        orderly good x.table (no-fault side h hist o) refl
+        sends-alike side offset bare h hist log e opened moment at out alike seen orderly good x.table
 
 -- ---- what a turn keeps of the streams of sessions
 
@@ -156,8 +153,8 @@ module _ (side : Side) (offset : ℕ → ℕ) (h : History) (log : Log) (x : Sta
           ap (λ (b : Bool). is_moment (event_entry b e) && logs.is_open (event_entry b e ∷ log)) o
           ∙ ap (λ (b : Bool). not (b || list_any logs.ends_by log)) stays ∙ o
 
-      sends-alike : sent-entry side log entry ≡ sends-now side h turn
-      sends-alike = by (is_open h) refl
+      entry-alike : sent-entry side log entry ≡ sends-now side h turn
+      entry-alike = by (is_open h) refl
         where
           by : (b : Bool) → is_open h ≡ b → sent-entry side log entry ≡ sends-now side h turn
           by true o =
@@ -174,7 +171,7 @@ module _ (side : Side) (offset : ℕ → ℕ) (h : History) (log : Log) (x : Sta
               shut s = rw s refl
 
       pub event-turn : TurnAgrees side h log turn
-      event-turn = event-agrees side offset h log x turn e single hist lawful told stays none after-is sends-alike (ordered (entry ∷ log) (entry-calls (logs.is_open log)))
+      event-turn = event-agrees side offset h log x turn e single hist lawful told stays none after-is entry-alike (ordered (entry ∷ log) (entry-calls (logs.is_open log)))
           (λ o. subst (Orderly side (pair ∷ h) (call_view (entry ∷ log)) offset) (sym (found-same side pair h o)) (ordered (entry ∷ log) (entry-calls (logs.is_open log)))) members-after
 
 -- ---- every turn

@@ -13,7 +13,6 @@ use Rattle.wt_message.specs.FixedBytes.{response_bytes}
 use Rattle.wt_proto.specs.ResponseWalk.{response_walk_of}
 use Rattle.wt_seam_spec.specs.Reports.{end_of}
 use Rattle.wt_sessions.specs.Effect.{Effect, log_call, reply_with}
-use Rattle.wt_sessions.specs.Handshake.{establish}
 use Rattle.wt_sessions.specs.StreamTable.{Admitted}
 use Rattle.wt_sessions_agree.specs.Agrees.{admitted_in}
 use Rattle.wt_sessions_agree.specs.Orderly.{is_of}
@@ -120,11 +119,6 @@ record_of side h c _ = Polled
 
 -- ---- the effect
 
--- what a reply leads to: a call's record, and one more moment where a session is established
-abbrev pub told : Side → History → Log → Call → Answer → Reply → Effect
-told side h log c a (replies.Session id) = establish side log a.actions id (part_start side h id)
-told side h log c a reply = reply_with (log_call side log a.actions (record_of side h c reply)) reply
-
 -- what a call's own answer leads to, as the log has it
 abbrev pub effect_of : Side → History → Log → Call → Answer → Effect
-effect_of side h log c a = told side h log c a a.reply
+effect_of side h log c a = reply_with (log_call side log a.actions (record_of side h c a.reply)) a.reply
