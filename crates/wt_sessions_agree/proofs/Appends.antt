@@ -4,36 +4,15 @@ use Rattle.std.specs.List.{cons_option, list_any}
 use Rattle.std.specs.Option.{option_or}
 use Rattle.std.proofs.Common.{◌∙◌, ap, arith, refl}
 use Rattle.std.proofs.lemmas.Bool.{eqb-true}
+use Rattle.wt_promise.proofs.Grows.{first_of-stays}
+use Rattle.wt_proto.specs.declared.verdict.Verdict.{Verdict}
 use Rattle.wt_sessions.specs.StreamTable.{StreamTable}
+use Rattle.wt_sessions_agree.proofs.Basics.{or-false, or-none}
 use Rattle.wt_sessions_agree.specs.Agrees.{IsTable, admitted_in, classified_in, closed_in}
 use Rattle.wt_meaning.specs.Findings.{Finding, dequeues, fault_in, fault_of, first_of, is_classified, is_datagram, is_dequeued, reads_settings, settings_came, verdict_in, verdict_of}
 use Rattle.wt_meaning.specs.Moments.{ids_from}
 
 -- ---- lists
-
-pub or-none : {T : Type 0} (o : Option T) → option_or o None ≡ o
-or-none None = refl
-or-none (Some x) = refl
-
-pub or-false : (b : Bool) → (b || false) ≡ b
-or-false true = refl
-or-false false = refl
-
-pub and-false : (b : Bool) → (b && false) ≡ false
-and-false true = refl
-and-false false = refl
-
-pub and-true : (b : Bool) → (b && true) ≡ b
-and-true true = refl
-and-true false = refl
-
-pub and-left : (a b : Bool) → (a && b) ≡ true → a ≡ true
-and-left true b e = refl
-and-left false b e = absurd (cc e)
-
-pub and-right : (a b : Bool) → (a && b) ≡ true → b ≡ true
-and-right true b e = e
-and-right false b e = absurd (cc e)
 
 pub drops : {X Y : Type 0} (g : X → Option Y) (x : X) → g x ≡ None → (xs : List X) → filter_map g (xs ++ x ∷ []) ≡ filter_map g xs
 drops g x e [] = rw e refl
@@ -82,6 +61,13 @@ classified-append found f j = ap is_some (first-append (verdict_in j) found f) �
     by : {T : Type 0} (o x : Option T) → is_some (option_or o x) ≡ (is_some o || is_some x)
     by None x = refl
     by (Some v) x = refl
+
+pub classified-more : (found new : List Finding) (k : ℕ) → is_classified found k ≡ true → is_classified (found ++ new) k ≡ true
+classified-more found new k e = by (verdict_of found k) refl e
+  where
+    by : (o : Option Verdict) → verdict_of found k ≡ o → is_some o ≡ true → is_classified (found ++ new) k ≡ true
+    by None i q = absurd (cc q)
+    by (Some v) i q = ap is_some (first_of-stays (verdict_in k) found new v i)
 
 -- ---- the table
 

@@ -9,7 +9,7 @@ use Rattle.wt_meaning.specs.Halves.{is_done, priority_by, read_by, was_read}
 use Rattle.wt_meaning.specs.Handshakes.{was_given}
 use Rattle.wt_meaning.specs.History.{History, Pair, actions_out, answers_reset, answers_stop, contents, events, exists, hands_out, is_given_up, is_handed_out, is_open, is_reset, is_reset_of, stream_count, was_finished}
 use Rattle.wt_meaning.specs.Lawful.{is_lawful}
-use Rattle.wt_meaning.specs.Meaning.{own_answer, step, with_pair}
+use Rattle.wt_meaning.specs.Meaning.{next, own_answer, step, with_pair}
 use Rattle.wt_meaning.specs.Moments.{findings, ids_from}
 use Rattle.wt_meaning.specs.Sends.{moment_actions}
 use Rattle.wt_meaning.specs.Windows.{first_session, gone_in, is_established, is_gone_by_call, is_number, last_request, request_in, requests, session_in}
@@ -20,17 +20,20 @@ use Rattle.wt_seam_spec.specs.Joined.{join_all, newest_first}
 use Rattle.wt_seam_spec.specs.Reports.{is_acknowledged}
 use Rattle.wt_seam_spec.specs.Sent as sends
 use Rattle.wt_seam_spec.specs.Streams as streams
+use Rattle.wt_promise.proofs.Accepted.{or-true}
 use Rattle.wt_sessions.specs.Answers as answers
 use Rattle.wt_sessions.specs.Driver as drivers
 use Rattle.wt_sessions.specs.Driver.{accepts_stream, call_view, delivers, ends_session, gives_up, members_of, receives, sessions_of, stream_table}
 use Rattle.wt_sessions.specs.Halves as halves
 use Rattle.wt_sessions.specs.Handshake.{handshake_state, requested_by, requested_stream}
 use Rattle.wt_sessions.specs.StreamTable.{was_established}
+use Rattle.wt_sessions_agree.proofs.Basics.{or-none}
 use Rattle.wt_sessions_agree.proofs.CallOpenings.{opening-next, opening-of, unfailed-next}
 use Rattle.wt_sessions_agree.proofs.CallReplies.{suits-own}
 use Rattle.wt_sessions_agree.proofs.CallTells.{ended-by, priority-by, read-as, reset-by, reset-goes, stopped-by, told-if}
 use Rattle.wt_sessions_agree.proofs.OutLaws.{any-newest, same-out}
 use Rattle.wt_sessions_agree.proofs.RecordLaws.{accepted-by, established-by, requested-by}
+use Rattle.wt_sessions_agree.proofs.TransportLaws.{called-contents, called-events}
 use Rattle.wt_sessions_agree.proofs.TurnKeeps.{resets-apart, told-resets, unsent-reset}
 use Rattle.wt_sessions_agree.specs.Agrees.{Agrees, IsTable}
 use Rattle.wt_sessions_agree.specs.Orderly.{Orderly, session_at}
@@ -43,76 +46,6 @@ use Rattle.wt_turn.specs.declared.answer.Answer.{Answer}
 use Rattle.wt_turn.specs.declared.call.Call.{Call}
 use Rattle.wt_wire.specs.declared.side.Side.{Side}
 use Rattle.wt_turn.specs.declared.turn.Turn.TheVariants as turns
-
--- ---- records that say the same
-
--- both lists answer alike, whatever is asked of calls
-pub record SameCalls (rs ss : List CallRecord) : Type 0 where
-  pub accepted : (k : ℕ) → list_any (accepts_stream k) rs ≡ list_any (accepts_stream k) ss
-  pub received : (n : ℕ) → list_any (receives n) rs ≡ list_any (receives n) ss
-  pub delivered : (k : ℕ) → list_any (delivers k) rs ≡ list_any (delivers k) ss
-  pub ended : (s : ℕ) → list_any (ends_session s) rs ≡ list_any (ends_session s) ss
-  pub given_up : (k : ℕ) → list_any (gives_up k) rs ≡ list_any (gives_up k) ss
-  pub unsent : (k : ℕ) → list_any (unsent-reset k) rs ≡ list_any (unsent-reset k) ss
-  pub failed : (k : ℕ) → list_any (fails_opening k) rs ≡ list_any (fails_opening k) ss
-  pub sessions : sessions_of rs ≡ sessions_of ss
-  pub members : (s : ℕ) → members_of rs s ≡ members_of ss s
-  pub named : drivers.first_session rs ≡ drivers.first_session ss
-  pub requested : requested_stream rs ≡ requested_stream ss
-  pub state : handshake_state rs ≡ handshake_state ss
-  pub read : (k : ℕ) → halves.total_read k rs ≡ halves.total_read k ss
-  pub priority : (k : ℕ) → sends.priority_of rs k ≡ sends.priority_of ss k
-  pub opening : (k : ℕ) → opening-of k rs ≡ opening-of k ss
-
--- a list does as itself
-pub same-itself : (rs : List CallRecord) → SameCalls rs rs
-same-itself rs = record {
-  accepted = λ k. refl;
-  received = λ n. refl;
-  delivered = λ k. refl;
-  ended = λ s. refl;
-  given_up = λ k. refl;
-  unsent = λ k. refl;
-  failed = λ k. refl;
-  sessions = refl;
-  members = λ s. refl;
-  named = refl;
-  requested = refl;
-  state = refl;
-  read = λ k. refl;
-  priority = λ k. refl;
-  opening = λ k. refl;
-}
-
--- and with one more poll, which says nothing
-pub same-polled : (rs : List CallRecord) → SameCalls (Polled ∷ rs) rs
-same-polled rs = record {
-  accepted = λ k. refl;
-  received = λ n. refl;
-  delivered = λ k. refl;
-  ended = λ s. refl;
-  given_up = λ k. refl;
-  unsent = λ k. refl;
-  failed = λ k. refl;
-  sessions = refl;
-  members = λ s. refl;
-  named = or-no (drivers.first_session rs);
-  requested = refl;
-  state = refl;
-  read = λ k. omega arith;
-  priority = λ k. refl;
-  opening = λ k. refl;
-}
-  where
-    or-no : (o : Option ℕ) → option_or o None ≡ o
-    or-no None = refl
-    or-no (Some s) = refl
-
-pub same-called : (rs ss : List CallRecord) → rs ≡ ss → SameCalls rs ss
-same-called rs ss e = subst (λ (ts : List CallRecord). SameCalls ts ss) (sym e) (same-itself ss)
-
-pub polled-called : (rs ss : List CallRecord) → rs ≡ Polled ∷ ss → SameCalls rs ss
-polled-called rs ss e = subst (λ (ts : List CallRecord). SameCalls ts ss) (sym e) (same-polled ss)
 
 -- ---- lists with one more
 
@@ -141,26 +74,12 @@ module _ (side : Side) (offset : ℕ → ℕ) (h : History) (log : Log) (x : Sta
 
   -- ---- what came, and what went out
 
-  same-events : events after ≡ events h
-  same-events = by (is_open h)
-    where
-      by : (b : Bool) → (if b then events h else events h) ≡ events h
-      by true = refl
-      by false = refl
-
-  same-contents : (k : ℕ) → contents after k ≡ contents h k
-  same-contents k = by (is_open h)
-    where
-      by : (b : Bool) → (if b then contents h k else contents h k) ≡ contents h k
-      by true = refl
-      by false = refl
-
   pub came-after : (log2 : Log) → events_of log2 ≡ events_of log → all_events_of log2 ≡ all_events_of log → ((k : ℕ) → streams.contents log2 k ≡ streams.contents log k) → is_open after ≡ logs.is_open log2 → Agrees after log2
   came-after log2 at all bytes opens = record {
-    events = same-events ∙ x.came.events ∙ sym at;
+    events = called-events h c (next side h (turns.Call c)) ∙ x.came.events ∙ sym at;
     all_events = x.came.all_events ∙ sym all;
     openness = opens;
-    contents = λ k. same-contents k ∙ x.came.contents k ∙ sym (bytes k);
+    contents = λ k. called-contents h c (next side h (turns.Call c)) k ∙ x.came.contents k ∙ sym (bytes k);
   }
 
   pub out-after : (log2 : Log) → actions_of log2 ≡ newest_first all_sent (actions_of log) → SameOut (actions_out after) (actions_of log2)
@@ -168,20 +87,20 @@ module _ (side : Side) (offset : ℕ → ℕ) (h : History) (log : Log) (x : Sta
 
   -- ---- what calls did
 
-  module _ (rs : List CallRecord) (called : SameCalls rs (left ∷ calls_of log)) where
+  module _ (rs : List CallRecord) (called : rs ≡ left ∷ calls_of log) where
     pub accepted-after : (k : ℕ) → list_any (accepts_stream k) rs ≡ is_handed_out after k
-    accepted-after k = called.accepted k ∙ ap (λ (b : Bool). b || list_any (accepts_stream k) (calls_of log)) (accepted-by side h c k own.reply) ∙ or-with (hands_out k own.reply) _ _ (x.calls.accepted k)
+    accepted-after k = ap (list_any (accepts_stream k)) called ∙ ap (λ (b : Bool). b || list_any (accepts_stream k) (calls_of log)) (accepted-by side h c k own.reply) ∙ or-with (hands_out k own.reply) _ _ (x.calls.accepted k)
 
     pub ended-after : (s : ℕ) → list_any (ends_session s) rs ≡ is_gone_by_call after s
     ended-after s =
-        called.ended s ∙ ap (λ (b : Bool). b || list_any (ends_session s) (calls_of log)) (ended-by side h c hist lawful s)
+        ap (list_any (ends_session s)) called ∙ ap (λ (b : Bool). b || list_any (ends_session s) (calls_of log)) (ended-by side h c hist lawful s)
         ∙ or-with (is_number s (gone_in h (turns.Call c) own.reply)) _ _ (x.calls.ended s)
 
     pub named-after : first_session after ≡ drivers.first_session rs
-    named-after = ap (λ (o : Option ℕ). option_or o (session_in own.reply)) x.named ∙ ap (option_or (drivers.first_session (calls_of log))) (sym (established-by side h c own.reply)) ∙ sym called.named
+    named-after = ap (λ (o : Option ℕ). option_or o (session_in own.reply)) x.named ∙ ap (option_or (drivers.first_session (calls_of log))) (sym (established-by side h c own.reply)) ∙ sym (ap drivers.first_session called)
 
     pub delivered-after : (k : ℕ) → was_given after k ≡ list_any (delivers k) rs
-    delivered-after k = by (request_in own.reply) ∙ or-with _ _ _ (x.delivered k) ∙ ap (λ (b : Bool). b || list_any (delivers k) (calls_of log)) (sym same) ∙ sym (called.delivered k)
+    delivered-after k = by (request_in own.reply) ∙ or-with _ _ _ (x.delivered k) ∙ ap (λ (b : Bool). b || list_any (delivers k) (calls_of log)) (sym same) ∙ sym (ap (list_any (delivers k)) called)
       where
         same : delivers k left ≡ elim (request_in own.reply) [ Some id ↦ id == k | None ↦ false ]
         same = given-more k left ∙ ap (λ (o : Option ℕ). elim o [ Some id ↦ id == k | None ↦ false ]) (requested-by side h c own.reply)
@@ -193,7 +112,7 @@ module _ (side : Side) (offset : ℕ → ℕ) (h : History) (log : Log) (x : Sta
     pub request-after : unwrap_or (last_request after) 0 ≡ requested_stream rs
     request-after =
         by (request_in own.reply) ∙ ap (λ (n : ℕ). elim (request_in own.reply) [ Some id ↦ id | None ↦ n ]) x.request
-        ∙ ap (λ (o : Option ℕ). elim o [ Some id ↦ id | None ↦ requested_stream (calls_of log) ]) (sym (requested-by side h c own.reply)) ∙ sym called.requested
+        ∙ ap (λ (o : Option ℕ). elim o [ Some id ↦ id | None ↦ requested_stream (calls_of log) ]) (sym (requested-by side h c own.reply)) ∙ sym (ap requested_stream called)
       where
         by : (o : Option ℕ) → unwrap_or (option_or o (last_request h)) 0 ≡ elim o [ Some id ↦ id | None ↦ unwrap_or (last_request h) 0 ]
         by None = refl
@@ -202,14 +121,14 @@ module _ (side : Side) (offset : ℕ → ℕ) (h : History) (log : Log) (x : Sta
     pub given_up-after : (k : ℕ) → is_given_up after k ≡ list_any (gives_up k) rs
     given_up-after k =
         or-with (answers_stop k (turns.Call c) own.reply) _ _ (x.halves.given_up k)
-        ∙ ap (λ (b : Bool). b || list_any (gives_up k) (calls_of log)) (sym (stopped-by side h c k own.reply)) ∙ sym (called.given_up k)
+        ∙ ap (λ (b : Bool). b || list_any (gives_up k) (calls_of log)) (sym (stopped-by side h c k own.reply)) ∙ sym (ap (list_any (gives_up k)) called)
 
     pub read-after : (k : ℕ) → length (was_read after k) ≡ halves.total_read k rs
     read-after k =
         let l = length-append (was_read h k) (read_by k (turns.Call c) own.reply) in
         let a = x.halves.read k in
         let b = read-as side h c k own.reply (suits-own side h c) in
-        let d = called.read k in omega (arith, l, a, b, d)
+        let d = ap (halves.total_read k) called in omega (arith, l, a, b, d)
 
     -- ---- halves
 
@@ -229,15 +148,11 @@ module _ (side : Side) (offset : ℕ → ℕ) (h : History) (log : Log) (x : Sta
     done-before : (k : ℕ) → is_done after k ≡ false → is_done h k ≡ false
     done-before k d = by (is_reset h k) refl (was_finished h k) refl (is_acknowledged (events h) k) refl
       where
-        or-true : (b : Bool) → (b || true) ≡ true
-        or-true true = refl
-        or-true false = refl
-
         by : (r : Bool) → is_reset h k ≡ r → (f : Bool) → was_finished h k ≡ f → (a : Bool) → is_acknowledged (events h) k ≡ a → (r || (f && a)) ≡ false
         by true e f g a i = absurd (let q : is_done after k ≡ true = ap (λ (b : Bool). b || (was_finished after k && is_acknowledged (events after) k)) (reset-more k e) in cc (sym q ∙ d))
         by false e true g true i = absurd (
             let w : was_finished after k ≡ true = any-newest (sends.finishes k) (join_all [] all_sent) (actions_out h) ∙ ap (λ (b : Bool). b || list_any (sends.finishes k) (join_all [] all_sent)) g in
-            let j : is_acknowledged (events after) k ≡ true = ap (λ (es : List logs.Event). is_acknowledged es k) same-events ∙ i in
+            let j : is_acknowledged (events after) k ≡ true = ap (λ (es : List logs.Event). is_acknowledged es k) (called-events h c (next side h (turns.Call c))) ∙ i in
             let q : is_done after k ≡ true = ap (λ (b : Bool). is_reset after k || (b && is_acknowledged (events after) k)) w ∙ ap (λ (b : Bool). is_reset after k || b) j ∙ or-true (is_reset after k) in cc (sym q ∙ d))
         by false e true g false i = refl
         by false e false g a i = refl
@@ -245,7 +160,7 @@ module _ (side : Side) (offset : ℕ → ℕ) (h : History) (log : Log) (x : Sta
     pub priority-after : (k : ℕ) → is_done after k ≡ false → unwrap_or (first_of (λ (p : Pair). priority_by k p.turn p.answer.reply) after) (pos 0) ≡ sends.priority_of rs k
     priority-after k d =
         by (priority_by k (turns.Call c) own.reply) (x.halves.priority k (done-before k d))
-        ∙ ap (λ (o : Option ℤ). unwrap_or (option_or o (logs.newest (sends.priority_set k) (calls_of log))) (pos 0)) (sym (priority-by side h c k (done-before k d) own.reply)) ∙ sym (called.priority k)
+        ∙ ap (λ (o : Option ℤ). unwrap_or (option_or o (logs.newest (sends.priority_set k) (calls_of log))) (pos 0)) (sym (priority-by side h c k (done-before k d) own.reply)) ∙ sym (ap (λ (ts : List CallRecord). sends.priority_of ts k) called)
       where
         by : (o : Option ℤ) → unwrap_or (first_of (λ (p : Pair). priority_by k p.turn p.answer.reply) h) (pos 0) ≡ sends.priority_of (calls_of log) k
             → unwrap_or (option_or o (first_of (λ (p : Pair). priority_by k p.turn p.answer.reply) h)) (pos 0) ≡ unwrap_or (option_or o (logs.newest (sends.priority_set k) (calls_of log))) (pos 0)
@@ -275,13 +190,13 @@ module _ (side : Side) (offset : ℕ → ℕ) (h : History) (log : Log) (x : Sta
       same : (before || told-resets h k) ≡ (before || list_any (unsent-reset k) (calls_of log))
       same = x.halves.reset k ∙ resets-apart k log ∙ ap (λ (b : Bool). b || list_any (unsent-reset k) (calls_of log)) (sym (x.out.reset k))
 
-  module _ (log2 : Log) (called : SameCalls (calls_of log2) (left ∷ calls_of log)) (sent : actions_of log2 ≡ newest_first all_sent (actions_of log)) where
+  module _ (log2 : Log) (called : calls_of log2 ≡ left ∷ calls_of log) (sent : actions_of log2 ≡ newest_first all_sent (actions_of log)) where
     pub reset-after : (k : ℕ) → is_reset after k ≡ sends.is_reset log2 k
     reset-after k =
         ap (λ (b : Bool). b || told-resets after k) went
         ∙ reset-from k now (λ o a. any-join_all (is_reset_of k) (λ i p q. refl) [] all_sent ∙ has-left (is_reset_of k) own.actions (moment_actions side (with_pair h (turns.Call c) own)) (reset-goes side h c k o a))
         ∙ ap (λ (b : Bool). b || list_any (unsent-reset k) (left ∷ calls_of log)) (sym went ∙ (out-after log2 sent).reset k)
-        ∙ or-with (list_any (is_reset_of k) (actions_of log2)) _ _ (sym (called.unsent k)) ∙ sym (resets-apart k log2)
+        ∙ or-with (list_any (is_reset_of k) (actions_of log2)) _ _ (sym (ap (list_any (unsent-reset k)) called)) ∙ sym (resets-apart k log2)
       where
         now : Bool
         now = list_any (is_reset_of k) (join_all [] all_sent)
@@ -300,10 +215,10 @@ module _ (side : Side) (offset : ℕ → ℕ) (h : History) (log : Log) (x : Sta
     -- ---- openings
 
     pub opening-after : (k : ℕ) → OpeningAgrees after log2 k
-    opening-after k = opening-next side h hist log c lawful k (x.calls.accepted k) (x.unfailed k) (x.openings k) log2 (called.opening k)
+    opening-after k = opening-next side h hist log c lawful k (x.calls.accepted k) (x.unfailed k) (x.openings k) log2 (ap (opening-of k) called)
 
     pub unfailed-after : (k : ℕ) → exists side after k ≡ false → list_any (fails_opening k) (calls_of log2) ≡ false
-    unfailed-after k e = called.failed k ∙ unfailed-next side h hist log c lawful k (x.calls.accepted k) (x.unfailed k) e
+    unfailed-after k e = ap (list_any (fails_opening k)) called ∙ unfailed-next side h hist log c lawful k (x.calls.accepted k) (x.unfailed k) e
 
     -- ---- the whole, where the moment finds alike, and what of sessions and the handshake is left holds
 

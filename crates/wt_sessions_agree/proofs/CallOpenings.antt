@@ -26,6 +26,7 @@ use Rattle.wt_seam_spec.specs.Streams.{local_bi, local_uni, peer_bi, peer_uni}
 use Rattle.wt_sessions.specs.Connection.{ends_opening, opened_for, starts_opening}
 use Rattle.wt_sessions.specs.Driver.{accepts_stream}
 use Rattle.wt_sessions_agree.proofs.CallReplies.{Aside, failure-aside, gives_bytes, gives_exact, is_usual, pending-aside, suits, suits-own}
+use Rattle.wt_sessions_agree.proofs.StreamKinds.{local-bi-small, local-uni-small}
 use Rattle.wt_sessions_agree.specs.Records.{call_session, done_record, record_of}
 use Rattle.wt_sessions_agree.specs.Stands.{IsOpening, NotOpening, OpeningAgrees, fails_opening}
 use Rattle.wt_turn.specs.Log.{CallRecord, Log, OpeningFailed, OpeningStarted, Polled, PrioritySet, RequestRejected, ResetUnsent, StreamAccepted, calls_of, newest}
@@ -245,15 +246,6 @@ opens-none k (calls.OpenUni name) (replies.Opening id) u = absurd (cc u)
 opens-none k (calls.OpenBi name) (replies.Opening id) u = absurd (cc u)
 opens-none k c r u = refl
 
--- the kinds are fewer than four
-uni-few : (side : Side) → local_uni side < 4
-uni-few Client = omega arith
-uni-few Server = omega arith
-
-bi-few : (side : Side) → local_bi side < 4
-bi-few Client = omega arith
-bi-few Server = omega arith
-
 -- a call that accepts a stream of the peer
 uni-is : (r : Reply) → is_uni r ≡ true → (id : ℕ) × (r ≡ replies.Uni id)
 uni-is (replies.Uni id) u = (id, refl)
@@ -305,8 +297,8 @@ pub opening-step : (side : Side) (h : History) (k : ℕ) (c : Call) → OpeningS
 opening-step side h k (calls.PollOpening id) =
     (by-session (λ (a : Answer). OpeningStep side h (calls.PollOpening id) k a.reply) (named h None) (λ (s : ℕ). opening_for side h id (being_opened h id)) (Other refl refl (none k))
     (λ s q. poll-step side h k id (being_opened h id))).first
-opening-step side h k (calls.OpenUni name) = open-step side h k (local_uni side) (uni-few side) (calls.OpenUni name) name refl (λ id. refl) (λ r. refl) (λ r u. opens-none k (calls.OpenUni name) r u)
-opening-step side h k (calls.OpenBi name) = open-step side h k (local_bi side) (bi-few side) (calls.OpenBi name) name refl (λ id. refl) (λ r. refl) (λ r u. opens-none k (calls.OpenBi name) r u)
+opening-step side h k (calls.OpenUni name) = open-step side h k (local_uni side) (local-uni-small side) (calls.OpenUni name) name refl (λ id. refl) (λ r. refl) (λ r u. opens-none k (calls.OpenUni name) r u)
+opening-step side h k (calls.OpenBi name) = open-step side h k (local_bi side) (local-bi-small side) (calls.OpenBi name) name refl (λ id. refl) (λ r. refl) (λ r u. opens-none k (calls.OpenBi name) r u)
 opening-step side h k (calls.AcceptUni name) = uni-step side h k name (first_row (rows_of side h (calls.AcceptUni name))).reply refl (suits-own side h (calls.AcceptUni name))
 opening-step side h k (calls.AcceptBi name) = bi-step side h k name (first_row (rows_of side h (calls.AcceptBi name))).reply refl (suits-own side h (calls.AcceptBi name))
 opening-step side h k (calls.Read id size) =

@@ -22,7 +22,7 @@ use Rattle.wt_sessions.specs.Driver.{call_view, is_moment, log_and_flush, pendin
 use Rattle.wt_sessions.specs.Effect.{Effect, log_call, reply_with}
 use Rattle.wt_sessions.specs.StreamTable.{CallView}
 use Rattle.wt_sessions_agree.proofs.AnswerLaws.{answer-agrees, called-actions, sent-then}
-use Rattle.wt_sessions_agree.proofs.EventTurns.{ended-acted}
+use Rattle.wt_sessions_agree.proofs.EntryTurns.{closes-alike, ended-acted}
 use Rattle.wt_sessions_agree.proofs.MomentAgrees.{moment-agrees}
 use Rattle.wt_sessions_agree.proofs.OrderlyLaws.{orderly-checks}
 use Rattle.wt_sessions_agree.proofs.RestTurns.{moments-once}
@@ -56,24 +56,12 @@ pub ends-alike : (h : History) (log : Log) (c : Call) (reply : Reply) (xs : List
     → is_open (with_pair h (turns.Call c) (record { reply = reply; actions = join_all [] xs })) ≡ logs.is_open log2
 ends-alike h log c reply xs log2 o e =
     ap (λ (b : Bool). not ((false || b) || list_any ends_by h)) (any-join_all closes (λ i p q. refl) [] xs)
-    ∙ by (list_any ends_by h) (list_any logs.ends_by log) o (list_any closes xs) ∙ ap not (sym e)
-  where
-    by : (a b : Bool) → not a ≡ not b → (s : Bool) → not ((false || s) || a) ≡ not (s || b)
-    by true true q s = refl
-    by false false q s = refl
-    by true false q s = absurd (cc q)
-    by false true q s = absurd (cc q)
+    ∙ closes-alike h log xs o ∙ ap not (sym e)
 
 -- likewise before the answer's actions are joined
 pub own-alike : (h : History) (log : Log) (c : Call) (a : Answer) (log2 : Log) → is_open h ≡ logs.is_open log → list_any logs.ends_by log2 ≡ (list_any closes a.actions || list_any logs.ends_by log)
     → is_open (with_pair h (turns.Call c) a) ≡ logs.is_open log2
-own-alike h log c a log2 o e = by (list_any ends_by h) (list_any logs.ends_by log) o (list_any closes a.actions) ∙ ap not (sym e)
-  where
-    by : (a b : Bool) → not a ≡ not b → (s : Bool) → not ((false || s) || a) ≡ not (s || b)
-    by true true q s = refl
-    by false false q s = refl
-    by true false q s = absurd (cc q)
-    by false true q s = absurd (cc q)
+own-alike h log c a log2 o e = closes-alike h log a.actions o ∙ ap not (sym e)
 
 -- ---- the setting
 

@@ -20,6 +20,7 @@ use Rattle.wt_sessions.specs.Driver as drivers
 use Rattle.wt_sessions.specs.Effect.{is_covered}
 use Rattle.wt_sessions.specs.Effect as effects
 use Rattle.wt_sessions.specs.Handshake as ladders
+use Rattle.wt_sessions_agree.proofs.Basics.{and-false, take-none}
 use Rattle.wt_sessions_agree.proofs.ConnectionRows.{covered-out, head-is, lacks-is, may-open, send-is}
 use Rattle.wt_sessions_agree.proofs.WaitLaws.{driver-is, transport-is}
 use Rattle.wt_sessions_agree.specs.Records.{effect_of, part_start}
@@ -73,19 +74,11 @@ module _ (offset : ℕ → ℕ) (h : History) (log : Log) (x : Stands Client off
   none-lacks zero = refl
   none-lacks (suc n) = refl
 
-  none-sent : (n : ℕ) → take {A = ℕ} n [] ≡ []
-  none-sent zero = refl
-  none-sent (suc n) = refl
-
-  and-no : (b : Bool) → (b && false) ≡ false
-  and-no true = refl
-  and-no false = refl
-
   request-none : (own : List Action) → ladders.send_request Client log 0 own [] ≡ effect_of Client h log calls.Handshake (first_row (request_rows Client h own []))
   request-none own =
       let lacks : lacks_credit h 0 [] ≡ false = ap not (none-lacks (credit_left h 0)) in
-      let sent : send h 0 [] ≡ [] = ap (send_of 0) (none-sent (credit_left h 0)) in
-      rw (and-no (is_some (stop_of (events h) 0)), lacks, sent, append-nil own) (response-agrees own)
+      let sent : send h 0 [] ≡ [] = ap (send_of 0) (take-none (credit_left h 0)) in
+      rw (and-false (is_some (stop_of (events h) 0)), lacks, sent, append-nil own) (response-agrees own)
 
   request-some : (own : List Action) (b : ℕ) (bytes : List ℕ) → ((code : ℕ) → stop_of (events_of log) 0 ≡ Some code → own ≡ []) → (logs.is_open log ≡ false → own ≡ []) → (o : Bool) → logs.is_open log ≡ o → (s : Option ℕ) → stop_of (events_of log) 0 ≡ s → (v : Bool) → is_covered log 0 (b ∷ bytes) ≡ v
       → ladders.send_request Client log 0 own (b ∷ bytes) ≡ effect_of Client h log calls.Handshake (first_row (request_rows Client h own (b ∷ bytes)))

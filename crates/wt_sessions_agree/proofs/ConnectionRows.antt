@@ -15,6 +15,7 @@ use Rattle.wt_seam_spec.specs.Outgoing as outgoing
 use Rattle.wt_seam_spec.specs.Reports.{datagram_fact, stop_of}
 use Rattle.wt_seam_spec.specs.Streams as streams
 use Rattle.wt_seam_spec.specs.Streams.{local_uni}
+use Rattle.wt_promise.proofs.Accepted.{and-left}
 use Rattle.wt_sessions.specs.Answers as answers
 use Rattle.wt_sessions.specs.Connection as ladders
 use Rattle.wt_sessions.specs.Connection.{next_datagram, next_stream, opening_session}
@@ -25,7 +26,7 @@ use Rattle.wt_sessions.specs.Effect as effects
 use Rattle.wt_sessions.specs.Handshake as handshakes
 use Rattle.wt_sessions.specs.StreamTable.{Admitted, Waiting, was_established}
 use Rattle.wt_sessions.specs.StreamTable as tables
-use Rattle.wt_sessions_agree.proofs.Appends.{and-left}
+use Rattle.wt_sessions_agree.proofs.Basics.{eqb-sym}
 use Rattle.wt_sessions_agree.proofs.HalfRows.{open-events}
 use Rattle.wt_sessions_agree.proofs.WaitLaws.{error-is, gone-is, living-is, next-datagram, next-index, next-stream, payload-of, transport-is}
 use Rattle.wt_sessions_agree.specs.Records.{effect_of, failure_record, opened_session, pending_record}
@@ -99,15 +100,6 @@ module _ (side : Side) (offset : ℕ → ℕ) (h : History) (log : Log) (x : Sta
 
   pub count-is : (kind : ℕ) → stream_count side h kind ≡ streams.stream_count side log kind
   count-is kind = rw (x.came.all_events, x.out.opened kind) refl
-
-  pub eqb-sym : (a b : ℕ) → (a == b) ≡ (b == a)
-  eqb-sym a b = by (a == b) (b == a) refl refl
-    where
-      by : (p q : Bool) → (a == b) ≡ p → (b == a) ≡ q → p ≡ q
-      by true true e f = refl
-      by false false e f = refl
-      by true false e f = let r : (b == a) ≡ true = eq-eqb b a (sym (eqb-true a b e)) in absurd (cc (sym r ∙ f))
-      by false true e f = let r : (a == b) ≡ true = eq-eqb a b (sym (eqb-true b a f)) in absurd (cc (sym e ∙ r))
 
   -- as many streams may be opened
   pub may-open : (kind : ℕ) → may_open side h kind ≡ outgoing.may_open side log kind

@@ -8,9 +8,11 @@ use Rattle.wt_seam_spec.specs.Reports.{end_of, is_running, stop_of}
 use Rattle.wt_seam_spec.specs.Streams.{local_uni}
 use Rattle.wt_wire.specs.declared.error.ErrorCode.{ErrorCode}
 use Rattle.wt_wire.specs.declared.side.Side.{Side}
+use Rattle.wt_promise.proofs.Accepted.{or-true}
 use Rattle.wt_sessions.specs.Scan.{check_control, check_qpack, control_read, critical_if, in_order, on_progress, unless_ended, with_fault}
 use Rattle.wt_sessions.specs.StreamTable.{DriverProgress, StreamTable, TransportView, control_start, decoder_start, encoder_start, first_at}
-use Rattle.wt_sessions_agree.proofs.Appends.{any-append, drops, filter-drops, first-append, or-none}
+use Rattle.wt_sessions_agree.proofs.Appends.{any-append, drops, filter-drops, first-append}
+use Rattle.wt_sessions_agree.proofs.Basics.{or-false, or-none}
 use Rattle.wt_sessions_agree.proofs.FoundLaws.{controls-agree, decoders-agree, encoders-agree}
 use Rattle.wt_sessions_agree.proofs.ScanLaws.{fault-fields, faults_of, check-step, checks-faulty}
 use Rattle.wt_sessions_agree.specs.Stands.{ViewsAgree}
@@ -64,10 +66,6 @@ settings-fields found table t = record {
   settings = any-append reads_settings found SettingsRead ∙ or-true (settings_came found);
   fault = first-append fault_in found SettingsRead ∙ or-none (fault_of found) ∙ t.fault;
 }
-  where
-    or-true : (b : Bool) → (b || true) ≡ true
-    or-true true = refl
-    or-true false = refl
 
 read-settings : (found : List Finding) (table : StreamTable) (s : Bool) → IsTable found table
     → IsTable (found ++ (if not (settings_came found) && s then SettingsRead ∷ [] else [])) (record table { progress = record table.progress { settings = table.progress.settings || s } })
@@ -147,11 +145,7 @@ control-agrees side h v found table g t f = by (first_of control_in found) (firs
         rw (looked w (ap (control_walk h) (q ∙ e))) (idle (control-table found table w f t))
       where
         idle : IsTable (read (record { settings = None; fault = None }) ++ []) (on_progress (control_read (record { settings = None; fault = None })) table) → IsTable (read (record { settings = None; fault = None }) ++ []) table
-        idle t = record { classified = t.classified; datagrams = t.datagrams; closed = t.closed; looked_at = t.looked_at; settings = t.settings ∙ or-nothing table.progress.settings; fault = t.fault }
-          where
-            or-nothing : (b : Bool) → (b || false) ≡ b
-            or-nothing true = refl
-            or-nothing false = refl
+        idle t = record { classified = t.classified; datagrams = t.datagrams; closed = t.closed; looked_at = t.looked_at; settings = t.settings ∙ or-false table.progress.settings; fault = t.fault }
     by x (Some c) e q =
         let w : ControlWalk = control_walk_of (drop c.1 (contents h c.0)) (end_of (events h) c.0) in
         rw (looked w (ap (control_walk h) (q ∙ e)), g.contents c.0, g.end c.0) (control-table found table w f t)

@@ -8,10 +8,12 @@ use Rattle.std.proofs.lemmas.List.{append-nil, drop-append-le, length-append, le
 use Rattle.std.proofs.lemmas.List.Elements.{filter-append}
 use Rattle.std.proofs.lemmas.List.Folds.{list_all-append}
 use Rattle.wt_message.specs.Datagram.{datagram_of}
+use Rattle.wt_promise.proofs.Accepted.{and-left, and-right}
 use Rattle.wt_sessions.specs.Scan.{admit_datagram, is_admitted, take_datagrams, take_each, take_parsed}
 use Rattle.wt_sessions.specs.StreamTable.{Admitted, CallView, StreamTable, TransportView, dispatched_streams, has_room, was_established}
 use Rattle.wt_sessions.specs.StreamTable as tables
-use Rattle.wt_sessions_agree.proofs.Appends.{adds, and-false, and-left, and-right, any-append, drops, filter-drops, first-append, not-same, or-false, or-none}
+use Rattle.wt_sessions_agree.proofs.Appends.{adds, any-append, drops, filter-drops, first-append, not-same}
+use Rattle.wt_sessions_agree.proofs.Basics.{and-false, or-false, or-none}
 use Rattle.wt_sessions_agree.proofs.ScanLaws.{fault-fields, check-step, checks-faulty}
 use Rattle.wt_sessions_agree.proofs.WindowLaws.{gone-agrees}
 use Rattle.wt_sessions_agree.specs.Orderly.{Received, is_left, is_of}

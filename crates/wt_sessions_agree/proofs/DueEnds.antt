@@ -28,7 +28,7 @@ use Rattle.wt_sessions_agree.proofs.ConnectRows.{ConnectFacts, no-peers}
 use Rattle.wt_sessions_agree.proofs.DueLaws.{DueRequest, due-not-gone, due-request, is_asked}
 use Rattle.wt_sessions_agree.proofs.EndLaws.{none-agrees}
 use Rattle.wt_sessions_agree.proofs.FoundLaws.{verdicts-agree}
-use Rattle.wt_sessions_agree.proofs.LawfulLaws.{receives-is, sends-is}
+use Rattle.wt_sessions_agree.proofs.HalvesAlike.{halves-seen}
 use Rattle.wt_sessions_agree.proofs.MembersLaws.{gone-alike}
 use Rattle.wt_sessions_agree.proofs.RowsAgree.{EndsAgree, is_due}
 use Rattle.wt_sessions_agree.proofs.WaitLaws.{gone-is}
@@ -163,15 +163,9 @@ ends-agree Server offset h log i x gone = record {
 
 -- ---- and what goes out for gone sessions is the same
 
-pub halves-seen : (side : Side) (offset : ℕ → ℕ) (h : History) (log : Log) → Stands side offset h log → HalvesSeen side h (transport_view side log)
-halves-seen side offset h log x = record {
-  receives = λ k. rw (receives-is side offset h log x k, x.came.events, x.halves.given_up k) refl;
-  sends = λ k. rw (sends-is side offset h log x k, x.out.finished k, x.halves.reset k) refl;
-}
-
 pub gone-stands : (side : Side) (offset : ℕ → ℕ) (h : History) (log : Log) → Stands side offset h log → MembersIn side h (call_view log) (findings side h) → GoneAlike side h log
 gone-stands side offset h log x m =
-    gone-alike side h (findings side h) (transport_view side log) (call_view log) (stream_table side log) x.table x.calls (halves-seen side offset h log x) m
+    gone-alike side h (findings side h) (transport_view side log) (call_view log) (stream_table side log) x.table x.calls (halves-seen side h log x.came.events x.came.all_events x.out x.halves.given_up x.halves.reset) m
 
 -- all that calls rest on
 pub ends-hold : (side : Side) (offset : ℕ → ℕ) (h : History) (log : Log) → IsHistory side h → Stands side offset h log → MembersIn side h (call_view log) (findings side h) → EndsAgree side h log

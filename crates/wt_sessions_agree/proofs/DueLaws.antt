@@ -31,25 +31,13 @@ use Rattle.wt_wire.specs.HeaderList.{Fields}
 use Rattle.wt_wire.specs.declared.side.Side.{Side}
 use Rattle.wt_wire.specs.declared.side.Side.TheVariants.{Server}
 use Rattle.wt_proto.specs.declared.verdict.Verdict.TheVariants as verdicts
+use Rattle.wt_sessions_agree.proofs.Basics.{is-none}
+use Rattle.wt_sessions_agree.proofs.PartLaws.{none-queued, queues, queues-has}
 use Rattle.wt_turn.specs.declared.call.Call.TheVariants as calls
 use Rattle.wt_turn.specs.declared.reply.Reply.TheVariants as replies
 use Rattle.wt_turn.specs.declared.turn.Turn.TheVariants as turns
 
 -- ---- what was found of a stream whose session isn't established
-
--- the finding queues the request
-abbrev queues : ℕ → Finding → Bool
-queues k (Classified id (verdicts.Request headers offset) true) = id == k
-queues k _ = false
-
-queues-has : (k : ℕ) (found : List Finding) → has (filter_map queued_request found) k ≡ true → list_any (queues k) found ≡ true
-queues-has k [] e = absurd (cc e)
-queues-has k (Classified id (verdicts.Request headers offset) true ∷ found) e = by (id == k) e (queues-has k found)
-  where
-    by : (b : Bool) → (b || has (filter_map queued_request found) k) ≡ true → (has (filter_map queued_request found) k ≡ true → list_any (queues k) found ≡ true) → (b || list_any (queues k) found) ≡ true
-    by true q again = refl
-    by false q again = again q
-queues-has k (x ∷ found) e = queues-has k found e
 
 -- it has no verdict, or is a queued request, or anything else
 data Marks (s : ℕ) (found : List Finding) : Type 0 where
@@ -69,9 +57,6 @@ marks-with s found new n g q (Other w v b) = Other w (first_of-stays (verdict_in
 none-gone : (s : ℕ) (found : List Finding) (v : Verdict) → list_any (makes_gone s) (stream_fault found v) ≡ false
 none-gone s = of-stream-fault (λ (fs : List Finding). list_any (makes_gone s) fs ≡ false) refl (λ code. refl)
 
-none-queued : (s : ℕ) (found : List Finding) (v : Verdict) → list_any (queues s) (stream_fault found v) ≡ false
-none-queued s = of-stream-fault (λ (fs : List Finding). list_any (queues s) fs ≡ false) refl (λ code. refl)
-
 none-verdict : (s : ℕ) (found : List Finding) (v : Verdict) → first_of (verdict_in s) (stream_fault found v) ≡ None
 none-verdict s = of-stream-fault (λ (fs : List Finding). first_of (verdict_in s) fs ≡ None) refl (λ code. refl)
 
@@ -86,10 +71,6 @@ other-queued : (j s : ℕ) (v : Verdict) (b : Bool) → (j == s) ≡ false → q
 other-queued j s (verdicts.Request headers offset) true e = e
 other-queued j s (verdicts.Request headers offset) false e = refl
 other-queued j s v b e = refl
-
-no-verdict : (o : Option Verdict) → is_some o ≡ false → o ≡ None
-no-verdict None e = refl
-no-verdict (Some v) e = absurd (cc e)
 
 -- its own verdict is its first
 marks-own : (s : ℕ) (found more : List Finding) (v : Verdict) (b : Bool) → is_classified found s ≡ false → list_any (makes_gone s) more ≡ false → list_any (queues s) more ≡ false

@@ -18,9 +18,6 @@ use Rattle.wt_wire.specs.declared.side.Side.{Side}
 abbrev among : ℕ → List ℕ → Bool
 among k ids = list_any (λ (id : ℕ). id == k) ids
 
-front : (b : Bool) → (true || b) ≡ true
-front b = refl
-
 back : (a b : Bool) → b ≡ true → (a || b) ≡ true
 back true b e = refl
 back false b e = e

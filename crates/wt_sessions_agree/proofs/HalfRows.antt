@@ -13,6 +13,7 @@ use Rattle.wt_sessions.specs.Effect.{Effect, poll_only}
 use Rattle.wt_sessions.specs.Halves as ladders
 use Rattle.wt_sessions.specs.Halves.{on_half}
 use Rattle.wt_sessions.specs.StreamTable as tables
+use Rattle.wt_sessions_agree.proofs.Basics.{take-none}
 use Rattle.wt_sessions_agree.proofs.FoundLaws.{verdicts-agree}
 use Rattle.wt_sessions_agree.specs.Records.{effect_of}
 use Rattle.wt_sessions_agree.specs.Stands.{Stands}
@@ -69,10 +70,6 @@ half-agrees side offset h log k s = record {
   events = s.came.events;
   credit = λ o. ap (λ (es : List Event). credit es k - length (out h k)) (open-events h (s.came.openness ∙ o) ∙ s.came.all_events) ∙ ap (λ (bytes : List ℕ). credit (all_events_of log) k - length bytes) (s.out.sent k);
 }
-
-take-none : (n : ℕ) → take {A = ℕ} n [] ≡ []
-take-none zero = refl
-take-none (suc n) = refl
 
 -- credit is left
 more : (c : ℕ) → (suc c == 0) ≡ false

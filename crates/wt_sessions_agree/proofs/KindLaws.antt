@@ -45,10 +45,3 @@ kind-keeps side h t calls v kind count small same seen admits Keeps kept found t
         let u : filter (is_unclassified table) (ids_from kind 0 count) ≡ filter (λ (j : ℕ). not (is_classified found j)) (ids_from kind 0 count)
               = filter-ids (is_unclassified table) (λ (j : ℕ). not (is_classified found j)) kind 0 count (λ i a b. sym (ripe-agrees (4 * i + kind) found table (kept.table found table holds))) in
         rw (q, ids-same kind 0 count, u) (scan-keeps side h t calls v kind small e seen admits Keeps kept count found table few holds)
-
--- they lead to the table that holds what was found
-pub kind-agrees : (side : Side) (h : History) (t : TransportView) (calls : CallView) (v : ℕ → Verdict) (kind count : ℕ) → kind < 4 → t.ready ≡ is_ready side h → ((m : ℕ) → verdict h (4 * m + kind) ≡ v (4 * m + kind)) → Admits h t calls
-    → (found : List Finding) (table : StreamTable) → (is_ready side h ≡ false → (k : ℕ) → is_dequeued found k ≡ false)
-    → ((i : ℕ) → is_dequeued found (4 * i + kind) ≡ true → is_classified found (4 * i + kind) ≡ false → nat_lt (length (filter (λ (j : ℕ). not (is_classified found j)) (ids_from kind 0 i))) 4 ≡ true)
-    → IsTable found table → IsTable (after_checks side h (stream_checks (ids_from kind 0 count)) found) (scan_kind t calls v (stream_ids kind 0 count) table)
-kind-agrees side h t calls v kind count small same seen admits = kind-keeps side h t calls v kind count small same seen admits IsTable (table-kept h t calls kind)

@@ -13,8 +13,8 @@ use Rattle.wt_seam_spec.specs.Streams.{local_uni, peer_bi, peer_uni}
 use Rattle.wt_seam_spec.specs.Streams as streams
 use Rattle.wt_sessions.specs.Answers as answers
 use Rattle.wt_sessions.specs.Handshake.{awaits_answer, awaits_request, handshake_state}
-use Rattle.wt_sessions_agree.proofs.Appends.{and-false, and-true}
-use Rattle.wt_sessions_agree.proofs.ConnectionRows.{count-is, eqb-sym}
+use Rattle.wt_sessions_agree.proofs.Basics.{and-false, and-true, eqb-sym}
+use Rattle.wt_sessions_agree.proofs.ConnectionRows.{count-is}
 use Rattle.wt_sessions_agree.specs.Stands.{Stands}
 use Rattle.wt_turn.specs.Log.{Log, actions_of, all_events_of, calls_of}
 use Rattle.wt_turn.specs.declared.call.Call.{Call}
@@ -47,9 +47,6 @@ begun-moved true true true c d e = sym (and-true (c && d && e))
 module _ (side : Side) (offset : ℕ → ℕ) (h : History) (log : Log) (x : Stands side offset h log) where
   -- ---- what each asks
 
-  lost-is : is_lost h ≡ is_some (loss_of (all_events_of log))
-  lost-is = rw x.came.all_events refl
-
   begun-by : (s : Side) → has_begun s h ≡ may_begin s log
   begun-by Server = refl
   begun-by Client = x.out.dialled
@@ -57,11 +54,11 @@ module _ (side : Side) (offset : ℕ → ℕ) (h : History) (log : Log) (x : Sta
   exists-is : (k : ℕ) → exists side h k ≡ streams.exists side log k
   exists-is k = ap (nat_lt (k / 4)) (count-is side offset h log x (k % 4))
 
-  pub receives-is : (k : ℕ) → can_receive side h k ≡ streams.can_receive side log k
-  receives-is k = ap (λ (b : Bool). b && not (k % 4 == local_uni side)) (exists-is k) ∙ ap (λ (b : Bool). streams.exists side log k && not b) (eqb-sym side offset h log x (k % 4) (local_uni side))
+  receives-is : (k : ℕ) → can_receive side h k ≡ streams.can_receive side log k
+  receives-is k = ap (λ (b : Bool). b && not (k % 4 == local_uni side)) (exists-is k) ∙ ap (λ (b : Bool). streams.exists side log k && not b) (eqb-sym (k % 4) (local_uni side))
 
-  pub sends-is : (k : ℕ) → can_send side h k ≡ streams.can_send side log k
-  sends-is k = ap (λ (b : Bool). b && not (k % 4 == peer_uni side)) (exists-is k) ∙ ap (λ (b : Bool). streams.exists side log k && not b) (eqb-sym side offset h log x (k % 4) (peer_uni side))
+  sends-is : (k : ℕ) → can_send side h k ≡ streams.can_send side log k
+  sends-is k = ap (λ (b : Bool). b && not (k % 4 == peer_uni side)) (exists-is k) ∙ ap (λ (b : Bool). streams.exists side log k && not b) (eqb-sym (k % 4) (peer_uni side))
 
   -- a turn that asks for a connection that came and isn't lost
   coming : (c d : Bool) → c ≡ d → (is_connected (all_events h) && not (is_lost h) && c) ≡ ((is_connected (all_events_of log) && d) && not (is_some (loss_of (all_events_of log))))

@@ -1,3 +1,6 @@
+pub mod Basics
+pub mod StreamKinds
+pub mod HalvesAlike
 pub mod Appends
 pub mod FoundLaws
 pub mod ScanLaws
@@ -27,14 +30,13 @@ pub mod TurnFinds
 pub mod ReadyLaws
 pub mod EndLaws
 pub mod TurnAnswers
-pub mod EventTurns
+pub mod EntryTurns
 pub mod PartLaws
 pub mod ThereLaws
 pub mod SessionTurns
 pub mod ReceivedLaws
 pub mod OrderTurns
 pub mod CallTurns
-pub mod ByteTurns
 pub mod DueLaws
 pub mod MembersLaws
 pub mod DueEnds
@@ -55,6 +57,5 @@ pub mod CallKeeps
 pub mod MembersBefore
 pub mod MembersTurns
 pub mod TransportTurns
-pub mod MembersMoments
 pub mod OneCall
 pub mod EachTurn

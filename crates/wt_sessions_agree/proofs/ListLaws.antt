@@ -117,20 +117,7 @@ module _ (side : Side) (each : EachTurnAgrees side) where
   any-agrees h log (turns.Bytes id piece) x l =
       let p = piece-agrees piece h log id x l in
       record { same = ap (answer replies.Done) (sym p.same); after = p.after }
-  any-agrees h log turns.PeerUni x l = plain h log turns.PeerUni refl refl (each h log turns.PeerUni x refl l)
-  any-agrees h log turns.PeerBi x l = plain h log turns.PeerBi refl refl (each h log turns.PeerBi x refl l)
-  any-agrees h log (turns.Connected u b c f) x l = plain h log (turns.Connected u b c f) refl refl (each h log (turns.Connected u b c f) x refl l)
-  any-agrees h log (turns.End id) x l = plain h log (turns.End id) refl refl (each h log (turns.End id) x refl l)
-  any-agrees h log (turns.Reset id code) x l = plain h log (turns.Reset id code) refl refl (each h log (turns.Reset id code) x refl l)
-  any-agrees h log (turns.Stop id code) x l = plain h log (turns.Stop id code) refl refl (each h log (turns.Stop id code) x refl l)
-  any-agrees h log (turns.Acked id) x l = plain h log (turns.Acked id) refl refl (each h log (turns.Acked id) x refl l)
-  any-agrees h log (turns.Datagram piece) x l = plain h log (turns.Datagram piece) refl refl (each h log (turns.Datagram piece) x refl l)
-  any-agrees h log (turns.MaxUni total) x l = plain h log (turns.MaxUni total) refl refl (each h log (turns.MaxUni total) x refl l)
-  any-agrees h log (turns.MaxBi total) x l = plain h log (turns.MaxBi total) refl refl (each h log (turns.MaxBi total) x refl l)
-  any-agrees h log (turns.MaxData id total) x l = plain h log (turns.MaxData id total) refl refl (each h log (turns.MaxData id total) x refl l)
-  any-agrees h log (turns.DatagramLimit fact) x l = plain h log (turns.DatagramLimit fact) refl refl (each h log (turns.DatagramLimit fact) x refl l)
-  any-agrees h log (turns.Loss reason) x l = plain h log (turns.Loss reason) refl refl (each h log (turns.Loss reason) x refl l)
-  any-agrees h log (turns.Call call) x l = plain h log (turns.Call call) refl refl (each h log (turns.Call call) x refl l)
+  any-agrees h log turn x l = plain h log turn refl refl (each h log turn x refl l)
 
   -- ---- lists
 

@@ -1,4 +1,4 @@
--- What holds at the start of a turn's moment, and so after it; and the halves that still run are the same in both.
+-- What holds at the start of a turn's moment, and so after it.
 use Rattle.std.specs.Prelude.{[], ◌%◌, ◌&&◌, ◌==◌, ◌||◌, ◌∷◌, ◌≡◌, Bool, List, None, Option, false, if◌then◌else◌, not, true, ℕ}
 use Rattle.std.specs.List.{list_any}
 use Rattle.std.proofs.Common.{◌∙◌, ap, refl, sym}
@@ -29,6 +29,7 @@ use Rattle.wt_seam_spec.specs.Streams.{local_uni, peer_uni}
 use Rattle.wt_seam_spec.specs.Streams as streams
 use Rattle.wt_sessions.specs.Driver.{gives_up, transport_view}
 use Rattle.wt_sessions.specs.StreamTable.{CallView}
+use Rattle.wt_sessions_agree.proofs.Basics.{eqb-sym}
 use Rattle.wt_sessions_agree.proofs.CameLaws.{came, came-more}
 use Rattle.wt_sessions_agree.proofs.MembersKept.{Good, closed-more, good-kept}
 use Rattle.wt_sessions_agree.specs.Members.{HalvesSeen, MembersIn}
@@ -42,27 +43,6 @@ use Rattle.wt_wire.specs.declared.side.Side.TheVariants.{Client, Server}
 use Rattle.wt_turn.specs.declared.call.Call.TheVariants as calls
 use Rattle.wt_turn.specs.declared.reply.Reply.TheVariants as replies
 use Rattle.wt_turn.specs.declared.turn.Turn.TheVariants as turns
-
--- ---- the halves that still run
-
-turned : (a b : ℕ) → (a == b) ≡ (b == a)
-turned a b = by (a == b) (b == a) refl refl
-  where
-    by : (p q : Bool) → (a == b) ≡ p → (b == a) ≡ q → p ≡ q
-    by true true e f = refl
-    by false false e f = refl
-    by true false e f = let r : (b == a) ≡ true = eq-eqb b a (sym (eqb-true a b e)) in absurd (cc (sym r ∙ f))
-    by false true e f = let r : (a == b) ≡ true = eq-eqb a b (sym (eqb-true b a f)) in absurd (cc (sym e ∙ r))
-
-pub halves-seen : (side : Side) (h : History) (log : Log) → events h ≡ events_of log → all_events h ≡ all_events_of log → SameOut (actions_out h) (actions_of log) → ((k : ℕ) → is_given_up h k ≡ list_any (gives_up k) (calls_of log))
-    → ((k : ℕ) → is_reset h k ≡ sends.is_reset log k) → HalvesSeen side h (transport_view side log)
-halves-seen side h log e all out given reset = record {
-  receives = λ k. sym (ap (λ (b : Bool). (b && not (k % 4 == local_uni side)) && is_running (end_of (events h) k) && not (is_given_up h k)) (there k) ∙ rw (e, given k, turned (k % 4) (local_uni side)) refl);
-  sends = λ k. sym (ap (λ (b : Bool). (b && not (k % 4 == peer_uni side)) && not (sends.is_finished (actions_out h) k) && not (is_reset h k)) (there k) ∙ rw (out.finished k, reset k, turned (k % 4) (peer_uni side)) refl);
-}
-  where
-    there : (k : ℕ) → exists side h k ≡ streams.exists side log k
-    there k = rw (all, out.opened (k % 4)) refl
 
 -- ---- whose verdict is known before the moment
 

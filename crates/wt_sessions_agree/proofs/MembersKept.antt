@@ -14,7 +14,8 @@ use Rattle.wt_promise.proofs.Grows.{AClassified, AClosed, ADatagram, ADequeued, 
 use Rattle.wt_promise.proofs.MomentActs.{closes_session}
 use Rattle.wt_proto.specs.declared.verdict.Verdict.{Verdict}
 use Rattle.wt_sessions.specs.StreamTable.{CallView, StreamTable, TransportView, dispatched_streams, gone_actions}
-use Rattle.wt_sessions_agree.proofs.Appends.{or-false}
+use Rattle.wt_sessions_agree.proofs.Appends.{classified-more}
+use Rattle.wt_sessions_agree.proofs.Basics.{or-false, or-first}
 use Rattle.wt_sessions_agree.proofs.CameLaws.{Came, verdict-there}
 use Rattle.wt_sessions_agree.proofs.MembersLaws.{gone-alike}
 use Rattle.wt_sessions_agree.specs.Agrees.{IsTable}
@@ -40,10 +41,6 @@ no-admits s k = of-stream-fault (λ (fs : List Finding). list_any (admits s k) f
 no-closing : (k : ℕ) (found : List Finding) (v : Verdict) → list_any (closes_session k) (stream_fault found v) ≡ false
 no-closing k = of-stream-fault (λ (fs : List Finding). list_any (closes_session k) fs ≡ false) refl (λ code. refl)
 
-only-first : (a b : Bool) → (a || b) ≡ true → b ≡ false → a ≡ true
-only-first true b e f = refl
-only-first false b e f = absurd (let r : true ≡ false = sym e ∙ f in cc r)
-
 -- what admits a stream is its verdict
 admits-itself : (s k j : ℕ) (v : Verdict) (b : Bool) → admits s k (Classified j v b) ≡ true → (j == k) ≡ true
 admits-itself s k j (verdicts.WebTransport t offset) true e = and-left (j == k) (t == s) e
@@ -68,7 +65,7 @@ admitted-new side h s k found new (AClosed t code reason b l) e = absurd (cc e)
 admitted-new side h s k found new (ASettings c) e = absurd (cc e)
 admitted-new side h s k found new (AFault code) e = absurd (cc e)
 admitted-new side h s k found new (AClassified j v more p d c w m) e =
-    let a : admits s k (Classified j v (keeps h found v)) ≡ true = only-first _ _ e (ap (list_any (admits s k)) m ∙ no-admits s k found v) in
+    let a : admits s k (Classified j v (keeps h found v)) ≡ true = or-first _ _ e (ap (list_any (admits s k)) m ∙ no-admits s k found v) in
     let i : j ≡ k = eqb-true j k (admits-itself s k j v (keeps h found v) a) in
     record { new = ap (is_classified found) (sym i) ∙ c; peers = ap (is_peers side) (sym i) ∙ p; some = λ n. admits-some s k j v (keeps h found v) a (sym w ∙ ap (verdict h) i ∙ n) }
 
@@ -77,7 +74,7 @@ closing-lived : (side : Side) (h : History) (k : ℕ) (found new : List Finding)
 closing-lived side h k found [] Nothing e = absurd (cc e)
 closing-lived side h k found new (ADequeued j p) e = absurd (cc e)
 closing-lived side h k found new (ADatagram n t payload c) e = absurd (cc e)
-closing-lived side h k found new (AClosed t code reason b l) e = ap (is_established h) (sym (eqb-true t k (only-first (t == k) false e refl))) ∙ and-left (is_established h t) (not (is_gone h found t)) l
+closing-lived side h k found new (AClosed t code reason b l) e = ap (is_established h) (sym (eqb-true t k (or-first (t == k) false e refl))) ∙ and-left (is_established h t) (not (is_gone h found t)) l
 closing-lived side h k found new (ASettings c) e = absurd (cc e)
 closing-lived side h k found new (AFault code) e = absurd (cc e)
 closing-lived side h k found new (AClassified j v more p d c w m) e = absurd (let r : true ≡ false = sym e ∙ ap (list_any (closes_session k)) m ∙ no-closing k found v in cc r)
@@ -91,13 +88,6 @@ closed-more side h found new a g k e = by (list_any (closes_session k) found) re
     by false i r = closing-lived side h k found new a r
 
 -- ---- what is kept
-
-classified-more : (found new : List Finding) (k : ℕ) → is_classified found k ≡ true → is_classified (found ++ new) k ≡ true
-classified-more found new k e = by (verdict_of found k) refl e
-  where
-    by : (o : Option Verdict) → verdict_of found k ≡ o → is_some o ≡ true → is_classified (found ++ new) k ≡ true
-    by None i q = absurd (cc q)
-    by (Some v) i q = ap is_some (first_of-stays (verdict_in k) found new v i)
 
 -- the streams stay the same where what is new admits none that was handed out
 members-more : (side : Side) (h : History) (calls : CallView) (found new : List Finding) → ((s k : ℕ) → list_any (admits s k) new ≡ true → (is_handed_out h k ≡ false) × (exists side h k ≡ true)) → MembersIn side h calls found
@@ -133,9 +123,6 @@ good-kept side h calls found new a f g = record {
   closed = closed-more side h found new a g.closed;
   came = g.came;
 }
-
-pub good-checks : (side : Side) (h : History) (calls : CallView) (cs : List Check) (found : List Finding) → list_all (asks_peers side) cs ≡ true → Good side h calls found → Good side h calls (after_checks side h cs found)
-good-checks side h calls = checks-keep side h (Good side h calls) (good-kept side h calls)
 
 -- ---- what it is good for
 

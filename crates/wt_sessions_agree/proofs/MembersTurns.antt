@@ -25,7 +25,8 @@ use Rattle.wt_promise.specs.Promise.{IsHistory}
 use Rattle.wt_seam_spec.specs.Streams.{local_bi, local_uni, one_more_if}
 use Rattle.wt_sessions.specs.Driver.{call_view, member_by, members_of, with_member}
 use Rattle.wt_sessions.specs.StreamTable.{CallView}
-use Rattle.wt_sessions_agree.proofs.Appends.{and-false}
+use Rattle.wt_sessions_agree.proofs.Basics.{and-false}
+use Rattle.wt_sessions_agree.proofs.StreamKinds.{local-bi-small, local-uni-small}
 use Rattle.wt_sessions_agree.proofs.MembersLaws.{has-with, with-ascends}
 use Rattle.wt_sessions_agree.proofs.RecordLaws.{Passes, done-passes, failure-passes, pending-passes}
 use Rattle.wt_sessions_agree.specs.Members.{Ascends, MembersIn, has_id, is_opened_for}
@@ -292,14 +293,6 @@ kind-there side h turn r xs kind l one =
     let d = opened-out kind xs (actions_out h) in
     lt-ltb (next_id side h kind / 4) (stream_count side (with_pair h turn (answer r xs)) (next_id side h kind % 4)) (rw (n.0, n.1) (omega (arith, c, d, one)))
 
-uni-small : (side : Side) → local_uni side < 4
-uni-small Client = omega arith
-uni-small Server = omega arith
-
-bi-small : (side : Side) → local_bi side < 4
-bi-small Client = omega arith
-bi-small Server = omega arith
-
 -- as many actions open streams as those of the call
 abbrev More : Side → History → Call → List Action → Type 0
 More side h c xs = (kind : ℕ) → opened kind (own_answer side h (turns.Call c)).actions ≤ opened kind xs
@@ -316,9 +309,9 @@ opens-there side h c xs more s k e = by c (own_answer side h (turns.Call c)).rep
   where
     by : (d : Call) (r : Reply) → (next side h (turns.Call d)).reply ≡ r → More side h d xs → opens_for (with_pair h (turns.Call d) (answer r xs)) s k (turns.Call d) r ≡ true → exists side (with_pair h (turns.Call d) (answer r xs)) k ≡ true
     by (calls.OpenUni name) (replies.Opening id) q m e =
-        opener-there side h (turns.Call (calls.OpenUni name)) name (local_uni side) id k (replies.Opening id) _ xs (uni-small side) (own_answer side h (turns.Call (calls.OpenUni name))) refl (opens-for side h name (local_uni side) id q) (m (local_uni side)) (and-left (id == k) _ e)
+        opener-there side h (turns.Call (calls.OpenUni name)) name (local_uni side) id k (replies.Opening id) _ xs (local-uni-small side) (own_answer side h (turns.Call (calls.OpenUni name))) refl (opens-for side h name (local_uni side) id q) (m (local_uni side)) (and-left (id == k) _ e)
     by (calls.OpenBi name) (replies.Opening id) q m e =
-        opener-there side h (turns.Call (calls.OpenBi name)) name (local_bi side) id k (replies.Opening id) _ xs (bi-small side) (own_answer side h (turns.Call (calls.OpenBi name))) refl (opens-for side h name (local_bi side) id q) (m (local_bi side)) (and-left (id == k) _ e)
+        opener-there side h (turns.Call (calls.OpenBi name)) name (local_bi side) id k (replies.Opening id) _ xs (local-bi-small side) (own_answer side h (turns.Call (calls.OpenBi name))) refl (opens-for side h name (local_bi side) id q) (m (local_bi side)) (and-left (id == k) _ e)
     by d r q m e = absurd (cc e)
 
 -- ---- a call

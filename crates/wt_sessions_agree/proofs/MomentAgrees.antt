@@ -11,12 +11,13 @@ use Rattle.wt_proto.specs.Bi.{bi_verdict_of}
 use Rattle.wt_proto.specs.Uni.{uni_verdict_of}
 use Rattle.wt_seam_spec.specs.Reports.{datagrams_of}
 use Rattle.wt_seam_spec.specs.Streams.{peer_bi, peer_count, peer_uni}
+use Rattle.wt_promise.proofs.Accepted.{and-left}
 use Rattle.wt_sessions.specs.Scan.{check_sessions, in_order, on_progress, scan_bis, scan_order, scan_unis, take_datagrams, with_no_actions}
 use Rattle.wt_sessions.specs.StreamTable.{CallView, StreamTable, TransportView}
-use Rattle.wt_sessions_agree.proofs.Appends.{and-left}
 use Rattle.wt_sessions_agree.proofs.CriticalLaws.{checks-append, critical-agrees, critical_steps, step-keeps}
 use Rattle.wt_sessions_agree.proofs.DatagramLaws.{datagrams-agree}
 use Rattle.wt_sessions_agree.proofs.KindLaws.{kind-keeps}
+use Rattle.wt_sessions_agree.proofs.StreamKinds.{bi-direction, bi-peers, bi-small, uni-direction, uni-peers, uni-small}
 use Rattle.wt_sessions_agree.proofs.OrderlyLaws.{orderly-checks}
 use Rattle.wt_sessions_agree.proofs.ScanLaws.{ScanKeeps, table-kept}
 use Rattle.wt_sessions_agree.proofs.SessionLaws.{WalkKeeps, table-walked, walks-keep}
@@ -27,38 +28,6 @@ use Rattle.wt_sessions_agree.specs.Agrees.{IsTable}
 use Rattle.wt_wire.specs.Ids.{is_bidirectional}
 use Rattle.wt_wire.specs.declared.side.Side.{Side}
 use Rattle.wt_wire.specs.declared.side.Side.TheVariants.{Client, Server}
-
--- ---- kinds
-
-uni-small : (side : Side) → peer_uni side < 4
-uni-small Client = omega arith
-uni-small Server = omega arith
-
-bi-small : (side : Side) → peer_bi side < 4
-bi-small Client = omega arith
-bi-small Server = omega arith
-
-is-zero : (n : ℕ) → n ≡ 0 → (n == 0) ≡ true
-is-zero n e = rw e refl
-
-is-one : (n : ℕ) → n ≡ 1 → (n == 0) ≡ false
-is-one n e = rw e refl
-
-uni-direction : (side : Side) (m : ℕ) → is_bidirectional (4 * m + peer_uni side) ≡ false
-uni-direction Client m = is-one ((4 * m + 3) / 2 % 2) (omega arith)
-uni-direction Server m = is-one ((4 * m + 2) / 2 % 2) (omega arith)
-
-bi-direction : (side : Side) (m : ℕ) → is_bidirectional (4 * m + peer_bi side) ≡ true
-bi-direction Client m = is-zero ((4 * m + 1) / 2 % 2) (omega arith)
-bi-direction Server m = is-zero ((4 * m + 0) / 2 % 2) (omega arith)
-
-uni-peers : (side : Side) (m : ℕ) → is_peers side (4 * m + peer_uni side) ≡ true
-uni-peers Client m = let r : (4 * m + 3) % 4 ≡ 3 = omega arith in rw r refl
-uni-peers Server m = let r : (4 * m + 2) % 4 ≡ 2 = omega arith in rw r refl
-
-bi-peers : (side : Side) (m : ℕ) → is_peers side (4 * m + peer_bi side) ≡ true
-bi-peers Client m = let r : (4 * m + 1) % 4 ≡ 1 = omega arith in rw r refl
-bi-peers Server m = let r : (4 * m + 0) % 4 ≡ 0 = omega arith in rw r refl
 
 -- ---- the whole moment
 

@@ -27,14 +27,15 @@ use Rattle.wt_sessions.specs.Driver.{call_view, gives_up, is_moment, log_and_flu
 use Rattle.wt_sessions.specs.Handshake.{handshake_state}
 use Rattle.wt_sessions.specs.StreamTable.{CallView, Session, was_established}
 use Rattle.wt_sessions_agree.proofs.AnswerLaws.{sent-then}
-use Rattle.wt_sessions_agree.proofs.CallKeeps.{accepted-after, call-keeps, ended-after, given_up-after, reset-from, same-called}
+use Rattle.wt_sessions_agree.proofs.CallKeeps.{accepted-after, call-keeps, ended-after, given_up-after, reset-from}
 use Rattle.wt_sessions_agree.proofs.CallTells.{reset-goes}
 use Rattle.wt_sessions_agree.proofs.CallTurns as plain
 use Rattle.wt_sessions_agree.proofs.DueEnds.{ends-hold}
-use Rattle.wt_sessions_agree.proofs.EventTurns.{ended-acted, flush-as, view-of}
+use Rattle.wt_sessions_agree.proofs.EntryTurns.{ended-acted, flush-as}
+use Rattle.wt_sessions_agree.proofs.HalvesAlike.{halves-seen}
 use Rattle.wt_sessions_agree.proofs.HandshakeTurns.{shake-call}
 use Rattle.wt_sessions_agree.proofs.LawfulLaws.{lawful-agrees}
-use Rattle.wt_sessions_agree.proofs.MembersBefore.{good-before, halves-seen, members-moment}
+use Rattle.wt_sessions_agree.proofs.MembersBefore.{good-before, members-moment}
 use Rattle.wt_sessions_agree.proofs.MembersKept.{Good}
 use Rattle.wt_sessions_agree.proofs.MembersTurns.{members-call, members-own}
 use Rattle.wt_sessions_agree.proofs.PendingLaws.{sends-alike}
@@ -43,9 +44,9 @@ use Rattle.wt_sessions_agree.proofs.OutLaws.{acted, any-newest, same-raw}
 use Rattle.wt_sessions_agree.proofs.RestTurns.{idle-call}
 use Rattle.wt_sessions_agree.proofs.RowsAgree.{call-agrees}
 use Rattle.wt_sessions_agree.proofs.SessionTurns.{calls-established, session-reply, sessions-call, sessions-session, with-offset}
-use Rattle.wt_sessions_agree.proofs.TransportLaws.{acted-all, acted-contents, acted-events, flushed}
+use Rattle.wt_sessions_agree.proofs.TransportLaws.{acted-all, acted-contents, acted-events, called-contents, called-events, flushed}
 use Rattle.wt_sessions_agree.proofs.TurnFinds.{acted-table, sees-alike}
-use Rattle.wt_sessions_agree.proofs.TurnKeeps.{acted-calls, flushed-first, resets-apart, told-resets, unsent-reset}
+use Rattle.wt_sessions_agree.proofs.TurnKeeps.{acted-calls, flushed-first, resets-apart, told-resets, unsent-reset, view-of}
 use Rattle.wt_sessions_agree.specs.Agreement.{Agree, TurnAgrees}
 use Rattle.wt_sessions_agree.specs.Agrees.{IsTable}
 use Rattle.wt_sessions_agree.specs.Members.{HalvesSeen, MembersIn}
@@ -140,21 +141,13 @@ module _ (side : Side) (offset : ℕ → ℕ) (h : History) (log : Log) (x : Sta
   -- ---- what came, and what went out
 
   events-now : events (pair ∷ h) ≡ events_of now
-  events-now = by (is_open h) ∙ x.came.events ∙ sym (acted-events mine.actions log)
-    where
-      by : (b : Bool) → (if b then events h else events h) ≡ events h
-      by true = refl
-      by false = refl
+  events-now = called-events h c mine ∙ x.came.events ∙ sym (acted-events mine.actions log)
 
   all-now : all_events (pair ∷ h) ≡ all_events_of now
   all-now = x.came.all_events ∙ sym (acted-all mine.actions log)
 
   bytes-now : (k : ℕ) → contents (pair ∷ h) k ≡ streams.contents now k
-  bytes-now k = by (is_open h) ∙ x.came.contents k ∙ sym (acted-contents mine.actions log k)
-    where
-      by : (b : Bool) → (if b then contents h k else contents h k) ≡ contents h k
-      by true = refl
-      by false = refl
+  bytes-now k = called-contents h c mine k ∙ x.came.contents k ∙ sym (acted-contents mine.actions log k)
 
   out-now : SameOut (actions_out (pair ∷ h)) (actions_of now)
   out-now = subst (SameOut (actions_out (pair ∷ h))) (sym (acted mine.actions log)) (same-raw mine.actions (actions_out h) (actions_of log) x.out)
@@ -171,7 +164,7 @@ module _ (side : Side) (offset : ℕ → ℕ) (h : History) (log : Log) (x : Sta
       went = any-newest (is_reset_of k) mine.actions (actions_out h)
 
   given-now : (k : ℕ) → is_given_up (pair ∷ h) k ≡ list_any (gives_up k) (calls_of now)
-  given-now k = given_up-after side offset h log x hist c lawful (calls_of now) (same-called (calls_of now) (left ∷ calls_of log) called-now) k
+  given-now k = given_up-after side offset h log x hist c lawful (calls_of now) called-now k
 
   seen : HalvesSeen side (pair ∷ h) (transport_view side now)
   seen = halves-seen side (pair ∷ h) now events-now all-now out-now given-now reset-now
@@ -183,8 +176,8 @@ module _ (side : Side) (offset : ℕ → ℕ) (h : History) (log : Log) (x : Sta
 
   calls-now : CallsAgree (pair ∷ h) (call_view now)
   calls-now = record {
-    accepted = accepted-after side offset h log x hist c lawful (calls_of now) (same-called (calls_of now) (left ∷ calls_of log) called-now);
-    ended = ended-after side offset h log x hist c lawful (calls_of now) (same-called (calls_of now) (left ∷ calls_of log) called-now);
+    accepted = accepted-after side offset h log x hist c lawful (calls_of now) called-now;
+    ended = ended-after side offset h log x hist c lawful (calls_of now) called-now;
     established = established-now;
   }
 
@@ -256,7 +249,7 @@ module _ (side : Side) (offset : ℕ → ℕ) (h : History) (log : Log) (x : Sta
 
     stands : Stands side begins after later
     stands =
-        call-keeps side offset h log x hist c lawful later (same-called (calls_of later) (left ∷ calls_of log) called-later) (plain.call-sent side offset h log x c effect pending)
+        call-keeps side offset h log x hist c lawful later called-later (plain.call-sent side offset h log x c effect pending)
         (flushed events_of acted-events side (Called left) front ∙ acted-events mine.actions log)
         (flushed all_events_of acted-all side (Called left) front ∙ acted-all mine.actions log)
         (λ k. flushed (λ l. streams.contents l k) (λ own l. acted-contents own l k) side (Called left) front ∙ acted-contents mine.actions log k)

@@ -31,6 +31,8 @@ use Rattle.wt_sessions_agree.proofs.ReadyLaws.{none-early-after}
 use Rattle.wt_sessions_agree.proofs.ReceivedLaws.{indexed, received-one, received-plain}
 use Rattle.wt_sessions_agree.proofs.RecordLaws.{Passes, done-passes, failure-passes, pending-passes}
 use Rattle.wt_sessions_agree.proofs.SessionTurns.{with-offset}
+use Rattle.wt_sessions_agree.proofs.TransportLaws.{called-contents, called-events}
+use Rattle.wt_sessions_agree.proofs.TurnKeeps.{view-of}
 use Rattle.wt_sessions_agree.proofs.WaitLaws.{waiting-pairs}
 use Rattle.wt_sessions_agree.specs.Orderly.{Orderly, Received, begins_at, is_of_peer}
 use Rattle.wt_sessions_agree.specs.Records.{left_datagrams, next_index, part_start, record_of}
@@ -47,17 +49,6 @@ use Rattle.wt_turn.specs.declared.call.Call.TheVariants as calls
 use Rattle.wt_turn.specs.declared.reply.Reply.TheVariants as replies
 use Rattle.wt_turn.specs.declared.stream_error.StreamReadExactError.TheVariants as exacts
 use Rattle.wt_turn.specs.declared.turn.Turn.TheVariants as turns
-
--- what calls did, by their records
-abbrev pub view-of : List CallRecord → CallView
-view-of rs = record {
-  accepted = λ k. list_any (accepts_stream k) rs;
-  received = λ n. list_any (drivers.receives n) rs;
-  delivered = λ k. list_any (delivers k) rs;
-  ended = λ s. list_any (ends_session s) rs;
-  sessions = sessions_of rs;
-  members = members_of rs;
-}
 
 no-receive : (h : History) (s : ℕ) (turn : Turn) → is_call turn ≡ false → receives h s turn replies.Done ≡ false
 no-receive h s (turns.Call c) e = absurd (cc e)
@@ -165,25 +156,10 @@ module _ (side : Side) (offset : ℕ → ℕ) (h : History) (log : Log) (x : Sta
   abbrev pair : Pair
   pair = record { turn = turns.Call c; answer = next side h (turns.Call c) }
 
-  -- a call brings no bytes and ends nothing that comes
-  same-events : events after ≡ events h
-  same-events = by (is_open h)
-    where
-      by : (b : Bool) → (if b then events h else events h) ≡ events h
-      by true = refl
-      by false = refl
-
-  same-contents : (k : ℕ) → contents after k ≡ contents h k
-  same-contents k = by (is_open h)
-    where
-      by : (b : Bool) → (if b then contents h k else contents h k) ≡ contents h k
-      by true = refl
-      by false = refl
-
   same-begins : (k : ℕ) → begins_at after (findings side h) k ≡ begins_at h (findings side h) k
   same-begins k =
-      ap (λ (es : List Event). unwrap_or (after_request (verdict_of (findings side h) k)) (after_response (response_walk_of (contents after k) (end_of es k)))) same-events
-      ∙ ap (λ (bytes : List ℕ). unwrap_or (after_request (verdict_of (findings side h) k)) (after_response (response_walk_of bytes (end_of (events h) k)))) (same-contents k)
+      ap (λ (es : List Event). unwrap_or (after_request (verdict_of (findings side h) k)) (after_response (response_walk_of (contents after k) (end_of es k)))) (called-events h c (next side h (turns.Call c)))
+      ∙ ap (λ (bytes : List ℕ). unwrap_or (after_request (verdict_of (findings side h) k)) (after_response (response_walk_of bytes (end_of (events h) k)))) (called-contents h c (next side h (turns.Call c)) k)
 
   received-call : Receives side h log c
   received-call = by (is_payload own.reply) refl

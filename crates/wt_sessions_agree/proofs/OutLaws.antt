@@ -10,6 +10,7 @@ use Rattle.wt_promise.proofs.Actions.{AnyPiece, any-join_all, opened-join, opene
 use Rattle.wt_seam_spec.specs.Joined.{join_all, join_one, joined_actions, newest_first}
 use Rattle.wt_seam_spec.specs.Sent.{dials, finishes, sent_on}
 use Rattle.wt_sessions.specs.Answers.{actions_since}
+use Rattle.wt_sessions_agree.proofs.Basics.{or-false}
 use Rattle.wt_sessions_agree.specs.Stands.{SameOut}
 use Rattle.wt_turn.specs.Log.{Log, Sent, actions_of, with_actions}
 use Rattle.wt_turn.specs.declared.action.Action.{Action}
@@ -18,11 +19,7 @@ use Rattle.wt_turn.specs.declared.action.Action.TheVariants as actions
 -- ---- tests
 
 pub any-newest : (test : Action → Bool) (xs before : List Action) → list_any test (newest_first xs before) ≡ (list_any test before || list_any test xs)
-any-newest test [] before = sym (or-nothing (list_any test before))
-  where
-    or-nothing : (b : Bool) → (b || false) ≡ b
-    or-nothing true = refl
-    or-nothing false = refl
+any-newest test [] before = sym (or-false (list_any test before))
 any-newest test (x ∷ xs) before = any-newest test xs (x ∷ before) ∙ turned (test x) (list_any test before) (list_any test xs)
   where
     turned : (a b c : Bool) → ((a || b) || c) ≡ (b || (a || c))

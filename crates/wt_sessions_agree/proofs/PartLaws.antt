@@ -28,6 +28,8 @@ use Rattle.wt_proto.specs.Walk.{whole_walk}
 use Rattle.wt_proto.specs.declared.response_walk.ResponseWalk.{ResponseWalk}
 use Rattle.wt_proto.specs.declared.verdict.Verdict.{Verdict}
 use Rattle.wt_seam_spec.specs.Reports.{end_of}
+use Rattle.wt_promise.proofs.Phases.{last-given}
+use Rattle.wt_sessions_agree.proofs.Basics.{or-first}
 use Rattle.wt_sessions_agree.specs.Orderly.{begins_at, is_of_peer}
 use Rattle.wt_turn.specs.declared.answer.Answer.{Answer}
 use Rattle.wt_turn.specs.declared.turn.Turn.{Turn}
@@ -139,7 +141,7 @@ pub record RequestOf (found : List Finding) (k : ℕ) : Type 0 where
   pub came : is_dequeued found k ≡ true
 
 -- the finding queues the request
-abbrev queues : ℕ → Finding → Bool
+abbrev pub queues : ℕ → Finding → Bool
 queues k (Classified id (verdicts.Request headers offset) true) = id == k
 queues k _ = false
 
@@ -149,7 +151,7 @@ Queued k found = list_any (queues k) found ≡ true → RequestOf found k
 -- where nothing new is queued, what was stays
 queued-with : (k : ℕ) (found new : List Finding) → list_any (queues k) new ≡ false → Queued k found → Queued k (found ++ new)
 queued-with k found new n g e =
-    let r = g (first (list_any (queues k) found) (list_any (queues k) new) (sym (list_any-append (queues k) found new) ∙ e) n) in
+    let r = g (or-first (list_any (queues k) found) (list_any (queues k) new) (sym (list_any-append (queues k) found new) ∙ e) n) in
     record {
       headers = r.headers;
       offset = r.offset;
@@ -157,10 +159,6 @@ queued-with k found new n g e =
       is_bi = r.is_bi;
       came = list_any-append (dequeues k) found new ∙ ap (λ (b : Bool). b || list_any (dequeues k) new) r.came;
     }
-  where
-    first : (a b : Bool) → (a || b) ≡ true → b ≡ false → a ≡ true
-    first true b q m = refl
-    first false b q m = absurd (let r : true ≡ false = sym q ∙ m in cc r)
 
 queued-now : (h : History) (k : ℕ) (found more : List Finding) (headers : Fields) (offset : ℕ) (b : Bool) → is_dequeued found k ≡ true → is_classified found k ≡ false → verdict h k ≡ verdicts.Request headers offset
     → Queued k (found ++ (Classified k (verdicts.Request headers offset) b ∷ more))
@@ -181,7 +179,7 @@ queued-now h k found more headers offset b d c w e = record {
     here : first_of (verdict_in k) (Classified k (verdicts.Request headers offset) b ∷ more) ≡ Some (verdicts.Request headers offset)
     here = ap (λ (x : Bool). option_or (if x then Some (verdicts.Request headers offset) else None) (first_of (verdict_in k) more)) (eq-eqb k k refl)
 
-none-queued : (k : ℕ) (found : List Finding) (v : Verdict) → list_any (queues k) (stream_fault found v) ≡ false
+pub none-queued : (k : ℕ) (found : List Finding) (v : Verdict) → list_any (queues k) (stream_fault found v) ≡ false
 none-queued k = of-stream-fault (λ (fs : List Finding). list_any (queues k) fs ≡ false) refl (λ code. refl)
 
 queued-step : (side : Side) (h : History) (k : ℕ) (found new : List Finding) → Adds side h found new → Queued k found → Queued k (found ++ new)
@@ -209,7 +207,7 @@ unfolding findings
 queued-verdict side [] k = λ e. absurd (cc e)
 queued-verdict side (p ∷ h) k = findings-keep side p h (Queued k) (λ found new a n g. queued-step side (p ∷ h) k found new a g) (queued-verdict side h k)
 
-queues-has : (k : ℕ) (found : List Finding) → has (filter_map queued_request found) k ≡ true → list_any (queues k) found ≡ true
+pub queues-has : (k : ℕ) (found : List Finding) → has (filter_map queued_request found) k ≡ true → list_any (queues k) found ≡ true
 queues-has k [] e = absurd (cc e)
 queues-has k (Classified id (verdicts.Request headers offset) true ∷ found) e = by (id == k) e (queues-has k found)
   where
@@ -248,15 +246,6 @@ a-response (responses.Response fields at) e = (fields, at, refl)
 a-response responses.Waiting e = absurd (cc e)
 a-response responses.Ended e = absurd (cc e)
 a-response (responses.Fault code) e = absurd (cc e)
-
--- the last request was given
-last-given : (h : History) (k : ℕ) → last_request h ≡ Some k → was_given h k ≡ true
-last-given [] k e = absurd (cc e)
-last-given (p ∷ h) k e = by (requests p) e (last-given h k)
-  where
-    by : (o : Option ℕ) → option_or o (last_request h) ≡ Some k → (last_request h ≡ Some k → was_given h k ≡ true) → list_any (λ (id : ℕ). id == k) (cons_option o (filter_map requests h)) ≡ true
-    by None q again = again q
-    by (Some t) q again = let same : t ≡ k = cc q in ap (λ (b : Bool). b || was_given h k) (eq-eqb t k same)
 
 -- a session that a reply gives
 parted-new : (side : Side) (h : History) (turn : Turn) (k : ℕ) → IsHistory side (with_pair h turn (next side h turn)) → EstablishedFor side h (with_pair h turn (next side h turn)) k → Parted side (with_pair h turn (next side h turn)) k

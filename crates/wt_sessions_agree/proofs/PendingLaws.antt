@@ -12,6 +12,7 @@ use Rattle.wt_promise.proofs.Grows.{checks-add, more, more-by, news-dropped, new
 use Rattle.wt_promise.proofs.OpenStays.{no-fault}
 use Rattle.wt_promise.specs.Promise.{IsHistory}
 use Rattle.wt_seam_spec.specs.Streams.{local_uni}
+use Rattle.wt_promise.proofs.Opened.{open-before}
 use Rattle.wt_sessions.specs.Driver.{actions_after, apply_if, call_view, close_actions, control_actions, control_sent, is_moment, pending_actions, stream_table, transport_view}
 use Rattle.wt_sessions.specs.Scan.{scan_order}
 use Rattle.wt_sessions.specs.StreamTable.{StreamTable, dispatched_streams, gone_actions}
@@ -19,6 +20,7 @@ use Rattle.wt_sessions_agree.proofs.AnswerLaws.{control-agrees}
 use Rattle.wt_sessions_agree.proofs.MembersKept.{Good, good-alike, good-fresh, good-kept}
 use Rattle.wt_sessions_agree.proofs.MomentSends.{moment-sends}
 use Rattle.wt_sessions_agree.proofs.RestLaws.{second-finds}
+use Rattle.wt_sessions_agree.proofs.TurnFinds.{entry-table}
 use Rattle.wt_sessions_agree.specs.Agrees.{IsTable}
 use Rattle.wt_sessions_agree.specs.Members.{HalvesSeen}
 use Rattle.wt_sessions_agree.specs.Orderly.{Known, Orderly}
@@ -30,12 +32,6 @@ use Rattle.wt_turn.specs.declared.reply.Reply.{Reply}
 use Rattle.wt_wire.specs.declared.side.Side.{Side}
 use Rattle.wt_turn.specs.declared.reply.Reply.TheVariants as replies
 
--- the table at a moment that finds the connection open
-pub entry-table : (side : Side) (log : Log) (e : Entry) → (is_moment e && logs.is_open (e ∷ log)) ≡ true
-    → stream_table side (e ∷ log) ≡ scan_order (transport_view side (e ∷ log)) (call_view (e ∷ log)) (stream_table side log)
-unfolding stream_table
-entry-table side log e m = ap (λ (b : Bool). apply_if b (scan_order (transport_view side (e ∷ log)) (call_view (e ∷ log))) (stream_table side log)) m
-
 -- ---- what a pair finds
 
 -- the second moment of a reply that establishes a session finds nothing
@@ -44,14 +40,6 @@ once side h (replies.Session id) found known =
     ap (λ (l : List Finding). more side h (checks side h) found ++ more side h (checks side h) l) (sym (checks-add side h (checks side h) found))
     ∙ ap (λ (l : List Finding). more side h (checks side h) found ++ l) (second-finds side h found known) ∙ append-nil (more side h (checks side h) found)
 once side h r found known = refl
-
--- an open connection was open before
-pub was-open : (p : Pair) (h : History) → is_open (p ∷ h) ≡ true → is_open h ≡ true
-was-open p h o = by (ends_by p) (list_any ends_by h) o
-  where
-    by : (a b : Bool) → not (a || b) ≡ true → not b ≡ true
-    by false b e = e
-    by true b e = absurd (cc e)
 
 -- ---- what goes out
 
@@ -78,8 +66,8 @@ module _ (side : Side) (offset : ℕ → ℕ) (p : Pair) (h : History) (hist : I
       after = scan_order (transport_view side (e ∷ log)) (call_view (e ∷ log)) (stream_table side log)
 
       found : actions_for_all side (p ∷ h) (findings side h) new ≡ after.progress.actions ++ close_actions after.progress.fault
-      found = ap (actions_for_all side (p ∷ h) (findings side h)) (news-dropped side p h ∙ news-open side p h (was-open p h opened) ∙ once side (p ∷ h) p.answer.reply (findings side h) orderly.known)
+      found = ap (actions_for_all side (p ∷ h) (findings side h)) (news-dropped side p h ∙ news-open side p h (open-before p h opened) ∙ once side (p ∷ h) p.answer.reply (findings side h) orderly.known)
           ∙ moment-sends side (p ∷ h) (transport_view side (e ∷ log)) (call_view (e ∷ log)) offset s (Good side (p ∷ h) (call_view (e ∷ log))) (good-kept side (p ∷ h) (call_view (e ∷ log)))
           (λ found table g t k n. good-alike side (p ∷ h) (call_view (e ∷ log)) found (transport_view side (e ∷ log)) table g t s.calls halves k n)
           (λ found g k m n. good-fresh side (p ∷ h) (call_view (e ∷ log)) found g k m n)
-          (findings side h) (stream_table side log) orderly good holds (no-fault side h hist (was-open p h opened))
+          (findings side h) (stream_table side log) orderly good holds (no-fault side h hist (open-before p h opened))

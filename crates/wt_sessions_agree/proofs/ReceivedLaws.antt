@@ -11,8 +11,10 @@ use Rattle.wt_meaning.specs.History.{History}
 use Rattle.wt_meaning.specs.Moments.{findings, keeps}
 use Rattle.wt_meaning.specs.Windows.{is_established, received_count}
 use Rattle.wt_promise.proofs.Grows.{AClassified, AClosed, ADatagram, ADequeued, AFault, ASettings, Adds, Nothing, findings-keep}
+use Rattle.wt_promise.proofs.Accepted.{and-left, and-right, or-true}
 use Rattle.wt_sessions.specs.StreamTable.{Admitted, CallView}
-use Rattle.wt_sessions_agree.proofs.Appends.{adds, and-left, and-right, cons-append, drops, filter-drops}
+use Rattle.wt_sessions_agree.proofs.Appends.{adds, cons-append, drops, filter-drops}
+use Rattle.wt_sessions_agree.proofs.Basics.{eqb-sym}
 use Rattle.wt_sessions_agree.proofs.OrderlyLaws.{stream-fault-keeps}
 use Rattle.wt_sessions_agree.specs.Agrees.{admitted_in}
 use Rattle.wt_sessions_agree.specs.Orderly.{Received, is_left, is_of}
@@ -155,18 +157,14 @@ in-filter s d rest zero [] e = absurd (cc e)
 in-filter s d rest (suc n) [] e = absurd (cc e)
 in-filter s d rest n (x ∷ ds) e = by n (is_of s x) refl e (λ m. in-filter s d rest m ds)
   where
-    back : (a : Bool) → (a || true) ≡ true
-    back true = refl
-    back false = refl
-
     by : (n : ℕ) (b : Bool) → is_of s x ≡ b → drop n (if b then x ∷ filter (is_of s) ds else filter (is_of s) ds) ≡ d ∷ rest
         → ((m : ℕ) → drop m (filter (is_of s) ds) ≡ d ∷ rest → list_any (is-it d.index s) ds ≡ true) → list_any (is-it d.index s) (x ∷ ds) ≡ true
-    by n false q r again = rw (again n r) (back (is-it d.index s x))
+    by n false q r again = rw (again n r) (or-true (is-it d.index s x))
     by zero true q r again =
         let same : x ≡ d = cc r in
         let i : has-index d.index x ≡ true = eq-eqb x.index d.index (ap (λ (y : Admitted). y.index) same) in
         rw (i, q) refl
-    by (suc n) true q r again = rw (again n r) (back (is-it d.index s x))
+    by (suc n) true q r again = rw (again n r) (or-true (is-it d.index s x))
 
 none-index : (n s : ℕ) (ds : List Admitted) → list_any (has-index n) ds ≡ false → list_all (fits-it n s) ds ≡ true
 none-index n s [] e = refl
@@ -249,17 +247,8 @@ module _ (h after : History) (calls calls2 : CallView) (found : List Finding) (s
   fits : list_all (fits-it d.index s) ds ≡ true
   fits = one-session d.index s ds i.apart member
 
-  turned : (a b : ℕ) → (a == b) ≡ (b == a)
-  turned a b = by (a == b) refl (b == a) refl
-    where
-      by : (x : Bool) → (a == b) ≡ x → (y : Bool) → (b == a) ≡ y → x ≡ y
-      by true e true f = refl
-      by false e false f = refl
-      by true e false f = let t = eq-eqb b a (sym (eqb-true a b e)) in absurd (cc (sym t ∙ f))
-      by false e true f = let t = eq-eqb a b (sym (eqb-true b a f)) in absurd (cc (sym t ∙ e))
-
   left-is : (x : Admitted) → is_left calls2 x ≡ (not (has-index d.index x) && is_left calls x)
-  left-is x = ap not (one x.index ∙ ap (λ (b : Bool). b || calls.received x.index) (turned d.index x.index)) ∙ by (x.index == d.index) (calls.received x.index)
+  left-is x = ap not (one x.index ∙ ap (λ (b : Bool). b || calls.received x.index) (eqb-sym d.index x.index)) ∙ by (x.index == d.index) (calls.received x.index)
     where
       by : (a b : Bool) → not (a || b) ≡ (not a && not b)
       by true b = refl

@@ -66,9 +66,6 @@ is_connecting (replies.ConnectFailed e) = true
 is_connecting replies.Pending = true
 is_connecting _ = false
 
-pub connect-replies : (side : Side) (h : History) (t : Result Target ConnectingError) → is_connecting (first_row (connect_on side h t)).reply ≡ true
-connect-replies side h t = (connect-passes is_connecting refl (λ e. refl) (λ s. refl) side h t).first
-
 -- ---- every other call
 
 abbrev pub is_other : Reply → Bool

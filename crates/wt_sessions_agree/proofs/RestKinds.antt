@@ -12,13 +12,14 @@ use Rattle.wt_meaning.specs.History.{History, events}
 use Rattle.wt_meaning.specs.Moments.{Check, Classify, ControlFault, DecoderEnd, Dequeue, EncoderEnd, LocalStop, ReadDatagram, ReadSettings, WalkSession, after_checks, classified_as, classifying, control_walk, datagram_found, dequeuing, end_fault, fault_if, found_by, ids_from, is_ready, keeps, session_found, stream_checks, stream_fault, unclassified_before, verdict}
 use Rattle.wt_meaning.specs.SessionWalk.{is_over, session_walk_of}
 use Rattle.wt_meaning.specs.Windows.{lives, session_part}
-use Rattle.wt_promise.proofs.Accepted.{or-true}
+use Rattle.wt_promise.proofs.Accepted.{and-left, or-true}
 use Rattle.wt_promise.proofs.Grows.{first_of-append, first_of-stays}
 use Rattle.wt_proto.specs.declared.session_walk.SessionWalk.{SessionWalk}
 use Rattle.wt_proto.specs.declared.verdict.Verdict.{Verdict}
 use Rattle.wt_seam_spec.specs.Reports.{end_of, is_running, stop_of}
 use Rattle.wt_seam_spec.specs.Streams.{local_uni}
-use Rattle.wt_sessions_agree.proofs.Appends.{and-left, classified-append, dequeued-append, filter-fewer, filter-ids, ids-more, one-if, or-false}
+use Rattle.wt_sessions_agree.proofs.Appends.{classified-append, classified-more, dequeued-append, filter-fewer, filter-ids, ids-more, one-if}
+use Rattle.wt_sessions_agree.proofs.Basics.{or-false}
 use Rattle.wt_sessions_agree.specs.Orderly.{unclassified}
 use Rattle.wt_wire.specs.declared.error.ErrorCode.{ErrorCode}
 use Rattle.wt_wire.specs.declared.side.Side.{Side}
@@ -287,13 +288,6 @@ module _ (side : Side) (h : History) (kind : ℕ) (small : kind < 4) where
       one-more (Left d r) b = absurd (let q : (is_ready side h && nat_lt (stuck h found kind n) 4) ≡ true = rw (ready, b) refl in cc (sym r ∙ q))
 
   -- ---- one stream after another
-
-  classified-more : (found new : List Finding) (k : ℕ) → is_classified found k ≡ true → is_classified (found ++ new) k ≡ true
-  classified-more found new k e = by (verdict_of found k) refl e
-    where
-      by : (o : Option Verdict) → verdict_of found k ≡ o → is_some o ≡ true → is_classified (found ++ new) k ≡ true
-      by None q r = absurd (cc r)
-      by (Some v) q r = ap is_some (first_of-stays (verdict_in k) found new v q)
 
   dequeued-more : (found new : List Finding) (k : ℕ) → is_dequeued found k ≡ true → is_dequeued (found ++ new) k ≡ true
   dequeued-more found new k e = list_any-append (dequeues k) found new ∙ rw e refl

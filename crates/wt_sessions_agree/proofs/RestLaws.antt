@@ -17,8 +17,10 @@ use Rattle.wt_promise.proofs.MomentActs.{lives-before}
 use Rattle.wt_proto.specs.declared.session_walk.SessionWalk.{SessionWalk}
 use Rattle.wt_seam_spec.specs.Reports.{datagrams_of, end_of}
 use Rattle.wt_seam_spec.specs.Streams.{peer_bi, peer_count, peer_uni}
-use Rattle.wt_sessions_agree.proofs.Appends.{and-left, any-append}
+use Rattle.wt_promise.proofs.Accepted.{and-left, or-true}
+use Rattle.wt_sessions_agree.proofs.Appends.{any-append}
 use Rattle.wt_sessions_agree.proofs.CriticalLaws.{checks-append}
+use Rattle.wt_sessions_agree.proofs.StreamKinds.{bi-small, uni-small}
 use Rattle.wt_sessions_agree.proofs.OrderlyLaws.{Parts, parts-kept}
 use Rattle.wt_sessions_agree.proofs.RestKinds.{Classifies, Closes, Dequeues, Finds, KeptOn, NoFault, Nothing, Reads, Settles, StillTo, fault-behind, fault-first, kind-kept, kind-still, pass-finds, pass-keeps, pass-step, still-finds, under}
 use Rattle.wt_sessions_agree.specs.Orderly.{Known, begins_at}
@@ -216,10 +218,6 @@ settings-once side h found = by (not (settings_came found) && is_some (control_w
     again : List Finding → List Finding
     again l = found_by side h l ReadSettings
 
-    or-true : (b : Bool) → (b || true) ≡ true
-    or-true true = refl
-    or-true false = refl
-
     by : (b : Bool) → (not (settings_came found) && is_some (control_walk h (first_of control_in found)).settings) ≡ b → again (found ++ found_by side h found ReadSettings) ≡ []
     by true e =
         let q : found_by side h found ReadSettings ≡ SettingsRead ∷ [] = rw e refl in
@@ -262,14 +260,6 @@ pub record AtRest (side : Side) (h : History) (found : List Finding) : Type 0 wh
   pub datagrams : AllRead side h (length (datagrams_of (events h))) found
   pub sessions : (i : ℕ) → i < stream_count side h 0 → lives h found (4 * i + 0) ≡ true → session_walk_of (session_part h found (4 * i + 0)) (end_of (events h) (4 * i + 0)) ≡ walks.Running
   pub critical : Quiet side h found critical
-
-uni-small : (side : Side) → peer_uni side < 4
-uni-small Client = omega arith
-uni-small Server = omega arith
-
-bi-small : (side : Side) → peer_bi side < 4
-bi-small Client = omega arith
-bi-small Server = omega arith
 
 streams-quiet : (side : Side) (h : History) (kind : ℕ) → kind < 4 → (found : List Finding) (n count i : ℕ) → n ≡ i + count → StillTo side h kind n found → Quiet side h found (stream_checks (ids_from kind i count))
 streams-quiet side h kind small found n zero i q s = Empty

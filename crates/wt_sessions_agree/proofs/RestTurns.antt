@@ -20,7 +20,9 @@ use Rattle.wt_proto.specs.declared.control_walk.ControlWalk.{ControlWalk}
 use Rattle.wt_proto.specs.declared.verdict.Verdict.{Verdict}
 use Rattle.wt_seam_spec.specs.Reports.{credit, datagrams_of, end_of, is_connected, stop_of, unis_allowed}
 use Rattle.wt_seam_spec.specs.Streams.{local_uni, peer_bi, peer_count, peer_uni}
-use Rattle.wt_sessions_agree.proofs.Appends.{and-left, filter-ids}
+use Rattle.wt_promise.proofs.Accepted.{and-left}
+use Rattle.wt_sessions_agree.proofs.Appends.{filter-ids}
+use Rattle.wt_sessions_agree.proofs.Basics.{and-false}
 use Rattle.wt_sessions_agree.proofs.RestKinds.{Left, Still, Taken, is_incomplete, is_stuck, stuck}
 use Rattle.wt_sessions_agree.proofs.RestLaws.{And, AtRest, Empty, Quiet, at-rest, comes-to-rest, critical, quiet-more, rest-quiet}
 use Rattle.wt_sessions_agree.proofs.ThereLaws.{established-there}
@@ -45,11 +47,7 @@ known-before side p h i k e = by side i (established-begun side (p ∷ h) i k e)
   where
     by : (s : Side) → IsHistory s (p ∷ h) → BegunFor s (p ∷ h) k → (is_of_peer s k && not (is_classified (findings s h) k)) ≡ false
     by Client j b = rw b refl
-    by Server j b = let c : is_classified (findings Server h) k ≡ true = given-classified Server p h j k b in rw c (none (is_of_peer Server k))
-      where
-        none : (x : Bool) → (x && false) ≡ false
-        none true = refl
-        none false = refl
+    by Server j b = let c : is_classified (findings Server h) k ≡ true = given-classified Server p h j k b in rw c (and-false (is_of_peer Server k))
 
 -- the second moment of a reply that establishes a session finds nothing
 pub moments-once : (side : Side) (h : History) (r : Reply) (found : List Finding) → Known side h found → after_moments side h r found ≡ after_checks side h (checks side h) found
@@ -81,9 +79,6 @@ rest-of side (p ∷ h) i o =
 -- at rest, the checks leave what was found
 rest-same : (side : Side) (h : History) (found : List Finding) → AtRest side h found → after_checks side h (checks side h) found ≡ found
 rest-same side h found r = checks-add side h (checks side h) found ∙ ap (λ (xs : List Finding). found ++ xs) (quiet-more side h found (checks side h) (rest-quiet side h found r)) ∙ append-nil found
-
-pub rests : (side : Side) (h : History) → IsHistory side h → is_open h ≡ true → after_checks side h (checks side h) (findings side h) ≡ findings side h
-rests side h i o = rest-same side h (findings side h) (rest-of side h i o)
 
 -- ---- one more pair that brings nothing
 
@@ -199,12 +194,3 @@ module _ (side : Side) (h : History) (p : Pair) (i : IsHistory side h) (o : is_o
   -- nor does a loss
   pub idle-loss : (reason : LossReason) → p.turn ≡ turns.Loss reason → after_checks side (p ∷ h) (checks side (p ∷ h)) (findings side h) ≡ findings side h
   idle-loss reason t = rest-same side (p ∷ h) (findings side h) (idle-rest (loss-same reason t))
-
-  one-moment : (r : Reply) → session_in r ≡ None → after_moments side (p ∷ h) r (findings side h) ≡ after_checks side (p ∷ h) (checks side (p ∷ h)) (findings side h)
-  one-moment (replies.Session id) e = absurd (cc e)
-  one-moment r e = refl
-
-  -- so the findings are those before
-  pub idle-findings : after_checks side (p ∷ h) (checks side (p ∷ h)) (findings side h) ≡ findings side h → findings side (p ∷ h) ≡ findings side h
-  unfolding findings
-  idle-findings e = ap (λ (b : Bool). if b then after_moments side (p ∷ h) p.answer.reply (findings side h) else findings side h) o ∙ one-moment p.answer.reply n ∙ e

@@ -8,9 +8,11 @@ use Rattle.wt_proto.specs.declared.verdict.Verdict.{Verdict}
 use Rattle.wt_turn.specs.declared.action.Action.{Action}
 use Rattle.wt_wire.specs.declared.error.ErrorCode.{ErrorCode}
 use Rattle.wt_wire.specs.declared.side.Side.{Side}
+use Rattle.wt_promise.proofs.Accepted.{or-true}
 use Rattle.wt_sessions.specs.Scan.{classify, places_after, scan, with_classified}
 use Rattle.wt_sessions.specs.StreamTable.{CallView, Classified, Consequence, StreamTable, TransportView, admit_or_stop, consequence, control_start, decoder_start, dispatched_streams, encoder_start, first_at, only_once}
-use Rattle.wt_sessions_agree.proofs.Appends.{adds, any-append, or-false, or-none, cons-append, drops, filter-drops, filter-fewer, filter-ids, first-append, ids-more, not-same, one-if, classified-append, table-same, dequeued-append}
+use Rattle.wt_sessions_agree.proofs.Appends.{adds, any-append, cons-append, drops, filter-drops, filter-fewer, filter-ids, first-append, ids-more, not-same, one-if, classified-append, table-same, dequeued-append}
+use Rattle.wt_sessions_agree.proofs.Basics.{or-false, or-none}
 use Rattle.wt_sessions_agree.proofs.FoundLaws.{controls-agree, decoders-agree, encoders-agree}
 use Rattle.wt_sessions_agree.specs.Agrees.{IsTable, admitted_in, classified_in, closed_in}
 use Rattle.wt_wire.specs.declared.error.ErrorCode.TheVariants as h3
@@ -240,10 +242,6 @@ module _ (side : Side) (h : History) (t : TransportView) (calls : CallView) (v :
 
   itself : (m : ℕ) (found : List Finding) (w : Verdict) (b : Bool) (o : Option ErrorCode) → is_classified ((found ++ finds.Classified (4 * m + kind) w b ∷ []) ++ faults_of o) (4 * m + kind) ≡ true
   itself m found w b o = ripe-fault (found ++ finds.Classified (4 * m + kind) w b ∷ []) o (4 * m + kind) ∙ classified-append found (finds.Classified (4 * m + kind) w b) (4 * m + kind) ∙ rw (eq-eqb (4 * m + kind) (4 * m + kind) refl) (or-true (is_classified found (4 * m + kind)))
-    where
-      or-true : (b : Bool) → (b || true) ≡ true
-      or-true true = refl
-      or-true false = refl
 
   apart : (m i : ℕ) → ((m ≡ i) → (true ≡ false)) → (4 * m + kind == 4 * i + kind) ≡ false
   apart m i n = not-same _ _ (λ q b. n (omega (arith, q)))
@@ -350,10 +348,6 @@ module _ (side : Side) (h : History) (t : TransportView) (calls : CallView) (v :
       by false e true el =
           let z : (p : ℕ) × (n ≡ suc p) × (p ≡ 4 - (unsettled found m + 1)) = places (unsettled found m) el n q in
           decided count m n z.0 found later table g again e (g.taken ∙ rw el (or-true (is_dequeued found (4 * m + kind)))) z.1 q (z.2 ∙ ap (λ (x : ℕ). 4 - x) (sym (more false e)))
-        where
-          or-true : (b : Bool) → (b || true) ≡ true
-          or-true true = refl
-          or-true false = refl
 
   -- looks at a kind's streams lead to the same as its scan
   scan-from : (count m n : ℕ) (found : List Finding) (table : StreamTable) → n ≡ 4 - unsettled found m → Few found → Keeps found table

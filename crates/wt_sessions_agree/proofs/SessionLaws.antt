@@ -11,7 +11,8 @@ use Rattle.wt_seam_spec.specs.Reports.{end_of}
 use Rattle.wt_sessions.specs.Scan.{check_each, check_living, check_session, session_walked, unless_ended}
 use Rattle.wt_sessions.specs.StreamTable.{CallView, Closed, Session, StreamTable, TransportView}
 use Rattle.wt_sessions.specs.StreamTable as tables
-use Rattle.wt_sessions_agree.proofs.Appends.{adds, any-append, drops, filter-drops, first-append, or-false, or-none}
+use Rattle.wt_sessions_agree.proofs.Appends.{adds, any-append, drops, filter-drops, first-append}
+use Rattle.wt_sessions_agree.proofs.Basics.{or-false, or-none}
 use Rattle.wt_sessions_agree.proofs.ScanLaws.{fault-fields, check-step, checks-faulty}
 use Rattle.wt_sessions_agree.proofs.WindowLaws.{gone-agrees}
 use Rattle.wt_sessions_agree.specs.Orderly.{Begin, session_at}
@@ -124,8 +125,3 @@ module _ (side : Side) (h : History) (t : TransportView) (calls : CallView) (off
       by None f true q again =
           let m : filter_map (session_at h offset) (k ∷ ids) ≡ record { id = k; offset = offset k } ∷ filter_map (session_at h offset) ids = rw q refl in
           rw m (established k ids found table q f again b holds (is_gone h found k) refl)
-
--- they lead to the table that holds what was found
-pub walks-agree : (side : Side) (h : History) (t : TransportView) (calls : CallView) (offset : ℕ → ℕ) → ViewsAgree side h t → CallsAgree h calls → (ids : List ℕ) (found : List Finding) (table : StreamTable) → Begin h offset found
-    → IsTable found table → IsTable (after_checks side h (map WalkSession ids) found) (check_each t calls (filter_map (session_at h offset) ids) table)
-walks-agree side h t calls offset g c = walks-keep side h t calls offset g c IsTable (table-walked h t calls)

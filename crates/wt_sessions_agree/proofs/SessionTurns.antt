@@ -16,6 +16,7 @@ use Rattle.wt_promise.specs.Promise.{IsHistory}
 use Rattle.wt_sessions.specs.Driver.{call_view, sessions_after, sessions_of, with_session}
 use Rattle.wt_sessions.specs.Driver as drivers
 use Rattle.wt_sessions.specs.StreamTable.{Session, is_session, was_established}
+use Rattle.wt_sessions_agree.proofs.Basics.{or-turned}
 use Rattle.wt_sessions_agree.proofs.RecordLaws.{established-by}
 use Rattle.wt_sessions_agree.proofs.ThereLaws.{IsFirstKind, established-there, none-behind}
 use Rattle.wt_sessions_agree.proofs.TurnKeeps.{more-ids}
@@ -41,11 +42,6 @@ none-more r before e = refl
 pub session-reply : (r : Reply) (id : ℕ) → session_in r ≡ Some id → r ≡ replies.Session id
 session-reply (replies.Session n) id e = ap (λ (k : ℕ). replies.Session k) (cc e)
 session-reply r id e = absurd (cc e)
-
-or-turned : (a b c : Bool) → (a || (b || c)) ≡ (b || (a || c))
-or-turned true true c = refl
-or-turned true false c = refl
-or-turned false b c = refl
 
 any-with : (s : ℕ) (y : Session) (xs : List Session) → list_any (is_session s) (with_session y xs) ≡ (is_session s y || list_any (is_session s) xs)
 any-with s y [] = refl

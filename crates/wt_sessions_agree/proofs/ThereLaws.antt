@@ -15,8 +15,9 @@ use Rattle.wt_promise.specs.Promise.{IsHistory}
 use Rattle.wt_proto.specs.declared.verdict.Verdict.{Verdict}
 use Rattle.wt_seam_spec.specs.Reports.{datagrams_of}
 use Rattle.wt_seam_spec.specs.Streams.{one_more_if, peer_bi, peer_count, peer_opens, peer_uni}
+use Rattle.wt_promise.proofs.Accepted.{and-left, and-right}
 use Rattle.wt_sessions_agree.proofs.Few.{dequeues-none, is-other, none-dequeued, plain-other}
-use Rattle.wt_sessions_agree.proofs.Appends.{and-left, and-right}
+use Rattle.wt_sessions_agree.proofs.StreamKinds.{bi-small, uni-small}
 use Rattle.wt_sessions_agree.proofs.PartLaws.{ByRequest, ByResponse, Parted, parted}
 use Rattle.wt_turn.specs.Log.{Event}
 use Rattle.wt_turn.specs.Turns.{event_of}
@@ -73,14 +74,6 @@ module _ (side : Side) (h : History) where
   all-append : (xs ys : List Check) → list_all (asks-there side h) xs ≡ true → list_all (asks-there side h) ys ≡ true → list_all (asks-there side h) (xs ++ ys) ≡ true
   all-append xs ys a b = list_all-append (asks-there side h) xs ys ∙ rw (a, b) refl
 
-  small-uni : (s : Side) → peer_uni s < 4
-  small-uni Client = omega arith
-  small-uni Server = omega arith
-
-  small-bi : (s : Side) → peer_bi s < 4
-  small-bi Client = omega arith
-  small-bi Server = omega arith
-
   within : (kind : ℕ) → 0 + peer_count side (events h) kind ≤ stream_count side h kind
   within kind = let m = peers-most side h kind in omega (arith, m)
 
@@ -89,7 +82,7 @@ module _ (side : Side) (h : History) where
       all-append (((unis ++ bis) ++ pieces) ++ sessions) _
       (all-append ((unis ++ bis) ++ pieces) sessions
       (all-append (unis ++ bis) pieces
-      (all-append unis bis (ids-there (peer_uni side) 0 (peer_count side (events h) (peer_uni side)) (small-uni side) (within (peer_uni side))) (ids-there (peer_bi side) 0 (peer_count side (events h) (peer_bi side)) (small-bi side) (within (peer_bi side))))
+      (all-append unis bis (ids-there (peer_uni side) 0 (peer_count side (events h) (peer_uni side)) (uni-small side) (within (peer_uni side))) (ids-there (peer_bi side) 0 (peer_count side (events h) (peer_bi side)) (bi-small side) (within (peer_bi side))))
       (pieces-there 0 (datagrams_of (events h)))) (sessions-there (ids_from 0 0 (stream_count side h 0)))) refl
     where
       unis : List Check

@@ -1,4 +1,4 @@
--- What came agrees: after each turn of the transport the history and the log have the same events, contents and end.
+-- What came agrees: after each turn of the transport the history and the log have the same events, contents and end; a call brings nothing.
 use Rattle.std.specs.Prelude.{[], ◌&&◌, ◌++◌, ◌==◌, ◌∷◌, ◌≡◌, Bool, List, Some, false, if◌then◌else◌, length, nat_le, nat_lt, not, true, ℕ}
 use Rattle.std.proofs.Common.{◌∙◌, ap, arith, refl, sym}
 use Rattle.wt_meaning.specs.ControlBytes.{local_control_bytes}
@@ -21,6 +21,7 @@ use Rattle.wt_turn.specs.declared.turn.Turn.TheVariants as turns
 use Rattle.wt_meaning.specs.History.{History, all_events, contents, events, is_open, with_bytes, with_event}
 use Rattle.wt_meaning.specs.Meaning.{with_pair}
 use Rattle.wt_meaning.specs.Moments.{is_ready}
+use Rattle.wt_turn.specs.declared.call.Call.{Call}
 
 -- ---- actions change nothing of what came
 
@@ -116,19 +117,23 @@ turn_agrees side h log (turns.Bytes id (b ∷ [])) a s g o = byte-agrees side h 
 turn_agrees side h log (turns.Bytes id (b ∷ c ∷ later)) a s g o = absurd (cc)
 turn_agrees side h log (turns.Bytes id []) a s g o = absurd (cc)
 turn_agrees side h log (turns.Call call) a s g o = absurd (cc)
-turn_agrees side h log turns.PeerUni a s g o = event-agrees side h log turns.PeerUni a _ g refl (λ k before. refl) o
-turn_agrees side h log turns.PeerBi a s g o = event-agrees side h log turns.PeerBi a _ g refl (λ k before. refl) o
-turn_agrees side h log (turns.Connected u b c f) a s g o = event-agrees side h log (turns.Connected u b c f) a _ g refl (λ k before. refl) o
-turn_agrees side h log (turns.End id) a s g o = event-agrees side h log (turns.End id) a _ g refl (λ k before. refl) o
-turn_agrees side h log (turns.Reset id code) a s g o = event-agrees side h log (turns.Reset id code) a _ g refl (λ k before. refl) o
-turn_agrees side h log (turns.Stop id code) a s g o = event-agrees side h log (turns.Stop id code) a _ g refl (λ k before. refl) o
-turn_agrees side h log (turns.Acked id) a s g o = event-agrees side h log (turns.Acked id) a _ g refl (λ k before. refl) o
-turn_agrees side h log (turns.Datagram piece) a s g o = event-agrees side h log (turns.Datagram piece) a _ g refl (λ k before. refl) o
-turn_agrees side h log (turns.MaxUni total) a s g o = event-agrees side h log (turns.MaxUni total) a _ g refl (λ k before. refl) o
-turn_agrees side h log (turns.MaxBi total) a s g o = event-agrees side h log (turns.MaxBi total) a _ g refl (λ k before. refl) o
-turn_agrees side h log (turns.MaxData id total) a s g o = event-agrees side h log (turns.MaxData id total) a _ g refl (λ k before. refl) o
-turn_agrees side h log (turns.DatagramLimit fact) a s g o = event-agrees side h log (turns.DatagramLimit fact) a _ g refl (λ k before. refl) o
-turn_agrees side h log (turns.Loss reason) a s g o = event-agrees side h log (turns.Loss reason) a _ g refl (λ k before. refl) o
+turn_agrees side h log turn a s g o = event-agrees side h log turn a _ g refl (λ k before. refl) o
+
+-- ---- a call
+
+pub called-events : (h : History) (c : Call) (a : Answer) → events (with_pair h (turns.Call c) a) ≡ events h
+called-events h c a = by (is_open h)
+  where
+    by : (b : Bool) → (if b then events h else events h) ≡ events h
+    by true = refl
+    by false = refl
+
+pub called-contents : (h : History) (c : Call) (a : Answer) (k : ℕ) → contents (with_pair h (turns.Call c) a) k ≡ contents h k
+called-contents h c a k = by (is_open h)
+  where
+    by : (b : Bool) → (if b then contents h k else contents h k) ≡ contents h k
+    by true = refl
+    by false = refl
 
 -- ---- this end is ready in both or in none
 
@@ -141,6 +146,3 @@ le-lt n c e = grind (arith, e)
 
 pub ready-by-events : (side : Side) (h : History) (log : Log) → events h ≡ events_of log → is_ready side h ≡ settings_ready side log
 ready-by-events side h log e = rw (e, le-lt (length local_control_bytes) (credit (events_of log) (local_uni side)) settings-length) refl
-
-pub ready_agrees : (side : Side) (h : History) (log : Log) → Agrees h log → is_ready side h ≡ settings_ready side log
-ready_agrees side h log g = ready-by-events side h log g.events

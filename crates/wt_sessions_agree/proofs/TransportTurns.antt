@@ -6,7 +6,7 @@ use Rattle.wt_meaning.specs.Findings.{Finding, fault_of, is_classified}
 use Rattle.wt_meaning.specs.History.{History, Pair, actions_out, all_events, contents, ends_by, events, is_given_up, is_open, is_reset, loses, with_bytes, with_event}
 use Rattle.wt_meaning.specs.Lawful.{is_lawful}
 use Rattle.wt_meaning.specs.Meaning.{own_answer, step, with_pair}
-use Rattle.wt_meaning.specs.Moments.{findings}
+use Rattle.wt_meaning.specs.Moments.{after_checks, checks, findings}
 use Rattle.wt_meaning.specs.Rows.{answer}
 use Rattle.wt_meaning.specs.Sends.{moment_actions}
 use Rattle.wt_meaning.specs.Windows.{is_gone}
@@ -19,24 +19,24 @@ use Rattle.wt_seam_spec.specs.Streams as streams
 use Rattle.wt_sessions.specs.Answers.{log_after}
 use Rattle.wt_sessions.specs.Driver.{call_view, gives_up, is_moment, log_and_flush, pending_actions, stream_table, transport_view}
 use Rattle.wt_sessions.specs.StreamTable.{CallView, StreamTable}
-use Rattle.wt_sessions_agree.proofs.ByteTurns.{byte-late, byte-now, loss-late, loss-now}
-use Rattle.wt_sessions_agree.proofs.EventTurns.{event-agrees, sent-entry}
-use Rattle.wt_sessions_agree.proofs.MembersBefore.{good-before, halves-seen, members-moment}
-use Rattle.wt_sessions_agree.proofs.MembersKept.{Good, good-alike, good-fresh, good-kept}
+use Rattle.wt_sessions_agree.proofs.EntryTurns.{at-moment, closed-more, finds-nothing, leaves-nothing, none-now, open-after, open-byte}
+use Rattle.wt_sessions_agree.proofs.HalvesAlike.{halves-seen}
+use Rattle.wt_sessions_agree.proofs.MembersBefore.{good-before, members-moment}
+use Rattle.wt_sessions_agree.proofs.MembersKept.{Good}
 use Rattle.wt_sessions_agree.proofs.MembersTurns.{members-plain}
 use Rattle.wt_sessions_agree.proofs.OrderTurns.{order-plain}
 use Rattle.wt_sessions_agree.proofs.PendingLaws.{sends-alike}
 use Rattle.wt_sessions_agree.proofs.RestTurns.{idle-loss}
 use Rattle.wt_sessions_agree.proofs.TransportLaws.{is_single}
 use Rattle.wt_sessions_agree.proofs.TurnAnswers.{done-next, sends-now}
-use Rattle.wt_sessions_agree.proofs.TurnFinds.{found-same, sees-alike}
-use Rattle.wt_sessions_agree.proofs.TurnKeeps.{calls-after, count-after, halves-after, out-after, sessions-after, single-plain, turn-calls}
+use Rattle.wt_sessions_agree.proofs.TurnFinds.{found-same, found-then, sees-alike}
+use Rattle.wt_sessions_agree.proofs.TurnKeeps.{calls-after, count-after, entry-actions, entry-calls, halves-after, out-after, sessions-after, single-plain, turn-calls}
 use Rattle.wt_sessions_agree.specs.Agreement.{TurnAgrees}
 use Rattle.wt_sessions_agree.specs.Agrees.{IsTable}
 use Rattle.wt_sessions_agree.specs.Members.{HalvesSeen, MembersIn}
 use Rattle.wt_sessions_agree.specs.Orderly.{Orderly}
 use Rattle.wt_sessions_agree.specs.Stands.{CallsAgree, HalvesAgree, SameOut, SeesAlike, Stands}
-use Rattle.wt_turn.specs.Log.{Entry, Event, Log, Loss, Received, Reported, ReportedLate, actions_of, all_events_of, calls_of, events_of}
+use Rattle.wt_turn.specs.Log.{Entry, Event, Log, Loss, Received, Reported, ReportedLate, actions_of, all_events_of, calls_of, events_of, with_actions}
 use Rattle.wt_turn.specs.Log as logs
 use Rattle.wt_turn.specs.Turns.{event_of, is_call}
 use Rattle.wt_turn.specs.declared.action.Action.{Action}
@@ -82,9 +82,8 @@ module _ (side : Side) (offset : ℕ → ℕ) (h : History) (log : Log) (x : Sta
     alike : SeesAlike side (bare ∷ h) (transport_view side (e ∷ log)) (call_view (e ∷ log)) offset
     alike = sees-alike side offset (bare ∷ h) (e ∷ log) at bytes calls (sessions-after side offset h log x turn plain [] (e ∷ log) called (count-after side offset h log x turn plain []))
 
-    pub entry-sends : is_open h ≡ true → is_open (bare ∷ h) ≡ true → (is_moment e && logs.is_open (e ∷ log)) ≡ true → pending_actions side (e ∷ log) ≡ moment_actions side (bare ∷ h)
-    entry-sends o opened moment =
-        sends-alike side offset bare h hist log e opened moment at out alike seen orderly good x.table
+    pub entry-sends : is_open (bare ∷ h) ≡ true → (is_moment e && logs.is_open (e ∷ log)) ≡ true → pending_actions side (e ∷ log) ≡ moment_actions side (bare ∷ h)
+    entry-sends opened moment = sends-alike side offset bare h hist log e opened moment at out alike seen orderly good x.table
 
 -- ---- what a turn keeps of the streams of sessions
 
@@ -104,17 +103,18 @@ module _ (side : Side) (offset : ℕ → ℕ) (h : History) (log : Log) (x : Sta
   -- ---- an event
 
   module _ (e : Event) (told : event_of turn ≡ Some e) (no-bytes : (k : ℕ) (before : List ℕ) → with_bytes k turn before ≡ before) (own-is : own_answer side h turn ≡ answer replies.Done [])
-      (after-is : log_after side log turn ≡ log_and_flush side log (event_entry (logs.is_open log) e)) where
+      (after-is : log_after side log turn ≡ log_and_flush side log (event_entry (logs.is_open log) e)) (same-end : loses turn ≡ logs.loses e) where
     abbrev entry : Entry
     entry = event_entry (logs.is_open log) e
 
-    entry-calls : (b : Bool) → calls_of (event_entry b e ∷ log) ≡ calls_of log
-    entry-calls true = refl
-    entry-calls false = refl
+    called : calls_of (entry ∷ log) ≡ calls_of log
+    called = entry-calls (logs.is_open log) e log
 
-    entry-actions : (b : Bool) → actions_of (event_entry b e ∷ log) ≡ actions_of log
-    entry-actions true = refl
-    entry-actions false = refl
+    acted : actions_of (entry ∷ log) ≡ actions_of log
+    acted = entry-actions (logs.is_open log) e log
+
+    ends : is_open (pair ∷ h) ≡ logs.is_open (with_actions (sends-now side h turn) (entry ∷ log))
+    ends = open-after h log turn e (sends-now side h turn) same-end x.came.openness
 
     abbrev first : Pair
     first = record { turn = turn; answer = answer replies.Done [] }
@@ -144,35 +144,38 @@ module _ (side : Side) (offset : ℕ → ℕ) (h : History) (log : Log) (x : Sta
         by false true = x.came.contents k
         by false false = x.came.contents k
 
-    module _ (stays : logs.loses e ≡ false) (none : loses turn ≡ false) where
-      open-here : is_open h ≡ true → is_open (first ∷ h) ≡ true
-      open-here o = ap (λ (b : Bool). not ((b || false) || list_any ends_by h)) none ∙ o
+    -- where the connection has ended nothing is found or sent
+    silent : is_open (first ∷ h) ≡ false → (is_moment entry && logs.is_open (entry ∷ log)) ≡ false → findings side (pair ∷ h) ≡ findings side h → TurnAgrees side h log turn
+    silent shut m found =
+        finds-nothing side offset h log x hist turn single lawful entry after-is called acted
+        (ap (λ (b : Bool). if b then pending_actions side (entry ∷ log) else []) m ∙ sym (none-now side h turn shut)) ends (ordered (entry ∷ log) called) members-after found m
 
-      moment-here : logs.is_open log ≡ true → (is_moment entry && logs.is_open (entry ∷ log)) ≡ true
-      moment-here o =
-          ap (λ (b : Bool). is_moment (event_entry b e) && logs.is_open (event_entry b e ∷ log)) o
-          ∙ ap (λ (b : Bool). not (b || list_any logs.ends_by log)) stays ∙ o
+    pub event-late : is_open h ≡ false → TurnAgrees side h log turn
+    event-late o =
+        silent (closed-more h first o) (ap (λ (b : Bool). is_moment (event_entry b e) && logs.is_open (event_entry b e ∷ log)) (sym x.came.openness ∙ o)) (found-same side pair h o)
 
-      entry-alike : sent-entry side log entry ≡ sends-now side h turn
-      entry-alike = by (is_open h) refl
-        where
-          by : (b : Bool) → is_open h ≡ b → sent-entry side log entry ≡ sends-now side h turn
-          by true o =
-              let m : (is_moment entry && logs.is_open (entry ∷ log)) ≡ true = moment-here (sym x.came.openness ∙ o) in
-              ap (λ (b : Bool). if b then pending_actions side (entry ∷ log) else []) m
-              ∙ entry-sends side offset h log x hist members turn (single-plain turn single) lawful own-is entry (entry-calls (logs.is_open log)) (entry-actions (logs.is_open log)) at all bytes o (open-here o) m
-          by false o =
-              let p : logs.is_open log ≡ false = sym x.came.openness ∙ o in
-              let m : (is_moment entry && logs.is_open (entry ∷ log)) ≡ false = ap (λ (b : Bool). is_moment (event_entry b e) && logs.is_open (event_entry b e ∷ log)) p in
-              let s : is_open (first ∷ h) ≡ false = ap (λ (b : Bool). not ((b || false) || list_any ends_by h)) none ∙ o in
-              ap (λ (b : Bool). if b then pending_actions side (entry ∷ log) else []) m ∙ sym (shut s)
-            where
-              shut : is_open (first ∷ h) ≡ false → sends-now side h turn ≡ []
-              shut s = rw s refl
+    -- whether the entry is a moment while the connection was open
+    moment-here : is_open h ≡ true → (b : Bool) → loses turn ≡ b → (is_moment entry && logs.is_open (entry ∷ log)) ≡ not (b || list_any logs.ends_by log)
+    moment-here o b l =
+        ap (λ (c : Bool). is_moment (event_entry c e) && logs.is_open (event_entry c e ∷ log)) (sym x.came.openness ∙ o) ∙ ap (λ (c : Bool). not (c || list_any logs.ends_by log)) (sym same-end ∙ l)
 
-      pub event-turn : TurnAgrees side h log turn
-      event-turn = event-agrees side offset h log x turn e single hist lawful told stays none after-is entry-alike (ordered (entry ∷ log) (entry-calls (logs.is_open log)))
-          (λ o. subst (Orderly side (pair ∷ h) (call_view (entry ∷ log)) offset) (sym (found-same side pair h o)) (ordered (entry ∷ log) (entry-calls (logs.is_open log)))) members-after
+    -- a loss, where its moment finds nothing
+    pub event-loses : loses turn ≡ true → is_open h ≡ true → after_checks side (pair ∷ h) (checks side (pair ∷ h)) (findings side h) ≡ findings side h → TurnAgrees side h log turn
+    event-loses l o idle = silent (ap (λ (b : Bool). not ((b || false) || list_any ends_by h)) l) (moment-here o true l) (found-then side pair h refl o ∙ idle)
+
+    -- any other event
+    pub event-turn : loses turn ≡ false → TurnAgrees side h log turn
+    event-turn l = by (is_open h) refl
+      where
+        by : (b : Bool) → is_open h ≡ b → TurnAgrees side h log turn
+        by false o = event-late o
+        by true o =
+            let m : (is_moment entry && logs.is_open (entry ∷ log)) ≡ true = moment-here o false l ∙ sym x.came.openness ∙ o in
+            let opened : is_open (first ∷ h) ≡ true = ap (λ (b : Bool). not ((b || false) || list_any ends_by h)) l ∙ o in
+            at-moment side offset h log x hist turn single lawful entry after-is called acted
+            (ap (λ (b : Bool). if b then pending_actions side (entry ∷ log) else []) m
+            ∙ entry-sends side offset h log x hist members turn (single-plain turn single) lawful own-is entry called acted at all bytes opened m)
+            ends (ordered (entry ∷ log) called) members-after o m
 
 -- ---- every turn
 
@@ -180,20 +183,29 @@ module _ (side : Side) (offset : ℕ → ℕ) (h : History) (log : Log) (x : Sta
   byte-turn : (id b : ℕ) → is_lawful side h (turns.Bytes id (b ∷ [])) ≡ true → TurnAgrees side h log (turns.Bytes id (b ∷ []))
   byte-turn id b lawful = by (is_open h) refl
     where
-      turn : Turn
-      turn = turns.Bytes id (b ∷ [])
-
       kept : MembersIn side (step side h (turns.Bytes id (b ∷ []))) (call_view (log_after side log (turns.Bytes id (b ∷ [])))) (findings side (step side h (turns.Bytes id (b ∷ []))))
       kept = members-after side offset h log x hist members (turns.Bytes id (b ∷ [])) refl lawful
 
+      pair : Pair
+      pair = record { turn = turns.Bytes id (b ∷ []); answer = answer replies.Done (join_all [] (sends-now side h (turns.Bytes id (b ∷ [])))) }
+
+      after-by : (o : Bool) → logs.is_open log ≡ o → log_after side log (turns.Bytes id (b ∷ [])) ≡ (if o then log_and_flush side log (Received id b) else log)
+      after-by o p = ap (λ (c : Bool). if c then log_and_flush side log (Received id b) else log) p
+
+      -- after the end it counts for nothing
       by : (o : Bool) → is_open h ≡ o → TurnAgrees side h log (turns.Bytes id (b ∷ []))
-      by false o = byte-late side offset h log x hist id b lawful o (sym x.came.openness ∙ o) (ordered side offset h log x hist members (turns.Bytes id (b ∷ [])) refl lawful log refl) kept
+      by false o =
+          let p : logs.is_open log ≡ false = sym x.came.openness ∙ o in
+          leaves-nothing side offset h log x hist (turns.Bytes id (b ∷ [])) refl lawful (after-by false p)
+          (none-now side h (turns.Bytes id (b ∷ [])) (closed-more h (record { turn = turns.Bytes id (b ∷ []); answer = answer replies.Done [] }) o)) (found-same side pair h o) (closed-more h pair o ∙ sym p)
+          (ordered side offset h log x hist members (turns.Bytes id (b ∷ [])) refl lawful log refl) kept
       by true o =
           let p : logs.is_open log ≡ true = sym x.came.openness ∙ o in
-          byte-now side offset h log x hist id b lawful o p
+          at-moment side offset h log x hist (turns.Bytes id (b ∷ [])) refl lawful (Received id b) (after-by true p) refl refl
           (ap (λ (c : Bool). if c then pending_actions side (Received id b ∷ log) else []) p
-          ∙ entry-sends side offset h log x hist members (turns.Bytes id (b ∷ [])) refl lawful refl (Received id b) refl refl (at o) x.came.all_events bytes o o p)
-          (ordered side offset h log x hist members (turns.Bytes id (b ∷ [])) refl lawful (Received id b ∷ log) refl) kept
+          ∙ entry-sends side offset h log x hist members (turns.Bytes id (b ∷ [])) refl lawful refl (Received id b) refl refl (at o) x.came.all_events bytes o p)
+          (open-byte h log id b (sends-now side h (turns.Bytes id (b ∷ []))) x.came.openness)
+          (ordered side offset h log x hist members (turns.Bytes id (b ∷ [])) refl lawful (Received id b ∷ log) refl) kept o p
         where
           at : is_open h ≡ true → (if is_open h then events h else events h) ≡ events_of log
           at q = ap (λ (c : Bool). if c then events h else events h) q ∙ x.came.events
@@ -209,14 +221,10 @@ module _ (side : Side) (offset : ℕ → ℕ) (h : History) (log : Log) (x : Sta
   loss-turn reason lawful = by (is_open h) refl
     where
       by : (o : Bool) → is_open h ≡ o → TurnAgrees side h log (turns.Loss reason)
-      by false o =
-          loss-late side offset h log x hist reason lawful o (sym x.came.openness ∙ o) (ordered side offset h log x hist members (turns.Loss reason) refl lawful log refl)
-          (members-after side offset h log x hist members (turns.Loss reason) refl lawful)
+      by false o = event-late side offset h log x hist members (turns.Loss reason) refl lawful (Loss reason) refl (λ k before. refl) refl refl refl o
       by true o =
-          loss-now side offset h log x hist reason lawful o (sym x.came.openness ∙ o)
+          event-loses side offset h log x hist members (turns.Loss reason) refl lawful (Loss reason) refl (λ k before. refl) refl refl refl refl o
           (idle-loss side h (record { turn = turns.Loss reason; answer = answer replies.Done (join_all [] (sends-now side h (turns.Loss reason))) }) hist o refl reason refl)
-          (ordered side offset h log x hist members (turns.Loss reason) refl lawful (Reported (Loss reason) ∷ log) refl)
-          (members-after side offset h log x hist members (turns.Loss reason) refl lawful)
 
   pub transport-turn : (turn : Turn) → is_single turn ≡ true → is_lawful side h turn ≡ true → TurnAgrees side h log turn
   transport-turn (turns.Bytes id (b ∷ [])) s l = byte-turn id b l
@@ -224,15 +232,4 @@ module _ (side : Side) (offset : ℕ → ℕ) (h : History) (log : Log) (x : Sta
   transport-turn (turns.Bytes id []) s l = absurd (cc s)
   transport-turn (turns.Call call) s l = absurd (cc s)
   transport-turn (turns.Loss reason) s l = loss-turn reason l
-  transport-turn turns.PeerUni s l = event-turn side offset h log x hist members turns.PeerUni refl l _ refl (λ k before. refl) refl refl refl refl
-  transport-turn turns.PeerBi s l = event-turn side offset h log x hist members turns.PeerBi refl l _ refl (λ k before. refl) refl refl refl refl
-  transport-turn (turns.Connected u b c f) s l = event-turn side offset h log x hist members (turns.Connected u b c f) refl l _ refl (λ k before. refl) refl refl refl refl
-  transport-turn (turns.End id) s l = event-turn side offset h log x hist members (turns.End id) refl l _ refl (λ k before. refl) refl refl refl refl
-  transport-turn (turns.Reset id code) s l = event-turn side offset h log x hist members (turns.Reset id code) refl l _ refl (λ k before. refl) refl refl refl refl
-  transport-turn (turns.Stop id code) s l = event-turn side offset h log x hist members (turns.Stop id code) refl l _ refl (λ k before. refl) refl refl refl refl
-  transport-turn (turns.Acked id) s l = event-turn side offset h log x hist members (turns.Acked id) refl l _ refl (λ k before. refl) refl refl refl refl
-  transport-turn (turns.Datagram piece) s l = event-turn side offset h log x hist members (turns.Datagram piece) refl l _ refl (λ k before. refl) refl refl refl refl
-  transport-turn (turns.MaxUni total) s l = event-turn side offset h log x hist members (turns.MaxUni total) refl l _ refl (λ k before. refl) refl refl refl refl
-  transport-turn (turns.MaxBi total) s l = event-turn side offset h log x hist members (turns.MaxBi total) refl l _ refl (λ k before. refl) refl refl refl refl
-  transport-turn (turns.MaxData id total) s l = event-turn side offset h log x hist members (turns.MaxData id total) refl l _ refl (λ k before. refl) refl refl refl refl
-  transport-turn (turns.DatagramLimit fact) s l = event-turn side offset h log x hist members (turns.DatagramLimit fact) refl l _ refl (λ k before. refl) refl refl refl refl
+  transport-turn turn s l = event-turn side offset h log x hist members turn refl l _ refl (λ k before. refl) refl refl refl refl

@@ -39,11 +39,16 @@ flushed-table side log e = by (is_moment e && logs.is_open (e ∷ log))
     by true = acted-table side (pending_actions side (e ∷ log)) (e ∷ log)
     by false = refl
 
--- the table after a moment that finds the connection open, and after any other entry
+-- the table at a moment that finds the connection open
+pub entry-table : (side : Side) (log : Log) (e : Entry) → (is_moment e && logs.is_open (e ∷ log)) ≡ true
+    → stream_table side (e ∷ log) ≡ scan_order (transport_view side (e ∷ log)) (call_view (e ∷ log)) (stream_table side log)
+unfolding stream_table
+entry-table side log e m = ap (λ (b : Bool). apply_if b (scan_order (transport_view side (e ∷ log)) (call_view (e ∷ log))) (stream_table side log)) m
+
+-- so after such a moment, and after any other entry
 pub table-then : (side : Side) (log : Log) (e : Entry) → (is_moment e && logs.is_open (e ∷ log)) ≡ true
     → stream_table side (log_and_flush side log e) ≡ scan_order (transport_view side (e ∷ log)) (call_view (e ∷ log)) (stream_table side log)
-unfolding stream_table
-table-then side log e m = flushed-table side log e ∙ ap (λ (b : Bool). apply_if b (scan_order (transport_view side (e ∷ log)) (call_view (e ∷ log))) (stream_table side log)) m
+table-then side log e m = flushed-table side log e ∙ entry-table side log e m
 
 pub table-same : (side : Side) (log : Log) (e : Entry) → (is_moment e && logs.is_open (e ∷ log)) ≡ false → stream_table side (log_and_flush side log e) ≡ stream_table side log
 unfolding stream_table

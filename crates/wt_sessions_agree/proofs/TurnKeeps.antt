@@ -20,16 +20,18 @@ use Rattle.wt_seam_spec.specs.Reports.{acknowledges, is_acknowledged}
 use Rattle.wt_seam_spec.specs.Sent as sends
 use Rattle.wt_seam_spec.specs.Arrivals.{event_entry}
 use Rattle.wt_seam_spec.specs.Streams.{one_more_if, peer_count, peer_opens}
-use Rattle.wt_promise.proofs.Actions.{opened-out}
+use Rattle.wt_promise.proofs.Actions.{opened-out, or-assoc}
 use Rattle.wt_promise.proofs.Stays.{exists-stays}
+use Rattle.wt_promise.proofs.Accepted.{or-true}
 use Rattle.wt_sessions.specs.Answers.{log_after}
 use Rattle.wt_sessions.specs.Driver as drivers
 use Rattle.wt_sessions.specs.Halves as halves
 use Rattle.wt_sessions.specs.Handshake.{awaits_answer, awaits_request, handshake_state, is_continuable, requested_stream}
 use Rattle.wt_sessions.specs.Answers as answers
 use Rattle.wt_sessions.specs.Connection.{opening_session}
-use Rattle.wt_sessions.specs.Driver.{accepts_stream, apply_if, call_view, delivers, ends_session, flush, gives_up, is_moment, log_and_flush, pending_actions, sessions_of, stream_table}
-use Rattle.wt_sessions.specs.StreamTable.{is_session}
+use Rattle.wt_sessions.specs.Driver.{accepts_stream, apply_if, call_view, delivers, ends_session, flush, gives_up, is_moment, log_and_flush, members_of, pending_actions, receives, sessions_of, stream_table}
+use Rattle.wt_sessions.specs.StreamTable.{CallView, is_session}
+use Rattle.wt_sessions_agree.proofs.Basics.{or-none, or-turned}
 use Rattle.wt_sessions_agree.proofs.OutLaws.{any-newest, same-out}
 use Rattle.wt_sessions_agree.proofs.TransportLaws.{flushed, is_single, turn_agrees}
 use Rattle.wt_sessions_agree.specs.Agrees.{Agrees, IsTable}
@@ -99,15 +101,6 @@ abbrev pub unsent-reset : ℕ → CallRecord → Bool
 unsent-reset k (ResetUnsent id code) = id == k
 unsent-reset k _ = false
 
-or-turned : (a b c : Bool) → (a || (b || c)) ≡ (b || (a || c))
-or-turned true true c = refl
-or-turned true false c = refl
-or-turned false b c = refl
-
-or-in : (a b c : Bool) → (a || (b || c)) ≡ ((a || b) || c)
-or-in true b c = refl
-or-in false b c = refl
-
 sent-resets : (k : ℕ) (a : Action) → sends.resets k (Sent a) ≡ is_reset_of k a
 sent-resets k (actions.ResetOut id code) = refl
 sent-resets k (actions.Dial address name) = refl
@@ -126,7 +119,7 @@ pub resets-apart : (k : ℕ) (log : Log) → sends.is_reset log k ≡ (list_any 
 resets-apart k [] = refl
 resets-apart k (Sent a ∷ log) =
     ap (λ (b : Bool). b || sends.is_reset log k) (sent-resets k a) ∙ ap (λ (b : Bool). is_reset_of k a || b) (resets-apart k log)
-    ∙ or-in (is_reset_of k a) (list_any (is_reset_of k) (actions_of log)) (list_any (unsent-reset k) (calls_of log))
+    ∙ or-assoc (is_reset_of k a) (list_any (is_reset_of k) (actions_of log)) (list_any (unsent-reset k) (calls_of log))
 resets-apart k (Called r ∷ log) =
     ap (λ (b : Bool). b || sends.is_reset log k) (called-resets k r) ∙ ap (λ (b : Bool). unsent-reset k r || b) (resets-apart k log)
     ∙ or-turned (unsent-reset k r) (list_any (is_reset_of k) (actions_of log)) (list_any (unsent-reset k) (calls_of log))
@@ -171,20 +164,24 @@ more-ids h offset i (suc c) (suc n) le none =
 
 -- ---- the relation after the turn
 
+-- what calls did, by their records
+abbrev pub view-of : List CallRecord → CallView
+view-of rs = record {
+  accepted = λ k. list_any (accepts_stream k) rs;
+  received = λ n. list_any (receives n) rs;
+  delivered = λ k. list_any (delivers k) rs;
+  ended = λ s. list_any (ends_session s) rs;
+  sessions = sessions_of rs;
+  members = members_of rs;
+}
+
 module _ (side : Side) (offset : ℕ → ℕ) (h : History) (log : Log) (x : Stands side offset h log) (turn : Turn) (plain : is_call turn ≡ false) (xs : List Action) where
   -- the pair, and the history with it
   abbrev after : History
   after = with_pair h turn (answer replies.Done (join_all [] xs))
 
-  same-established : (s : ℕ) → is_established after s ≡ is_established h s
-  same-established s = refl
-
   same-named : (name : Option ℕ) → named after name ≡ named h name
-  same-named None = named-none (first_session h)
-    where
-      named-none : (o : Option ℕ) → option_or o None ≡ o
-      named-none None = refl
-      named-none (Some s) = refl
+  same-named None = or-none (first_session h)
   same-named (Some s) = refl
 
   -- no session is behind the streams
@@ -237,20 +234,12 @@ module _ (side : Side) (offset : ℕ → ℕ) (h : History) (log : Log) (x : Sta
           where
             more : (a b c z : Bool) → z ≡ (a || b) → (a || c) ≡ true → (z || (answers_reset k turn replies.Done || c)) ≡ true
             more true b c z q f = rw q refl
-            more false b true z q f = rw (no-reset k turn plain, q) (either b)
-              where
-                either : (b : Bool) → (b || true) ≡ true
-                either true = refl
-                either false = refl
+            more false b true z q f = rw (no-reset k turn plain, q) (or-true b)
             more false b false z q f = absurd (cc f)
 
         by : (r : Bool) → is_reset h k ≡ r → (f : Bool) → was_finished h k ≡ f → (a : Bool) → is_acknowledged (events h) k ≡ a → (r || (f && a)) ≡ false
         by true e f g a i = absurd (let q : is_done after k ≡ true = rw (reset-more e) refl in cc (sym q ∙ d))
-        by false e true g true i = absurd (let w : was_finished after k ≡ true = any-newest (sends.finishes k) (join_all [] xs) (actions_out h) ∙ rw g refl in let q : is_done after k ≡ true = rw (w, acked i) (either (is_reset after k)) in cc (sym q ∙ d))
-          where
-            either : (b : Bool) → (b || true) ≡ true
-            either true = refl
-            either false = refl
+        by false e true g true i = absurd (let w : was_finished after k ≡ true = any-newest (sends.finishes k) (join_all [] xs) (actions_out h) ∙ rw g refl in let q : is_done after k ≡ true = rw (w, acked i) (or-true (is_reset after k)) in cc (sym q ∙ d))
         by false e true g false i = refl
         by false e false g a i = refl
 
@@ -272,13 +261,9 @@ module _ (side : Side) (offset : ℕ → ℕ) (h : History) (log : Log) (x : Sta
     acked-after : (k : ℕ) → is_acknowledged (events h) k ≡ true → is_acknowledged (events after) k ≡ true
     acked-after k e = by (is_open h) (event_of turn)
       where
-        front : (b : Bool) → (b || true) ≡ true
-        front true = refl
-        front false = refl
-
         by : (o : Bool) (v : Option Event) → is_acknowledged (if o then with_event v (events h) else events h) k ≡ true
         by true None = e
-        by true (Some v) = ap (λ (b : Bool). acknowledges k v || b) e ∙ front (acknowledges k v)
+        by true (Some v) = ap (λ (b : Bool). acknowledges k v || b) e ∙ or-true (acknowledges k v)
         by false v = e
 
     -- ---- halves
@@ -328,7 +313,7 @@ module _ (side : Side) (offset : ℕ → ℕ) (h : History) (log : Log) (x : Sta
       table = table;
       calls = calls-after log2 called;
       sessions = sessions-after log2 called count-after;
-      named = or-no (first_session h) ∙ x.named ∙ ap drivers.first_session (sym called);
+      named = or-none (first_session h) ∙ x.named ∙ ap drivers.first_session (sym called);
       orderly = orderly;
       halves = halves-after;
       openings = opening-after;
@@ -338,10 +323,6 @@ module _ (side : Side) (offset : ℕ → ℕ) (h : History) (log : Log) (x : Sta
       handshake = handshake-after;
     }
       where
-        or-no : (o : Option ℕ) → option_or o None ≡ o
-        or-no None = refl
-        or-no (Some s) = refl
-
         missing-before : (k : ℕ) → exists side after k ≡ false → exists side h k ≡ false
         missing-before k e = by (exists side h k) refl
           where
@@ -367,9 +348,13 @@ flushed-first side e log = by (is_moment e && logs.is_open (e ∷ log))
     by true = acted-first (pending_actions side (e ∷ log)) e log
     by false = refl
 
-entry-calls : (b : Bool) (e : Event) (log : Log) → calls_of (event_entry b e ∷ log) ≡ calls_of log
+pub entry-calls : (b : Bool) (e : Event) (log : Log) → calls_of (event_entry b e ∷ log) ≡ calls_of log
 entry-calls true e log = refl
 entry-calls false e log = refl
+
+pub entry-actions : (b : Bool) (e : Event) (log : Log) → actions_of (event_entry b e ∷ log) ≡ actions_of log
+entry-actions true e log = refl
+entry-actions false e log = refl
 
 event-calls : (side : Side) (log : Log) (e : Event) → calls_of (log_and_flush side log (event_entry (logs.is_open log) e)) ≡ calls_of log
 event-calls side log e = flushed calls_of acted-calls side (event_entry (logs.is_open log) e) log ∙ entry-calls (logs.is_open log) e log
@@ -384,19 +369,7 @@ turn-calls side log (turns.Bytes id (b ∷ [])) s = by (logs.is_open log)
 turn-calls side log (turns.Bytes id (b ∷ c ∷ later)) s = absurd (cc s)
 turn-calls side log (turns.Bytes id []) s = absurd (cc s)
 turn-calls side log (turns.Call call) s = absurd (cc s)
-turn-calls side log turns.PeerUni s = event-calls side log _
-turn-calls side log turns.PeerBi s = event-calls side log _
-turn-calls side log (turns.Connected u b c f) s = event-calls side log _
-turn-calls side log (turns.End id) s = event-calls side log _
-turn-calls side log (turns.Reset id code) s = event-calls side log _
-turn-calls side log (turns.Stop id code) s = event-calls side log _
-turn-calls side log (turns.Acked id) s = event-calls side log _
-turn-calls side log (turns.Datagram piece) s = event-calls side log _
-turn-calls side log (turns.MaxUni total) s = event-calls side log _
-turn-calls side log (turns.MaxBi total) s = event-calls side log _
-turn-calls side log (turns.MaxData id total) s = event-calls side log _
-turn-calls side log (turns.DatagramLimit fact) s = event-calls side log _
-turn-calls side log (turns.Loss reason) s = event-calls side log _
+turn-calls side log turn s = event-calls side log _
 
 -- something happened
 turn-first : (side : Side) (log : Log) (turn : Turn) → is_single turn ≡ true → answers.is_first (log_after side log turn) ≡ false
@@ -409,19 +382,7 @@ turn-first side log (turns.Bytes id (b ∷ [])) s = by log (logs.is_open log) re
 turn-first side log (turns.Bytes id (b ∷ c ∷ later)) s = absurd (cc s)
 turn-first side log (turns.Bytes id []) s = absurd (cc s)
 turn-first side log (turns.Call call) s = absurd (cc s)
-turn-first side log turns.PeerUni s = flushed-first side _ log
-turn-first side log turns.PeerBi s = flushed-first side _ log
-turn-first side log (turns.Connected u b c f) s = flushed-first side _ log
-turn-first side log (turns.End id) s = flushed-first side _ log
-turn-first side log (turns.Reset id code) s = flushed-first side _ log
-turn-first side log (turns.Stop id code) s = flushed-first side _ log
-turn-first side log (turns.Acked id) s = flushed-first side _ log
-turn-first side log (turns.Datagram piece) s = flushed-first side _ log
-turn-first side log (turns.MaxUni total) s = flushed-first side _ log
-turn-first side log (turns.MaxBi total) s = flushed-first side _ log
-turn-first side log (turns.MaxData id total) s = flushed-first side _ log
-turn-first side log (turns.DatagramLimit fact) s = flushed-first side _ log
-turn-first side log (turns.Loss reason) s = flushed-first side _ log
+turn-first side log turn s = flushed-first side _ log
 
 pub single-plain : (turn : Turn) → is_single turn ≡ true → is_call turn ≡ false
 single-plain (turns.Call call) s = absurd (cc s)

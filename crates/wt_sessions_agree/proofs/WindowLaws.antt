@@ -4,7 +4,7 @@ use Rattle.std.specs.List.{list_any}
 use Rattle.std.proofs.Common.{◌∙◌, ap, refl, sym}
 use Rattle.wt_sessions.specs.StreamTable.{CallView, Classified, Consequence, StreamTable, TransportView, Waiting, admit_or_stop, consequence, dispatched_streams, has_room, is_closed, is_turned_away, queued_id, waits_in, was_established}
 use Rattle.wt_sessions.specs.StreamTable as tables
-use Rattle.wt_sessions_agree.proofs.Appends.{and-false, and-true}
+use Rattle.wt_sessions_agree.proofs.Basics.{and-false, and-true}
 use Rattle.wt_sessions_agree.proofs.ScanLaws.{Admits}
 use Rattle.wt_sessions_agree.specs.Stands.{CallsAgree}
 use Rattle.wt_sessions_agree.specs.Agrees.{IsTable, classified_in, closed_in}

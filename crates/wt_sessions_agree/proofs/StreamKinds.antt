@@ -1,0 +1,67 @@
+-- The kinds of streams: each is less than 4, and what an id of a kind is.
+use Rattle.std.specs.Prelude.{[], ◌%◌, ◌*◌, ◌++◌, ◌+◌, ◌/◌, ◌<◌, ◌==◌, ◌∷◌, ◌≡◌, List, false, map, true, ℕ}
+use Rattle.std.specs.List.{list_all}
+use Rattle.std.proofs.Common.{◌∙◌, ap, arith, refl, subst, sym}
+use Rattle.std.proofs.lemmas.List.Folds.{list_all-append}
+use Rattle.wt_meaning.specs.Findings.{Finding}
+use Rattle.wt_meaning.specs.History.{History, events, stream_count}
+use Rattle.wt_meaning.specs.Moments.{Check, ControlFault, DecoderEnd, EncoderEnd, LocalStop, ReadSettings, WalkSession, after_checks, checks, datagram_checks, ids_from, stream_checks}
+use Rattle.wt_promise.proofs.Grows.{asks_peers, is_peers, peers-checked}
+use Rattle.wt_proto.specs.Bi.{bi_verdict_of}
+use Rattle.wt_proto.specs.Uni.{uni_verdict_of}
+use Rattle.wt_seam_spec.specs.Reports.{datagrams_of}
+use Rattle.wt_seam_spec.specs.Streams.{local_bi, local_uni, peer_bi, peer_count, peer_uni}
+use Rattle.wt_promise.proofs.Accepted.{and-left}
+use Rattle.wt_sessions.specs.Scan.{check_sessions, in_order, on_progress, scan_bis, scan_order, scan_unis, take_datagrams, with_no_actions}
+use Rattle.wt_sessions.specs.StreamTable.{CallView, StreamTable, TransportView}
+use Rattle.wt_sessions_agree.proofs.CriticalLaws.{checks-append, critical-agrees, critical_steps, step-keeps}
+use Rattle.wt_sessions_agree.proofs.DatagramLaws.{datagrams-agree}
+use Rattle.wt_sessions_agree.proofs.KindLaws.{kind-keeps}
+use Rattle.wt_sessions_agree.proofs.OrderlyLaws.{orderly-checks}
+use Rattle.wt_sessions_agree.proofs.ScanLaws.{ScanKeeps, table-kept}
+use Rattle.wt_sessions_agree.proofs.SessionLaws.{WalkKeeps, table-walked, walks-keep}
+use Rattle.wt_sessions_agree.proofs.WindowLaws.{admits-agree}
+use Rattle.wt_sessions_agree.specs.Orderly.{Orderly}
+use Rattle.wt_sessions_agree.specs.Stands.{SeesAlike}
+use Rattle.wt_sessions_agree.specs.Agrees.{IsTable}
+use Rattle.wt_wire.specs.Ids.{is_bidirectional}
+use Rattle.wt_wire.specs.declared.side.Side.{Side}
+use Rattle.wt_wire.specs.declared.side.Side.TheVariants.{Client, Server}
+
+pub uni-small : (side : Side) → peer_uni side < 4
+uni-small Client = omega arith
+uni-small Server = omega arith
+
+pub bi-small : (side : Side) → peer_bi side < 4
+bi-small Client = omega arith
+bi-small Server = omega arith
+
+pub local-uni-small : (side : Side) → local_uni side < 4
+local-uni-small Client = omega arith
+local-uni-small Server = omega arith
+
+pub local-bi-small : (side : Side) → local_bi side < 4
+local-bi-small Client = omega arith
+local-bi-small Server = omega arith
+
+is-zero : (n : ℕ) → n ≡ 0 → (n == 0) ≡ true
+is-zero n e = rw e refl
+
+is-one : (n : ℕ) → n ≡ 1 → (n == 0) ≡ false
+is-one n e = rw e refl
+
+pub uni-direction : (side : Side) (m : ℕ) → is_bidirectional (4 * m + peer_uni side) ≡ false
+uni-direction Client m = is-one ((4 * m + 3) / 2 % 2) (omega arith)
+uni-direction Server m = is-one ((4 * m + 2) / 2 % 2) (omega arith)
+
+pub bi-direction : (side : Side) (m : ℕ) → is_bidirectional (4 * m + peer_bi side) ≡ true
+bi-direction Client m = is-zero ((4 * m + 1) / 2 % 2) (omega arith)
+bi-direction Server m = is-zero ((4 * m + 0) / 2 % 2) (omega arith)
+
+pub uni-peers : (side : Side) (m : ℕ) → is_peers side (4 * m + peer_uni side) ≡ true
+uni-peers Client m = let r : (4 * m + 3) % 4 ≡ 3 = omega arith in rw r refl
+uni-peers Server m = let r : (4 * m + 2) % 4 ≡ 2 = omega arith in rw r refl
+
+pub bi-peers : (side : Side) (m : ℕ) → is_peers side (4 * m + peer_bi side) ≡ true
+bi-peers Client m = let r : (4 * m + 1) % 4 ≡ 1 = omega arith in rw r refl
+bi-peers Server m = let r : (4 * m + 0) % 4 ≡ 0 = omega arith in rw r refl
