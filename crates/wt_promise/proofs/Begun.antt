@@ -12,7 +12,7 @@ use Rattle.wt_meaning.specs.Windows.{last_request, request_in}
 use Rattle.wt_promise.proofs.Accepted.{and-right, or-true}
 use Rattle.wt_promise.proofs.Fresh.{client-begun}
 use Rattle.wt_promise.proofs.Phases.{given-monotone, idle-of, incoming-new, last-given, none-request, phase, polled-reply, quiet-reply, same-last, server-begun}
-use Rattle.wt_promise.proofs.Sent.{going}
+use Rattle.wt_promise.proofs.Shapes.{going}
 use Rattle.wt_promise.proofs.Sessions.{is_connect}
 use Rattle.wt_promise.proofs.Tables.{fits, fits-own}
 use Rattle.wt_promise.specs.Promise.{IsHistory, begun_on}

@@ -18,8 +18,8 @@ use Rattle.wt_promise.proofs.BytesOut.{bytes-append, bytes-join, bytes_on, none-
 use Rattle.wt_promise.proofs.Flow.{clash, swapped}
 use Rattle.wt_promise.proofs.Fresh.{was-opened}
 use Rattle.wt_promise.proofs.Grows.{is_peers}
-use Rattle.wt_promise.proofs.Sent.{Given, Opening, Polled, Quiet, Sent, Wrote, front-bytes, head_stream}
-use Rattle.wt_promise.proofs.SentCalls.{sent-own}
+use Rattle.wt_promise.proofs.Sent.{Given, Opening, Polled, Quiet, Sent, Wrote, front-bytes, sent-own}
+use Rattle.wt_promise.proofs.Shakes.{head_stream}
 use Rattle.wt_promise.proofs.Verdicts.{ByAccept, ByOpening, HandedBy, admitted-peers, given-peers, handed-by}
 use Rattle.wt_promise.specs.Promise.{IsHistory}
 use Rattle.wt_seam_spec.specs.Streams.{local_uni}

@@ -26,7 +26,9 @@ use Rattle.wt_promise.proofs.Flows.{flow, no-left, polled-begun, polled-last}
 use Rattle.wt_promise.proofs.Fresh.{client-begun, established-opened}
 use Rattle.wt_promise.proofs.Grows.{findings-add, news}
 use Rattle.wt_promise.proofs.Heads.{accepted-before, begun-kept, head-other}
-use Rattle.wt_promise.proofs.Sent.{going, head_stream, if-bytes, send-bytes}
+use Rattle.wt_promise.proofs.Sent.{if-bytes, send-bytes}
+use Rattle.wt_promise.proofs.Shapes.{going}
+use Rattle.wt_promise.proofs.Shakes.{head_stream}
 use Rattle.wt_promise.proofs.Sessions.{AcceptGives, Accepted, ConnectGives, Connected, PollGives, accept-gives, is_connect, poll-gives}
 use Rattle.wt_promise.proofs.Tables.{by-row, by-value, fits, fits-own, no-row}
 use Rattle.wt_promise.specs.Promise.{EstablishedFor, EstablishedRightly, IsHistory, accepted, begun_on, frame_or, head_of, head_on, header_on, is_acceptance}

@@ -22,8 +22,9 @@ use Rattle.wt_promise.proofs.Flow.{Flow, InHead, clash, flow-as, flow-given, flo
 use Rattle.wt_promise.proofs.Grows.{is_peers}
 use Rattle.wt_promise.proofs.HandedOut.{opened-local}
 use Rattle.wt_promise.proofs.Heads.{HeadStep, New, Same, accepted-before, begun-not-admitted, begun-not-opened, head-other, head-step}
-use Rattle.wt_promise.proofs.Sent.{Given, Opening, Polled, Quiet, Sent, Wrote, going, head_stream, is_accept}
-use Rattle.wt_promise.proofs.SentCalls.{sent-own}
+use Rattle.wt_promise.proofs.Sent.{Given, Opening, Polled, Quiet, Sent, Wrote, sent-own}
+use Rattle.wt_promise.proofs.Shakes.{head_stream}
+use Rattle.wt_promise.proofs.Shapes.{going, is_accept}
 use Rattle.wt_promise.proofs.Stays.{named-stays}
 use Rattle.wt_promise.proofs.Tables.{fits, fits-own}
 use Rattle.wt_promise.proofs.Verdicts.{admitted-later, admitted-peers}

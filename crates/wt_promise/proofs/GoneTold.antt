@@ -10,7 +10,6 @@ use Rattle.wt_meaning.specs.Halves.{has_sending, is_done}
 use Rattle.wt_meaning.specs.History.{History, Pair, actions_out, answers_reset, answers_stop, can_receive, can_send, events, exists, is_given_up, is_open, is_reset, is_reset_of, was_finished}
 use Rattle.wt_meaning.specs.Meaning.{next, own_answer, with_pair}
 use Rattle.wt_meaning.specs.Moments.{findings}
-use Rattle.wt_meaning.specs.Rows.{answer}
 use Rattle.wt_meaning.specs.Sends.{action_if, admits, is_of_session, moment_actions, stream_gone_actions}
 use Rattle.wt_meaning.specs.Windows.{gone_in, is_gone_by_call, is_number, makes_gone}
 use Rattle.wt_promise.proofs.Accepted.{and-left, and-right, or-true}

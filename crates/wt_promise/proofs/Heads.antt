@@ -18,8 +18,7 @@ use Rattle.wt_promise.proofs.Fresh.{Bi, OpenTurn, Uni, nth-of, open-turn, was-op
 use Rattle.wt_promise.proofs.Grows.{is_peers}
 use Rattle.wt_promise.proofs.HandedOut.{opened-local}
 use Rattle.wt_promise.proofs.Opened.{OpensFor, opens-for}
-use Rattle.wt_promise.proofs.Sent.{Given, Opening, Polled, Quiet, Sent, Wrote}
-use Rattle.wt_promise.proofs.SentCalls.{sent-own}
+use Rattle.wt_promise.proofs.Sent.{Given, Opening, Polled, Quiet, Sent, Wrote, sent-own}
 use Rattle.wt_promise.proofs.Stays.{named-stays}
 use Rattle.wt_promise.proofs.Verdicts.{ByAccept, ByOpening, HandedBy, admitted-peers, given-kept, given-not-admitted, given-peers, handed-by}
 use Rattle.wt_promise.specs.Promise.{IsHistory, accepted, accepted_by, begun_on, frame_or, head_on, header_for, header_on}

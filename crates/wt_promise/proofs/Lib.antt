@@ -23,8 +23,9 @@ pub mod Opened
 pub mod Sessions
 pub mod BytesOut
 pub mod Verdicts
+pub mod Shakes
+pub mod Shapes
 pub mod Sent
-pub mod SentCalls
 pub mod Fresh
 pub mod Begun
 pub mod Flow

@@ -1,65 +1,36 @@
 -- What the answer to a turn sends on a stream: a rest of its head, or what the reply of a write accepts.
-use Rattle.std.specs.Prelude.{[], ◌++◌, ◌==◌, ◌∷◌, ◌≡◌, Bool, Err, List, None, Ok, Option, Result, Some, codes, false, if◌then◌else◌, not, take, true, unwrap_or, ℕ}
-use Rattle.std.specs.Option.{option_or}
-use Rattle.std.proofs.Common.{◌∙◌, ap, refl, sym}
-use Rattle.std.proofs.lemmas.Bool.{eqb-true, not-false}
+use Rattle.std.specs.Prelude.{[], ◌++◌, ◌==◌, ◌||◌, ◌∷◌, ◌≡◌, Bool, List, Option, Some, false, if◌then◌else◌, is_some, not, take, true, unwrap_or, ℕ}
+use Rattle.std.proofs.Common.{◌∙◌, ap, refl, subst, sym}
+use Rattle.std.proofs.lemmas.Bool.{eq-eqb, eqb-true}
 use Rattle.std.proofs.lemmas.List.{append-nil}
-use Rattle.url.specs.Parser.{parse_url}
-use Rattle.wt_meaning.specs.Calls.{being_opened, in_session, opening_for, stream_header}
-use Rattle.wt_meaning.specs.Halves.{where_has}
-use Rattle.wt_meaning.specs.Handshakes.{acceptance_frame, begun_by, close_by, connect_on, head_left, is_opened, is_refused, is_success, lacks_credit, last_begun, none_lives, poll_rows, rejection, response_ended, response_fault, response_incomplete, response_rows, response_to, send}
-use Rattle.wt_meaning.specs.History.{History, contents, credit_left, events, hands_out, is_handed_out, is_open, was_finished}
+use Rattle.wt_meaning.specs.Calls.{being_opened, stream_header}
+use Rattle.wt_meaning.specs.Handshakes.{head_left, is_opened, lacks_credit, send}
+use Rattle.wt_meaning.specs.History.{History, credit_left, events, hands_out, is_handed_out, is_open}
 use Rattle.wt_meaning.specs.Lawful.{polls}
+use Rattle.wt_meaning.specs.Meaning.{own_answer}
 use Rattle.wt_meaning.specs.Moments.{findings}
-use Rattle.wt_meaning.specs.Rows.{Row, answer, row, row_for}
-use Rattle.wt_meaning.specs.Sends.{action_if, close_if_open, session_gone_actions}
-use Rattle.wt_meaning.specs.Targets.{Target, target_of}
+use Rattle.wt_meaning.specs.Rows.{answer}
+use Rattle.wt_meaning.specs.Sends.{action_if, close_if_open, session_finish, session_gone_actions}
 use Rattle.wt_meaning.specs.Windows.{last_request, named}
-use Rattle.wt_message.specs.FixedBytes.{response_bytes}
 use Rattle.wt_promise.proofs.Actions.{none-gone, none-if}
+use Rattle.wt_promise.proofs.Flow.{clash}
 use Rattle.wt_promise.proofs.BytesOut.{bytes-append, bytes_on, none-on, sends}
-use Rattle.wt_promise.proofs.Tables.{OfRows, by-row, by-session, by-value, no-row}
-use Rattle.wt_promise.specs.Promise.{accepted_by, frame_of, head_of}
-use Rattle.wt_proto.specs.ResponseWalk.{response_walk_of}
-use Rattle.wt_proto.specs.declared.response_walk.ResponseWalk.{ResponseWalk}
+use Rattle.wt_promise.proofs.Shakes.{Finishes, Goes, GoesShuts, Rejects, Shake, Shuts, Still, head_stream, rest}
+use Rattle.wt_promise.proofs.Shapes.{Alone, Ending, Finishing, Handshaking, Nothing, Nought, Polling, Resetting, Shape, Writing, going, is_accept, says_nothing, shape, writes_on}
+use Rattle.wt_promise.proofs.Tables.{fits}
+use Rattle.wt_promise.specs.Promise.{accepted_by, acts_on, head_of, says_accepted}
 use Rattle.wt_seam_spec.specs.Joined.{send_of}
-use Rattle.wt_seam_spec.specs.Reports.{end_of}
+use Rattle.wt_seam_spec.specs.Reports.{stop_of}
 use Rattle.wt_turn.specs.declared.action.Action.{Action}
 use Rattle.wt_turn.specs.declared.answer.Answer.{Answer}
 use Rattle.wt_turn.specs.declared.call.Call.{Call}
-use Rattle.wt_turn.specs.declared.connecting_error.ConnectingError.{ConnectingError}
 use Rattle.wt_turn.specs.declared.reply.Reply.{Reply}
 use Rattle.wt_turn.specs.declared.turn.Turn.{Turn}
-use Rattle.wt_wire.specs.Codes.{code_of}
-use Rattle.wt_wire.specs.HeaderList.{Fields}
-use Rattle.wt_wire.specs.Ids.{is_bidirectional}
-use Rattle.wt_wire.specs.declared.error.ErrorCode.{ErrorCode}
 use Rattle.wt_wire.specs.declared.side.Side.{Side}
 use Rattle.wt_turn.specs.declared.action.Action.TheVariants as actions
 use Rattle.wt_turn.specs.declared.call.Call.TheVariants as calls
 use Rattle.wt_turn.specs.declared.reply.Reply.TheVariants as replies
 use Rattle.wt_turn.specs.declared.turn.Turn.TheVariants as turns
-
--- the stream on which a connect or a response writes its frame
-abbrev pub head_stream : History → Call → ℕ
-head_stream h (calls.Connect options lookup outcome) = 0
-head_stream h c = unwrap_or (last_request h) 0
-
--- the connect or response that the turn begins or goes on with
-abbrev pub going : History → Turn → Option Call
-going h turn = option_or (begun_by turn) (last_begun h)
-
--- the turn accepts a stream
-abbrev pub is_accept : Turn → Bool
-is_accept (turns.Call (calls.AcceptUni name)) = true
-is_accept (turns.Call (calls.AcceptBi name)) = true
-is_accept _ = false
-
--- the turn writes
-abbrev pub writes_on : Turn → Bool
-writes_on (turns.Call (calls.Write id bytes)) = true
-writes_on (turns.Call (calls.WriteAll id bytes)) = true
-writes_on _ = false
 
 -- what an answer sends on a stream
 pub data Sent (side : Side) (h : History) (k : ℕ) (turn : Turn) (a : Answer) : Type 0 where
@@ -101,27 +72,6 @@ front-bytes k xs ys e = bytes-append k xs ys ∙ ap (λ (zs : List ℕ). bytes_o
 pub no-bytes : (k : ℕ) (xs ys : List Action) → bytes_on k xs ≡ [] → bytes_on k ys ≡ [] → bytes_on k (xs ++ ys) ≡ []
 no-bytes k xs ys a b = front-bytes k xs ys b ∙ a
 
--- ---- rows
-
-pub quiet : (side : Side) (h : History) (k : ℕ) (turn : Turn) (c : Bool) (r : Reply) (own : List Action) (rows : List Row) → bytes_on k own ≡ [] → accepted_by k turn r ≡ [] → hands_out k r ≡ false
-    → OfRows (Sent side h k turn) rows → OfRows (Sent side h k turn) (row c r own ∷ rows)
-quiet side h k turn c r own rows b n i later = by-row (Sent side h k turn) c r own rows (λ q. Quiet b n i) (λ q. later)
-
-pub quiet-value : {T : Type 0} (side : Side) (h : History) (k : ℕ) (turn : Turn) (x : Option T) (gives : T → Reply) (own : List Action) (rows : List Row) → bytes_on k own ≡ [] → ((y : T) → accepted_by k turn (gives y) ≡ [])
-    → ((y : T) → hands_out k (gives y) ≡ false) → OfRows (Sent side h k turn) rows → OfRows (Sent side h k turn) (row_for x gives own ∷ rows)
-quiet-value side h k turn x gives own rows b n i later = by-value (Sent side h k turn) x gives own rows (λ y q. Quiet b (n y) (i y)) (λ q. later)
-
-pub quiet-session : (side : Side) (h : History) (k : ℕ) (turn : Turn) (name : Option ℕ) (rows : ℕ → List Row) → accepted_by k turn replies.NoSession ≡ [] → ((s : ℕ) → name ≡ Some s → OfRows (Sent side h k turn) (rows s))
-    → OfRows (Sent side h k turn) (in_session name rows)
-quiet-session side h k turn name rows n f = by-session (Sent side h k turn) name rows (Quiet refl n refl) f
-
-pub nothing : (side : Side) (h : History) (k : ℕ) (turn : Turn) → accepted_by k turn replies.Pending ≡ [] → OfRows (Sent side h k turn) []
-nothing side h k turn n = no-row (Sent side h k turn) (Quiet refl n refl)
-
-pub quiet-half : (side : Side) (h : History) (k : ℕ) (turn : Turn) (has : Bool) (rows : List Row) → accepted_by k turn replies.NoStream ≡ [] → (has ≡ true → OfRows (Sent side h k turn) rows)
-    → OfRows (Sent side h k turn) (where_has has rows)
-quiet-half side h k turn has rows n f = by-row (Sent side h k turn) (not has) replies.NoStream [] rows (λ q. Quiet refl n refl) (λ q. f (not-false has q))
-
 -- ---- handshakes
 
 -- a rest of the frame goes out
@@ -137,132 +87,141 @@ sent-head side h k turn c r own p g b n i = by (head_stream h c == k) refl
     by false e = Quiet (b ∙ ap (λ (y : Bool). if y then rest (head_stream h c) else []) e) n i
     by true e = Polled c p g (eqb-true (head_stream h c) k e) (b ∙ ap (λ (y : Bool). if y then rest (head_stream h c) else []) e ∙ ap rest (eqb-true (head_stream h c) k e)) n i
 
-pub sent-accept : (side : Side) (h : History) (k : ℕ) (turn : Turn) (headers : Fields) → polls turn ≡ true → going h turn ≡ Some (calls.Accept headers) → ((r : Reply) → accepted_by k turn r ≡ [])
-    → OfRows (Sent side h k turn) (response_to side h (calls.Accept headers))
-sent-accept side h k turn headers p g n =
-    quiet side h k turn _ _ [] _ refl (n _) refl (quiet side h k turn _ _ _ _ (close-bytes h k 0x104) (n _) refl
-    (by-row (Sent side h k turn) (lacks_credit h r left) replies.Pending (send h r left) _ (λ q. part replies.Pending refl)
-    (λ q. by-row (Sent side h k turn) true (replies.Session r) (send h r left) [] (λ x. part (replies.Session r) refl) (λ x. nothing side h k turn (n _)))))
+polled-accepts : (k : ℕ) (turn : Turn) (r : Reply) → polls turn ≡ true → accepted_by k turn r ≡ []
+polled-accepts k (turns.Call (calls.Write id bytes)) r p = absurd (cc p)
+polled-accepts k (turns.Call (calls.WriteAll id bytes)) r p = absurd (cc p)
+polled-accepts k turn r p = refl
+
+handshake-hands : (k : ℕ) (r : Reply) → fits calls.Handshake r ≡ true → hands_out k r ≡ false
+handshake-hands k (replies.Uni id) f = absurd (cc f)
+handshake-hands k (replies.Bi id) f = absurd (cc f)
+handshake-hands k (replies.SendReady id) f = absurd (cc f)
+handshake-hands k (replies.BiReady id) f = absurd (cc f)
+handshake-hands k r f = refl
+
+sent-shake : (side : Side) (h : History) (k : ℕ) (turn : Turn) (c : Call) → polls turn ≡ true → going h turn ≡ Some c → (a : Answer) → Shake side h c (head_of (Some c)) a → Sent side h k turn a
+sent-shake side h k turn c p g a x = by a x
   where
-    r : ℕ
-    r = unwrap_or (last_request h) 0
-
-    left : List ℕ
-    left = head_left h r (acceptance_frame headers)
-
-    part : (reply : Reply) → hands_out k reply ≡ false → Sent side h k turn (answer reply (send h r left))
-    part reply = sent-head side h k turn (calls.Accept headers) reply (send h r left) p g (send-bytes k r (take (credit_left h r) left)) (n reply)
-
-pub sent-rejection : (side : Side) (h : History) (k : ℕ) (turn : Turn) (c : Call) (digits : List ℕ) → polls turn ≡ true → going h turn ≡ Some c → head_stream h c ≡ unwrap_or (last_request h) 0
-    → head_of (Some c) ≡ response_bytes digits → ((r : Reply) → accepted_by k turn r ≡ []) → OfRows (Sent side h k turn) (rejection side h digits)
-sent-rejection side h k turn c digits p g i f n =
-    quiet side h k turn _ _ [] _ refl (n _) refl (quiet side h k turn _ _ (gone ++ close_if_open h 0x104) _ (no-bytes k gone (close_if_open h 0x104) (gone-bytes side h k r) (close-bytes h k 0x104)) (n _) refl
-    (by-row (Sent side h k turn) (lacks_credit h r left) replies.Pending (send h r left) _ (λ q. part (send h r left) (send-bytes k r (take (credit_left h r) left)))
-    (λ q. by-row (Sent side h k turn) (not (was_finished h r)) replies.Pending (send h r left ++ actions.Finish r ∷ []) _
-    (λ x. part (send h r left ++ actions.Finish r ∷ []) (front-bytes k (send h r left) (actions.Finish r ∷ []) refl ∙ send-bytes k r (take (credit_left h r) left)))
-    (λ x. quiet side h k turn _ _ (gone ++ (if none_lives side h then close_if_open h 0 else [])) [] (no-bytes k gone (if none_lives side h then close_if_open h 0 else []) (gone-bytes side h k r) (last-bytes (none_lives side h))) (n _) refl
-    (nothing side h k turn (n _))))))
-  where
-    r : ℕ
-    r = unwrap_or (last_request h) 0
-
-    left : List ℕ
-    left = head_left h r (response_bytes digits)
-
-    gone : List Action
-    gone = session_gone_actions side h (findings side h) r
-
-    last-bytes : (b : Bool) → bytes_on k (if b then close_if_open h 0 else []) ≡ []
-    last-bytes true = close-bytes h k 0
-    last-bytes false = refl
-
-    part : (own : List Action) → bytes_on k own ≡ (if r == k then take (credit_left h r) left else []) → Sent side h k turn (answer replies.Pending own)
-    part own e = sent-head side h k turn c replies.Pending own p g
-        (e ∙ ap (λ (frame : List ℕ). if r == k then take (credit_left h r) (head_left h r frame) else []) (sym f)
-        ∙ ap (λ (j : ℕ). if j == k then take (credit_left h j) (head_left h j (head_of (Some c))) else []) (sym i)) (n replies.Pending) refl
-
-sent-response : (side : Side) (h : History) (k : ℕ) (turn : Turn) (own : List Action) (walk : ResponseWalk) → ((r : Reply) (all : List Action) → bytes_on k all ≡ bytes_on k own → hands_out k r ≡ false → Sent side h k turn (answer r all))
-    → accepted_by k turn replies.Pending ≡ [] → OfRows (Sent side h k turn) (response_rows side h own walk)
-sent-response side h k turn own walk f n =
-    by-value (Sent side h k turn) (response_fault walk) _ _ _ (λ y q. f _ _ (front-bytes k own _ (fault-bytes (response_fault walk))) refl)
-    (λ q. by-row (Sent side h k turn) (response_ended walk) _ _ _ (λ x. f _ _ (front-bytes k own _ (close-bytes h k 0)) refl)
-    (λ x. by-row (Sent side h k turn) _ _ own _ (λ y. f _ _ refl refl)
-    (λ y. by-row (Sent side h k turn) (response_incomplete walk) replies.Pending own _ (λ z. f _ _ refl refl)
-    (λ z. by-row (Sent side h k turn) (not (is_success walk)) _ _ _ (λ w. f _ _ (front-bytes k own _ (close-bytes h k 0)) refl)
-    (λ w. by-row (Sent side h k turn) (not (is_open h)) _ own _ (λ v. f _ _ refl refl)
-    (λ v. by-row (Sent side h k turn) true (replies.Session 0) own [] (λ u. f _ _ refl refl) (λ u. nothing side h k turn n)))))))
-  where
-    fault-bytes : (x : Option ErrorCode) → bytes_on k (close_by h x) ≡ []
-    fault-bytes None = refl
-    fault-bytes (Some code) = close-bytes h k (code_of code)
-
-sent-connect : (side : Side) (h : History) (k : ℕ) (turn : Turn) (c : Call) (t : Result Target ConnectingError) → polls turn ≡ true → going h turn ≡ Some c → head_stream h c ≡ 0 → head_of (Some c) ≡ frame_of t
-    → ((r : Reply) → accepted_by k turn r ≡ []) → OfRows (Sent side h k turn) (connect_on side h t)
-sent-connect side h k turn c (Err e) p g i f n = nothing side h k turn (n _)
-sent-connect side h k turn c (Ok t) p g i f n =
-    quiet side h k turn _ _ [] _ refl (n _) refl (quiet side h k turn _ _ [] _ refl (n _) refl (quiet side h k turn _ _ [] _ refl (n _) refl (quiet side h k turn _ _ [] _ refl (n _) refl
-    (quiet-value side h k turn t.reserved _ _ _ (close-bytes h k 0) (λ y. n _) (λ y. refl) (quiet side h k turn _ _ [] _ refl (n _) refl (quiet side h k turn _ _ [] _ refl (n _) refl (quiet side h k turn _ _ [] _ refl (n _) refl
-    (quiet side h k turn (is_refused h 0 left) _ _ _ (close-bytes h k 0) (n _) refl
-    (by-row (Sent side h k turn) (lacks_credit h 0 left) replies.Pending own _ (λ q. part replies.Pending own refl refl)
-    (λ q. sent-response side h k turn own (response_walk_of (contents h 0) (end_of (events h) 0)) part (n _)))))))))))
-  where
-    left : List ℕ
-    left = head_left h 0 t.frame
-
-    opening : List Action
-    opening = action_if (not (is_opened h)) (actions.Opened 0)
-
     own : List Action
-    own = opening ++ send h 0 left
+    own = rest h c (head_of (Some c))
 
-    own-bytes : bytes_on k own ≡ (if 0 == k then take (credit_left h 0) left else [])
-    own-bytes = bytes-append k opening (send h 0 left) ∙ ap (λ (xs : List ℕ). xs ++ bytes_on k (send h 0 left)) (if-bytes k (not (is_opened h)) (actions.Opened 0) refl) ∙ send-bytes k 0 (take (credit_left h 0) left)
+    sent : (d : Call) (frame : List ℕ) → bytes_on k (rest h d frame) ≡ (if head_stream h d == k then take (credit_left h (head_stream h d)) (head_left h (head_stream h d) frame) else [])
+    sent (calls.Connect options lookup outcome) frame =
+        bytes-append k (action_if (not (is_opened h)) (actions.Opened 0)) (send h 0 (head_left h 0 frame)) ∙ ap (λ (xs : List ℕ). xs ++ bytes_on k (send h 0 (head_left h 0 frame))) (if-bytes k (not (is_opened h)) (actions.Opened 0) refl)
+        ∙ send-bytes k 0 (take (credit_left h 0) (head_left h 0 frame))
+    sent d frame = send-bytes k (unwrap_or (last_request h) 0) (take (credit_left h (unwrap_or (last_request h) 0)) (head_left h (unwrap_or (last_request h) 0) frame))
 
-    part : (r : Reply) (all : List Action) → bytes_on k all ≡ bytes_on k own → hands_out k r ≡ false → Sent side h k turn (answer r all)
-    part r all e = sent-head side h k turn c r all p g
-        (e ∙ own-bytes ∙ ap (λ (frame : List ℕ). if 0 == k then take (credit_left h 0) (head_left h 0 frame) else []) (sym f)
-        ∙ ap (λ (j : ℕ). if j == k then take (credit_left h j) (head_left h j (head_of (Some c))) else []) (sym i)) (n r)
+    last : (b : Bool) (code : ℕ) → bytes_on k (if b then close_if_open h code else []) ≡ []
+    last true code = close-bytes h k code
+    last false code = refl
 
-pub sent-poll : (side : Side) (h : History) (k : ℕ) (o : Option Call) → last_begun h ≡ o → OfRows (Sent side h k (turns.Call calls.Handshake)) (poll_rows side h o)
-sent-poll side h k None e = nothing side h k (turns.Call calls.Handshake) refl
-sent-poll side h k (Some (calls.Connect options lookup outcome)) e =
-    sent-connect side h k (turns.Call calls.Handshake) (calls.Connect options lookup outcome) (target_of (parse_url None options.0) options.1 lookup outcome) refl e refl refl (λ r. refl)
-sent-poll side h k (Some (calls.Accept headers)) e = sent-accept side h k (turns.Call calls.Handshake) headers refl e (λ r. refl)
-sent-poll side h k (Some calls.Forbidden) e = sent-rejection side h k (turns.Call calls.Handshake) calls.Forbidden (codes "403") refl e refl refl (λ r. refl)
-sent-poll side h k (Some calls.NotFound) e = sent-rejection side h k (turns.Call calls.Handshake) calls.NotFound (codes "404") refl e refl refl (λ r. refl)
-sent-poll side h k (Some calls.TooManyRequests) e = sent-rejection side h k (turns.Call calls.Handshake) calls.TooManyRequests (codes "429") refl e refl refl (λ r. refl)
-sent-poll side h k (Some c) e = nothing side h k (turns.Call calls.Handshake) refl
+    quietly : (r : Reply) (as_ : List Action) → fits calls.Handshake r ≡ true → bytes_on k as_ ≡ [] → Sent side h k turn (answer r as_)
+    quietly r as_ f b = Quiet b (polled-accepts k turn r p) (handshake-hands k r f)
 
--- ---- an opening
+    part : (r : Reply) (as_ : List Action) → fits calls.Handshake r ≡ true → bytes_on k as_ ≡ bytes_on k own → Sent side h k turn (answer r as_)
+    part r as_ f e = sent-head side h k turn c r as_ p g (e ∙ sent c (head_of (Some c))) (polled-accepts k turn r p) (handshake-hands k r f)
 
-pub sent-opening : (side : Side) (h : History) (k id : ℕ) (x : Option (Option ℕ)) → being_opened h id ≡ x → OfRows (Sent side h k (turns.Call (calls.PollOpening id))) (opening_for side h id x)
-sent-opening side h k id None e = quiet side h k turn true replies.NoStream [] [] refl refl refl (nothing side h k turn refl)
+    by : (b : Answer) → Shake side h c (head_of (Some c)) b → Sent side h k turn b
+    by b (Still r f) = quietly r [] f refl
+    by b (Shuts r code f m) = quietly r (close_if_open h code) f (close-bytes h k code)
+    by b (Goes r f) = part r own f refl
+    by b (GoesShuts r code f m) = part r (own ++ close_if_open h code) f (front-bytes k own (close_if_open h code) (close-bytes h k code))
+    by b (Finishes i m) = part replies.Pending (own ++ actions.Finish (head_stream h c) ∷ []) refl (front-bytes k own (actions.Finish (head_stream h c) ∷ []) refl)
+    by b (Rejects i t code m) =
+        quietly replies.Rejected _ refl (no-bytes k (session_gone_actions side h (findings side h) (head_stream h c)) (if t then close_if_open h code else []) (gone-bytes side h k (head_stream h c)) (last t code))
+
+-- ---- every call
+
+-- a write of this stream or of another
+sent-write : (side : Side) (h : History) (k id : ℕ) (turn : Turn) (r : Reply) (bytes piece : List ℕ) → is_handed_out h id ≡ true → piece ≡ take (credit_left h id) bytes
+    → accepted_by k turn r ≡ (if id == k then piece else []) → hands_out k r ≡ false → writes_on turn ≡ true → Sent side h k turn (answer r (send h id bytes))
+sent-write side h k id turn r bytes piece given e n i w = by (id == k) refl
   where
-    turn : Turn
-    turn = turns.Call (calls.PollOpening id)
-sent-opening side h k id (Some name) e =
-    quiet-session side h k turn (named h name) _ refl
-    (λ s m. quiet side h k turn _ _ [] _ refl refl refl (quiet side h k turn (is_refused h id (left s)) _ [] _ refl refl refl
-    (by-row (Sent side h k turn) (lacks_credit h id (left s)) replies.Pending (send h id (left s)) _ (λ q. part s m replies.Pending (λ x. absurd (cc x)) (λ x. refl))
-    (λ q. by-row (Sent side h k turn) true _ (send h id (left s)) [] (λ y. part s m _ (λ x. q) (ready-other (is_bidirectional id))) (λ y. nothing side h k turn refl)))))
-  where
-    turn : Turn
-    turn = turns.Call (calls.PollOpening id)
+    sent : bytes_on k (send h id bytes) ≡ (if id == k then take (credit_left h id) bytes else [])
+    sent = send-bytes k id (take (credit_left h id) bytes)
 
+    by : (b : Bool) → (id == k) ≡ b → Sent side h k turn (answer r (send h id bytes))
+    by false q = Quiet (sent ∙ ap (λ (y : Bool). if y then take (credit_left h id) bytes else []) q) (n ∙ ap (λ (y : Bool). if y then piece else []) q) i
+    by true q = Wrote (ap (is_handed_out h) (sym (eqb-true id k q)) ∙ given) (sent ∙ ap (λ (xs : List ℕ). if id == k then xs else []) (sym e) ∙ sym n) w
+
+-- an opening of this stream or of another
+sent-opening : (side : Side) (h : History) (k id s : ℕ) (name : Option ℕ) (r : Reply) → being_opened h id ≡ Some name → named h name ≡ Some s
+    → ((j : ℕ) → hands_out j r ≡ true → (id ≡ j) × (lacks_credit h id (head_left h id (stream_header id s)) ≡ false))
+    → Sent side h k (turns.Call (calls.PollOpening id)) (answer r (send h id (head_left h id (stream_header id s))))
+sent-opening side h k id s name r e m i = by (id == k) refl
+  where
     left : ℕ → List ℕ
-    left s = head_left h id (stream_header id s)
+    left j = head_left h j (stream_header j s)
 
-    part : (s : ℕ) → named h name ≡ Some s → (r : Reply) → (hands_out k r ≡ true → lacks_credit h id (left s) ≡ false)
-        → ((id == k) ≡ false → hands_out k r ≡ false) → Sent side h k turn (answer r (send h id (left s)))
-    part s m r i o = by (id == k) refl
+    other : (id == k) ≡ false → (b : Bool) → hands_out k r ≡ b → b ≡ false
+    other q false x = refl
+    other q true x = absurd (clash (id == k) (eq-eqb id k (i k x).0) q)
+
+    by : (b : Bool) → (id == k) ≡ b → Sent side h k (turns.Call (calls.PollOpening id)) (answer r (send h id (left id)))
+    by false q = Quiet (send-bytes k id (take (credit_left h id) (left id)) ∙ ap (λ (y : Bool). if y then take (credit_left h id) (left id) else []) q) refl (other q (hands_out k r) refl)
+    by true q =
+        let same : id ≡ k = eqb-true id k q in
+        Opening name s (ap (being_opened h) (sym same) ∙ e) m
+        (send-bytes k id (take (credit_left h id) (left id)) ∙ ap (λ (y : Bool). if y then take (credit_left h id) (left id) else []) q ∙ ap (λ (j : ℕ). take (credit_left h j) (left j)) same) refl
+        (λ x. ap (λ (j : ℕ). lacks_credit h j (left j)) (sym same) ∙ (i k x).1) (ap (λ (j : ℕ). turns.Call (calls.PollOpening j)) same)
+
+none-accepted : (k : ℕ) (c : Call) (r : Reply) → says_nothing c r ≡ true → accepted_by k (turns.Call c) r ≡ []
+none-accepted k (calls.Write id bytes) (replies.Written n) e = absurd (cc e)
+none-accepted k (calls.WriteAll id bytes) (replies.Count n) e = absurd (cc e)
+none-accepted k (calls.WriteAll id bytes) replies.AllWritten e = absurd (cc e)
+none-accepted k c r e = refl
+
+nought-accepted : (k : ℕ) (c : Call) → accepted_by k (turns.Call c) (replies.Written 0) ≡ []
+nought-accepted k (calls.Write id bytes) = if-nothing (id == k)
+nought-accepted k c = refl
+
+accept-hands : (k : ℕ) (c : Call) (r : Reply) → says_nothing c r ≡ true → hands_out k r ≡ true → is_accept (turns.Call c) ≡ true
+accept-hands k c (replies.Uni id) e q = e
+accept-hands k c (replies.Bi id) e q = e
+accept-hands k c (replies.SendReady id) e q = absurd (cc e)
+accept-hands k c (replies.BiReady id) e q = absurd (cc e)
+accept-hands k c r e q = absurd (cc q)
+
+written-hands : (k : ℕ) (r : Reply) → says_accepted r ≡ true → hands_out k r ≡ false
+written-hands k (replies.Uni id) e = absurd (cc e)
+written-hands k (replies.Bi id) e = absurd (cc e)
+written-hands k (replies.SendReady id) e = absurd (cc e)
+written-hands k (replies.BiReady id) e = absurd (cc e)
+written-hands k r e = refl
+
+acts-sends : (k : ℕ) (x : Action) → acts_on k x ≡ false → sends k x ≡ false
+acts-sends k (actions.Send id p) e = by (id == k) e
+  where
+    by : (b : Bool) → (b || false) ≡ false → b ≡ false
+    by true q = absurd (cc q)
+    by false q = refl
+acts-sends k x e = refl
+
+sent-shape : (side : Side) (h : History) (k : ℕ) (call : Call) (a : Answer) → Shape side h call a → Sent side h k (turns.Call call) a
+sent-shape side h k call a x = by a x
+  where
+    quietly : (r : Reply) (as_ : List Action) → says_nothing call r ≡ true → bytes_on k as_ ≡ [] → Sent side h k (turns.Call call) (answer r as_)
+    quietly r as_ n b = of (hands_out k r) refl
       where
-        by : (b : Bool) → (id == k) ≡ b → Sent side h k turn (answer r (send h id (left s)))
-        by false q = Quiet (send-bytes k id (take (credit_left h id) (left s)) ∙ ap (λ (y : Bool). if y then take (credit_left h id) (left s) else []) q) refl (o q)
-        by true q = Opening name s (ap (being_opened h) (sym (eqb-true id k q)) ∙ e) m
-            (send-bytes k id (take (credit_left h id) (left s)) ∙ ap (λ (y : Bool). if y then take (credit_left h id) (left s) else []) q
-            ∙ ap (λ (j : ℕ). take (credit_left h j) (head_left h j (stream_header j s))) (eqb-true id k q)) refl
-            (λ x. ap (λ (j : ℕ). lacks_credit h j (head_left h j (stream_header j s))) (sym (eqb-true id k q)) ∙ i x) (ap (λ (j : ℕ). turns.Call (calls.PollOpening j)) (eqb-true id k q))
+        of : (i : Bool) → hands_out k r ≡ i → Sent side h k (turns.Call call) (answer r as_)
+        of false q = Quiet b (none-accepted k call r n) q
+        of true q = Given b (none-accepted k call r n) (accept-hands k call r n q)
 
-    ready-other : (b : Bool) → (id == k) ≡ false → hands_out k (if b then replies.BiReady id else replies.SendReady id) ≡ false
-    ready-other true e = e
-    ready-other false e = e
+    by : (b : Answer) → Shape side h call b → Sent side h k (turns.Call call) b
+    by b (Nothing r n) = quietly r [] n refl
+    by b Nought = Quiet refl (nought-accepted k call) refl
+    by b (Alone r t x n u m) = quietly r (action_if t x) n (if-bytes k t x (acts-sends k x (u k)))
+    by b (Writing id bytes piece r g n e w s o) = sent-write side h k id (turns.Call call) r bytes piece g e (w k) (written-hands k r s) o
+    by b (Polling id s name r c o m l i) =
+        subst (λ (d : Call). Sent side h k (turns.Call d) (answer r (send h id (head_left h id (stream_header id s))))) (sym c) (sent-opening side h k id s name r o m i)
+    by b (Finishing id c n) = quietly replies.Pending (actions.Finish id ∷ []) refl refl
+    by b (Resetting id code c g n) = quietly replies.Done (action_if (is_open h) (actions.ResetOut id code)) refl (if-bytes k (is_open h) (actions.ResetOut id code) refl)
+    by b (Ending s name c m o l) =
+        quietly replies.Done (session_finish h s ++ session_gone_actions side h (findings side h) s) refl
+        (no-bytes k (session_finish h s) _ (if-bytes k (not (is_some (stop_of (events h) s))) (actions.Finish s) refl) (gone-bytes side h k s))
+    by b (Handshaking c p g e d y) = sent-shake side h k (turns.Call call) c p g d y
+
+-- every turn's own answer
+pub sent-own : (side : Side) (h : History) (k : ℕ) (turn : Turn) → Sent side h k turn (own_answer side h turn)
+sent-own side h k (turns.Call call) = sent-shape side h k call (own_answer side h (turns.Call call)) (shape side h call).first
+sent-own side h k turn = Quiet refl refl refl

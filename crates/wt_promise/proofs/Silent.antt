@@ -31,7 +31,8 @@ use Rattle.wt_promise.proofs.OpenStays.{same-news}
 use Rattle.wt_promise.proofs.OwnActs.{Ends, Opens, Polls, SendsWhy, Writes}
 use Rattle.wt_promise.proofs.OwnCalls.{own-acts}
 use Rattle.wt_promise.proofs.Phases.{client-waits, phase, same-established}
-use Rattle.wt_promise.proofs.Sent.{going, head_stream}
+use Rattle.wt_promise.proofs.Shapes.{going}
+use Rattle.wt_promise.proofs.Shakes.{head_stream}
 use Rattle.wt_promise.proofs.Sessions.{Accepted, Connected, PollGives, poll-gives}
 use Rattle.wt_promise.proofs.Stays.{any-newest}
 use Rattle.wt_promise.proofs.Tables.{by-session, fits, fits-own}
