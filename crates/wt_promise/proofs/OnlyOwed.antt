@@ -4,18 +4,19 @@ use Rattle.std.specs.List.{list_any}
 use Rattle.std.specs.Option.{option_or}
 use Rattle.std.proofs.Common.{◌∙◌, ap, append_assoc, append-nil, refl, subst, sym}
 use Rattle.std.proofs.Math.Seq.{drop-append_seam}
-use Rattle.std.proofs.lemmas.Bool.{eq-eqb}
 use Rattle.std.proofs.lemmas.List.Folds.{list_any-append}
 use Rattle.wt_meaning.specs.Findings.{Classified, Faulted, Finding, SessionClosed}
 use Rattle.wt_meaning.specs.History.{History, Pair, actions_out, answers_reset, can_receive, can_send, events, is_given_up, is_open, is_reset, is_reset_of, was_finished, with_event}
 use Rattle.wt_meaning.specs.Moments.{findings}
 use Rattle.wt_meaning.specs.Rows.{answer}
-use Rattle.wt_meaning.specs.Sends.{actions_for, actions_for_all, admits, control_actions, is_of_session, moment_actions, session_finish, session_gone_actions}
+use Rattle.wt_meaning.specs.Sends.{actions_for, actions_for_all, control_actions, is_of_session, moment_actions, session_finish, session_gone_actions}
 use Rattle.wt_meaning.specs.Windows.{gone_in, is_gone, is_number, makes_gone}
 use Rattle.wt_promise.proofs.Accepted.{and-left, and-right, or-true}
 use Rattle.wt_promise.proofs.Ends.{Each, each-append, each-control, each-gone}
 use Rattle.wt_promise.proofs.Grows.{findings-add, news-dropped}
+use Rattle.wt_promise.proofs.MomentActs.{of-more}
 use Rattle.wt_promise.proofs.OpenStays.{of}
+use Rattle.wt_promise.proofs.Owed.{gone_code, same, stop-there}
 use Rattle.wt_promise.proofs.Stays.{any-newest}
 use Rattle.wt_promise.specs.Promise.{IsDue, Owed, Told, closes_with, is_end, makes_it_gone, resets_with, stops_with, tells_gone}
 use Rattle.wt_seam_spec.specs.Reports.{end_of, end_reported, is_running, stop_of}
@@ -35,9 +36,6 @@ use Rattle.wt_wire.specs.declared.side.StreamEnd.TheVariants as ends
 -- the action is due, if it ends something, in an answer of this reply and these actions
 abbrev pub Due : Side → History → Turn → Reply → List Action → Action → Type 0
 Due side h turn r as_ x = is_end x ≡ true → IsDue side h turn (answer r as_) x
-
-same : (k : ℕ) → (k == k) ≡ true
-same k = eq-eqb k k refl
 
 -- ---- a half that still runs did so before the turn
 
@@ -98,9 +96,6 @@ sent side p h k e =
 
 -- ---- what is owed
 
-stops : (id code : ℕ) → stops_with id code (actions.StopOut id code) ≡ true
-stops id code = rw (same id, same code) refl
-
 -- a finding among those of the moment makes its session gone
 among-news : (side : Side) (h : History) (p : Pair) (s : ℕ) (before after : List Finding) (f : Finding) → findings side (p ∷ h) ≡ findings side h ++ (before ++ f ∷ after) → makes_gone s f ≡ true
     → makes_it_gone side h p.turn p.answer s ≡ true
@@ -109,15 +104,6 @@ among-news side h p s before after f e m =
     (ap (list_any (makes_gone s)) (ap (drop (length (findings side h))) e ∙ drop-append_seam (findings side h) (before ++ f ∷ after))
     ∙ list_any-append (makes_gone s) before (f ∷ after) ∙ ap (λ (b : Bool). list_any (makes_gone s) before || (b || list_any (makes_gone s) after)) m ∙ or-true (list_any (makes_gone s) before))
     ∙ or-true (is_number s (gone_in h p.turn p.answer.reply))
-
--- more findings leave a session its streams
-kept : (h : History) (found later : List Finding) (s k : ℕ) → is_of_session h found s k ≡ true → is_of_session h (found ++ later) s k ≡ true
-kept h found later s k e = by (list_any (admits s k) found) (list_any (admits s k) later) (is_of_session h [] s k) (list_any-append (admits s k) found later) e
-  where
-    by : (a b c : Bool) → list_any (admits s k) (found ++ later) ≡ (a || b) → (a || c) ≡ true → (list_any (admits s k) (found ++ later) || c) ≡ true
-    by true b c q o = rw q refl
-    by false true c q o = rw q refl
-    by false false c q o = rw q o
 
 module _ (side : Side) (h : History) (turn : Turn) (r : Reply) (as_ bs : List Action) where
   -- what goes out for the streams of a session that a finding makes gone
@@ -132,24 +118,21 @@ module _ (side : Side) (h : History) (turn : Turn) (r : Reply) (as_ bs : List Ac
 
       mine : (k : ℕ) → is_of_session (of turn r bs ∷ h) (findings side h ++ before) s k ≡ true → is_of_session (of turn r as_ ∷ h) (findings side (of turn r as_ ∷ h)) s k ≡ true
       mine k o = ap (λ (found : List Finding). is_of_session (of turn r as_ ∷ h) found s k) (e ∙ sym (append_assoc (findings side h) before (f ∷ after)))
-          ∙ kept (of turn r as_ ∷ h) (findings side h ++ before) (f ∷ after) s k o
+          ∙ of-more (of turn r as_ ∷ h) (findings side h ++ before) (f ∷ after) s k o
 
   due-for : (before after : List Finding) (f : Finding) → findings side (of turn r as_ ∷ h) ≡ findings side h ++ (before ++ f ∷ after)
       → Each (Due side h turn r as_) (actions_for side (of turn r bs ∷ h) (findings side h ++ before) f)
   due-for before after (Classified id (verdicts.WebTransport session offset) false) e = (
-    λ q. Owed before after (Classified id (verdicts.WebTransport session offset) false) (stops_with id (code (is_gone (of turn r as_ ∷ h) (findings side h ++ before) session))) e refl
-        (stops id (code (is_gone (of turn r as_ ∷ h) (findings side h ++ before) session))),
+    λ q. Owed before after (Classified id (verdicts.WebTransport session offset) false) (stops_with id (gone_code (is_gone (of turn r as_ ∷ h) (findings side h ++ before) session))) e refl
+        (stop-there id (gone_code (is_gone (of turn r as_ ∷ h) (findings side h ++ before) session))),
     tt,
   )
-    where
-      code : Bool → ℕ
-      code gone = if gone then 0x170d7b68 else 0x3994bd84
   due-for before after (Classified id (verdicts.Refused code) keeps) e = (
-    λ q. Owed before after (Classified id (verdicts.Refused code) keeps) (stops_with id (code_of code)) e refl (stops id (code_of code)),
+    λ q. Owed before after (Classified id (verdicts.Refused code) keeps) (stops_with id (code_of code)) e refl (stop-there id (code_of code)),
     gone-due before after (Classified id (verdicts.Refused code) keeps) id e (same id),
   )
   due-for before after (Classified id (verdicts.Request headers offset) false) e = (
-    λ q. Owed before after (Classified id (verdicts.Request headers offset) false) (stops_with id 0x10b) e refl (stops id 0x10b),
+    λ q. Owed before after (Classified id (verdicts.Request headers offset) false) (stops_with id 0x10b) e refl (stop-there id 0x10b),
     gone-due before after (Classified id (verdicts.Request headers offset) false) id e (same id),
   )
   due-for before after (SessionClosed session code reason true) e = (

@@ -59,14 +59,14 @@ moment-has test n side h turn new o e t =
 
 -- ---- what each finding owes
 
-same : (k : ℕ) → (k == k) ≡ true
+pub same : (k : ℕ) → (k == k) ≡ true
 same k = eq-eqb k k refl
 
-stop-there : (id code : ℕ) → stops_with id code (actions.StopOut id code) ≡ true
+pub stop-there : (id code : ℕ) → stops_with id code (actions.StopOut id code) ≡ true
 stop-there id code = rw (same id, same code) refl
 
 -- the code for a stream that no window takes
-abbrev gone_code : Bool → ℕ
+abbrev pub gone_code : Bool → ℕ
 gone_code gone = if gone then 0x170d7b68 else 0x3994bd84
 
 owed-by : (side : Side) (h : History) (found : List Finding) (f : Finding) (test : Action → Bool) → owes h found f ≡ Some test → list_any test (actions_for side h found f) ≡ true

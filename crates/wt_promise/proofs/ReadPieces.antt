@@ -134,7 +134,7 @@ reads-piece side h k turn = record { count = 0; piece = refl; of_given = λ n. r
 
 -- ---- the whole
 
-contents-add : (p : Pair) (h : History) (k : ℕ) → (more : List ℕ) × (contents (p ∷ h) k ≡ contents h k ++ more)
+pub contents-add : (p : Pair) (h : History) (k : ℕ) → (more : List ℕ) × (contents (p ∷ h) k ≡ contents h k ++ more)
 contents-add p h k = by (is_open h) p.turn
   where
     here : (b : Bool) (piece : List ℕ) → (more : List ℕ) × ((if b then contents h k ++ piece else contents h k) ≡ contents h k ++ more)

@@ -34,7 +34,7 @@ use Rattle.wt_turn.specs.declared.turn.Turn.TheVariants as turns
 -- ---- what holds of the verdict of each finding that passes a test
 
 -- the finding's verdict is the stream's
-abbrev OneVerdict : ℕ → (Finding → Bool) → (Verdict → Type 0) → List Finding → Type 0
+abbrev pub OneVerdict : ℕ → (Finding → Bool) → (Verdict → Type 0) → List Finding → Type 0
 OneVerdict k test Good found = list_any test found ≡ true → (v : Verdict) × (verdict_of found k ≡ Some v) × Good v
 
 -- where nothing new passes, the old verdict stays
@@ -108,15 +108,15 @@ admitted-once side h s t k e f =
 -- ---- queued requests
 
 -- the verdict is a request
-data IsRequest : Verdict → Type 0 where
+pub data IsRequest : Verdict → Type 0 where
   ARequest : (headers : Fields) (offset : ℕ) → IsRequest (verdicts.Request headers offset)
 
 -- the finding queues the request
-abbrev queues : ℕ → Finding → Bool
+abbrev pub queues : ℕ → Finding → Bool
 queues k (Classified id (verdicts.Request headers offset) true) = id == k
 queues k _ = false
 
-queues-has : (k : ℕ) (found : List Finding) → has (filter_map queued_request found) k ≡ true → list_any (queues k) found ≡ true
+pub queues-has : (k : ℕ) (found : List Finding) → has (filter_map queued_request found) k ≡ true → list_any (queues k) found ≡ true
 queues-has k [] e = absurd (cc e)
 queues-has k (Classified id (verdicts.Request headers offset) true ∷ found) e = by (id == k) e (queues-has k found)
   where
@@ -148,7 +148,7 @@ request-step side h k found new (AClassified j (verdicts.Request headers offset)
         rw i (one-new k (queues k) IsRequest found more (verdicts.Request headers offset) true (ap (is_classified found) (sym i) ∙ c) (ARequest headers offset))
 request-step side h k found new (AClassified j v more p d c w m) g = one-with k (queues k) IsRequest found new (ap (list_any (queues k)) m ∙ none-queued k found v) g
 
-queued-verdict : (side : Side) (h : History) (k : ℕ) → OneVerdict k (queues k) IsRequest (findings side h)
+pub queued-verdict : (side : Side) (h : History) (k : ℕ) → OneVerdict k (queues k) IsRequest (findings side h)
 unfolding findings
 queued-verdict side [] k = λ e. absurd (cc e)
 queued-verdict side (p ∷ h) k = findings-keep side p h (OneVerdict k (queues k) IsRequest) (λ found new a n g. request-step side (p ∷ h) k found new a g) (queued-verdict side h k)
