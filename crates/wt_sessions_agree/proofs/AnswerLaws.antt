@@ -14,6 +14,7 @@ use Rattle.wt_seam_spec.specs.Streams.{local_count, local_uni}
 use Rattle.wt_sessions.specs.Answers.{actions_since}
 use Rattle.wt_sessions.specs.Driver.{apply_if, control_actions, control_sent, flush, opened_if, pending_actions}
 use Rattle.wt_sessions.specs.Effect.{log_call}
+use Rattle.wt_sessions_agree.proofs.Basics.{take-none}
 use Rattle.wt_sessions_agree.proofs.OutLaws.{acted, since-is}
 use Rattle.wt_sessions_agree.specs.Stands.{SameOut}
 use Rattle.wt_turn.specs.Log.{CallRecord, Called, Log, actions_of, events_of, with_actions}
@@ -58,21 +59,13 @@ answer-agrees side h log turn own r e =
 
 front-rest : (n c : ℕ) (xs : List ℕ) → take (c - n) (drop n xs) ≡ drop n (take c xs)
 front-rest zero c xs = let e : c - 0 ≡ c = omega arith in ap (λ (m : ℕ). take m xs) e
-front-rest (suc n) zero [] = none (0 - suc n)
-  where
-    none : (m : ℕ) → take {A = ℕ} m [] ≡ []
-    none zero = refl
-    none (suc m) = refl
+front-rest (suc n) zero [] = take-none (0 - suc n)
 front-rest (suc n) zero (b ∷ xs) = let e : 0 - suc n ≡ 0 = omega arith in ap (λ (m : ℕ). take m (drop n xs)) e ∙ none (drop n xs)
   where
     none : (ys : List ℕ) → take 0 ys ≡ []
     none [] = refl
     none (y ∷ ys) = refl
-front-rest (suc n) (suc c) [] = none (suc c - suc n)
-  where
-    none : (m : ℕ) → take {A = ℕ} m [] ≡ []
-    none zero = refl
-    none (suc m) = refl
+front-rest (suc n) (suc c) [] = take-none (suc c - suc n)
 front-rest (suc n) (suc c) (b ∷ xs) = let e : suc c - suc n ≡ c - n = omega arith in ap (λ (m : ℕ). take m (drop n xs)) e ∙ front-rest n c xs
 
 one-lt : (n : ℕ) → nat_le 1 n ≡ nat_lt 0 n

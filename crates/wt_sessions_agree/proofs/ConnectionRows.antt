@@ -239,8 +239,7 @@ module _ (side : Side) (offset : ℕ → ℕ) (h : History) (log : Log) (x : Sta
   limit-is : (s : ℕ) (o : Option DatagramFact) → payload_limit (length (varint_bytes (s / 4))) o ≡ ladders.payload_limit s o
   limit-is s None = refl
   limit-is s (Some facts.Disabled) = refl
-  limit-is s (Some facts.Unsupported) = refl
-  limit-is s (Some (facts.Limit limit)) = refl
+  limit-is s (Some _) = refl
 
   pub size-agrees : (name : Option ℕ) (s : ℕ) → poll_only side log (replies.Size (ladders.payload_limit s (datagram_fact (events_of log))))
       ≡ effect_of side h log (calls.MaxDatagramSize name) (first_row (row true (replies.Size (payload_limit (length (varint_bytes (s / 4))) (datagram_fact (events h)))) [] ∷ []))

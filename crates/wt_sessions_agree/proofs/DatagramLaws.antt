@@ -36,12 +36,7 @@ pair-of d = (d.session, d.payload)
 pub admitted-pairs : (found : List Finding) → filter_map admitted_datagram found ≡ map pair-of (filter_map admitted_in found)
 admitted-pairs [] = refl
 admitted-pairs (DatagramRead index session payload true ∷ found) = ap (λ (l : List (ℕ × List ℕ)). (session, payload) ∷ l) (admitted-pairs found)
-admitted-pairs (DatagramRead index session payload false ∷ found) = admitted-pairs found
-admitted-pairs (finds.Classified id v keeps ∷ found) = admitted-pairs found
-admitted-pairs (Dequeued id ∷ found) = admitted-pairs found
-admitted-pairs (SessionClosed session code reason by_capsule ∷ found) = admitted-pairs found
-admitted-pairs (SettingsRead ∷ found) = admitted-pairs found
-admitted-pairs (Faulted code ∷ found) = admitted-pairs found
+admitted-pairs (_ ∷ found) = admitted-pairs found
 
 pub filter-pairs : (p : ℕ → Bool) (ds : List Admitted) → filter (λ (d : ℕ × List ℕ). p d.0) (map pair-of ds) ≡ map pair-of (filter (λ (d : Admitted). p d.session) ds)
 filter-pairs p [] = refl

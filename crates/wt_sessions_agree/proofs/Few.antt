@@ -35,11 +35,7 @@ dequeues-none _ = true
 
 pub none-dequeued : (f : Finding) → dequeues-none f ≡ true → (k : ℕ) → dequeues k f ≡ false
 none-dequeued (Dequeued id) e k = absurd (cc e)
-none-dequeued (finds.Classified id v keeps) e k = refl
-none-dequeued (DatagramRead index session payload keeps) e k = refl
-none-dequeued (SessionClosed session code reason by_capsule) e k = refl
-none-dequeued SettingsRead e k = refl
-none-dequeued (Faulted code) e k = refl
+none-dequeued _ e k = refl
 
 lt-less : (a b : ℕ) → a ≤ b → nat_lt b 4 ≡ true → nat_lt a 4 ≡ true
 lt-less a b l e = grind (arith, l, e)
@@ -152,14 +148,7 @@ few-check side h kind small (Dequeue k) found false e few = by (is_dequeued foun
     by false true false e = few-list kind [] found refl few
     by false false c e = few-list kind [] found refl few
     by true b c e = few-list kind [] found refl few
-few-check side h kind small (Classify k) found false e few = absurd (cc e)
-few-check side h kind small (ReadDatagram n piece) found false e few = absurd (cc e)
-few-check side h kind small (WalkSession s) found false e few = absurd (cc e)
-few-check side h kind small LocalStop found false e few = absurd (cc e)
-few-check side h kind small ReadSettings found false e few = absurd (cc e)
-few-check side h kind small ControlFault found false e few = absurd (cc e)
-few-check side h kind small EncoderEnd found false e few = absurd (cc e)
-few-check side h kind small DecoderEnd found false e few = absurd (cc e)
+few-check side h kind small c found false e few = absurd (cc e)
 
 -- before this end is ready no check dequeues a stream
 pub plain-check : (side : Side) (h : History) (found : List Finding) (c : Check) → is_ready side h ≡ false → list_all dequeues-none (found_by side h found c) ≡ true

@@ -21,11 +21,7 @@ found-verdict k (finds.Classified id v keeps ∷ found) = by (id == k) (found-ve
         → option_or (if b then Some v else None) (verdict_of found k) ≡ (if b then Some v else tables.verdict_of k (filter_map classified_in found))
     by true e = refl
     by false e = e
-found-verdict k (Dequeued id ∷ found) = found-verdict k found
-found-verdict k (DatagramRead index session payload keeps ∷ found) = found-verdict k found
-found-verdict k (SessionClosed session code reason by_capsule ∷ found) = found-verdict k found
-found-verdict k (SettingsRead ∷ found) = found-verdict k found
-found-verdict k (Faulted code ∷ found) = found-verdict k found
+found-verdict k (_ ∷ found) = found-verdict k found
 
 pub verdicts-agree : (k : ℕ) (found : List Finding) (table : StreamTable) → IsTable found table → verdict_of found k ≡ tables.verdict_of k table.classified
 verdicts-agree k found table t = found-verdict k found ∙ ap (tables.verdict_of k) t.classified

@@ -220,15 +220,8 @@ module _ (side : Side) (h : History) (log : Log) (k : ℕ) (a : HalfAgrees h log
 
 body-agrees : (o : Option Verdict) → body_start o ≡ ladders.body_start o
 body-agrees None = refl
-body-agrees (Some (verdicts.WebTransport session offset)) = refl
 body-agrees (Some verdicts.Incomplete) = refl
-body-agrees (Some verdicts.Dropped) = refl
-body-agrees (Some (verdicts.Control offset)) = refl
-body-agrees (Some (verdicts.Encoder offset)) = refl
-body-agrees (Some (verdicts.Decoder offset)) = refl
-body-agrees (Some (verdicts.Request headers offset)) = refl
-body-agrees (Some (verdicts.Refused code)) = refl
-body-agrees (Some (verdicts.Fault code)) = refl
+body-agrees (Some _) = refl
 
 pub unread-agrees : (side : Side) (offset : ℕ → ℕ) (h : History) (log : Log) (k : ℕ) → Stands side offset h log → unread side h k ≡ ladders.unread_body side log k
 unread-agrees side offset h log k s =

@@ -57,20 +57,7 @@ module _ (given del : ℕ → Bool) (same : (k : ℕ) → given k ≡ del k) whe
       by : (b : Bool) → del id ≡ b → First found → First (finds.Classified id (verdicts.Request headers offset) true ∷ found)
       by true e again = rw (same id, e) again
       by false e again = rw (same id, e) refl
-  first-request (finds.Classified id (verdicts.Request headers offset) false ∷ found) = first-request found
-  first-request (finds.Classified id (verdicts.WebTransport s o) keeps ∷ found) = first-request found
-  first-request (finds.Classified id (verdicts.Refused c) keeps ∷ found) = first-request found
-  first-request (finds.Classified id (verdicts.Control o) keeps ∷ found) = first-request found
-  first-request (finds.Classified id (verdicts.Encoder o) keeps ∷ found) = first-request found
-  first-request (finds.Classified id (verdicts.Decoder o) keeps ∷ found) = first-request found
-  first-request (finds.Classified id verdicts.Incomplete keeps ∷ found) = first-request found
-  first-request (finds.Classified id verdicts.Dropped keeps ∷ found) = first-request found
-  first-request (finds.Classified id (verdicts.Fault c) keeps ∷ found) = first-request found
-  first-request (SessionClosed session code reason by_capsule ∷ found) = first-request found
-  first-request (Dequeued id ∷ found) = first-request found
-  first-request (DatagramRead index session payload keeps ∷ found) = first-request found
-  first-request (SettingsRead ∷ found) = first-request found
-  first-request (Faulted code ∷ found) = first-request found
+  first-request (_ ∷ found) = first-request found
 
 module _ (side : Side) (offset : ℕ → ℕ) (h : History) (log : Log) (x : Stands side offset h log) where
   next-request : next_request side h ≡ request-of (ladders.queued_requests side log)

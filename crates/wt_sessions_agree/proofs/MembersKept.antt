@@ -152,10 +152,7 @@ gone-why k (SessionClosed t code reason by_capsule ∷ found) e = by (t == k) e 
         → (is_classified found k || (c || list_any (closes_session k) found)) ≡ true
     by true q again = or-true (is_classified found k)
     by false q again = again q
-gone-why k (Dequeued j ∷ found) e = gone-why k found e
-gone-why k (DatagramRead n t payload keeps ∷ found) e = gone-why k found e
-gone-why k (SettingsRead ∷ found) e = gone-why k found e
-gone-why k (Faulted code ∷ found) e = gone-why k found e
+gone-why k (_ ∷ found) e = gone-why k found e
 
 -- a stream without a verdict is no gone session's
 pub good-fresh : (side : Side) (h : History) (calls : CallView) (found : List Finding) → Good side h calls found → (k : ℕ) → is_peers side k ≡ true → is_classified found k ≡ false → is_gone h found k ≡ false

@@ -9,8 +9,10 @@ use Rattle.wt_meaning.specs.History.{History, exists, is_handed_out, stream_coun
 use Rattle.wt_meaning.specs.Sends.{admits, is_of_session, numbers_from, session_gone_actions, stream_gone_actions, stream_ids}
 use Rattle.wt_meaning.specs.Sends as sends
 use Rattle.wt_meaning.specs.Windows.{is_gone}
+use Rattle.wt_promise.proofs.Actions.{or-assoc}
 use Rattle.wt_sessions.specs.StreamTable.{CallView, Classified, StreamTable, TransportView, Waiting, dispatched_streams, gone_actions, stream_ends, streams_of, waits_in, with_id, with_ids}
 use Rattle.wt_sessions.specs.StreamTable as tables
+use Rattle.wt_sessions_agree.proofs.Basics.{and-false, or-turned}
 use Rattle.wt_sessions_agree.proofs.WindowLaws.{gone-agrees}
 use Rattle.wt_sessions_agree.specs.Agrees.{IsTable, classified_in}
 use Rattle.wt_sessions_agree.specs.Members.{AllAbove, Ascends, HalvesSeen, MembersIn, has_id, is_opened_for}
@@ -29,26 +31,15 @@ has-with j k (x ∷ xs) = by (k == x) (nat_lt k x) refl (has-with j k xs)
     again true b = refl
     again false b = refl
 
-    turned : (a b c : Bool) → (a || (b || c)) ≡ (b || (a || c))
-    turned true true c = refl
-    turned true false c = refl
-    turned false b c = refl
-
     by : (b l : Bool) → (k == x) ≡ b → has_id j (with_id k xs) ≡ (k == j || has_id j xs)
         → has_id j (if b then x ∷ xs else (if l then k ∷ x ∷ xs else x ∷ with_id k xs)) ≡ (k == j || (x == j || has_id j xs))
     by true l e q = rw (eqb-true k x e) (again (x == j) (has_id j xs))
     by false true e q = refl
-    by false false e q = ap (λ (b : Bool). x == j || b) q ∙ turned (x == j) (k == j) (has_id j xs)
+    by false false e q = ap (λ (b : Bool). x == j || b) q ∙ or-turned (x == j) (k == j) (has_id j xs)
 
 pub has-with-ids : (j : ℕ) (ks ids : List ℕ) → has_id j (with_ids ks ids) ≡ (has_id j ks || has_id j ids)
 has-with-ids j [] ids = refl
-has-with-ids j (k ∷ ks) ids = has-with-ids j ks (with_id k ids) ∙ ap (λ (b : Bool). has_id j ks || b) (has-with j k ids) ∙ turned (has_id j ks) (k == j) (has_id j ids)
-  where
-    turned : (a b c : Bool) → (a || (b || c)) ≡ ((b || a) || c)
-    turned true true c = refl
-    turned true false c = refl
-    turned false true c = refl
-    turned false false c = refl
+has-with-ids j (k ∷ ks) ids = has-with-ids j ks (with_id k ids) ∙ ap (λ (b : Bool). has_id j ks || b) (has-with j k ids) ∙ or-turned (has_id j ks) (k == j) (has_id j ids) ∙ or-assoc (k == j) (has_id j ks) (has_id j ids)
 
 -- ---- lists that ascend
 
@@ -112,11 +103,7 @@ filter-ascends p (x ∷ xs) g = by (p x) (filter-ascends p xs g.1)
     by false q = q
 
 has-filter : (p : ℕ → Bool) (k : ℕ) (xs : List ℕ) → has_id k (filter p xs) ≡ (p k && has_id k xs)
-has-filter p k [] = none (p k)
-  where
-    none : (b : Bool) → false ≡ (b && false)
-    none true = refl
-    none false = refl
+has-filter p k [] = sym (and-false (p k))
 has-filter p k (x ∷ xs) = by (x == k) (p x) refl refl (has-filter p k xs)
   where
     by : (b c : Bool) → (x == k) ≡ b → p x ≡ c → has_id k (filter p xs) ≡ (p k && has_id k xs) → has_id k (if c then x ∷ filter p xs else filter p xs) ≡ (p k && (b || has_id k xs))
@@ -214,16 +201,12 @@ module _ (calls : CallView) (g : ℕ → Bool) (s : ℕ) (stays : g s ≡ false)
       same : id == k ≡ true → calls.accepted k ≡ calls.accepted id
       same e = ap calls.accepted (sym (eqb-true id k e))
 
-      none : (b : Bool) → (b && false) ≡ false
-      none true = refl
-      none false = refl
-
       by : (x y z u : Bool) → calls.accepted id ≡ x → g ses ≡ y → (ses == s) ≡ z → (id == k) ≡ u → Waits k found → Waits k (finds.Classified id (verdicts.WebTransport ses o) true ∷ found)
       by true y z false a b c d again = rw (a, d) again
       by true y z true a b c d again =
           let w : calls.accepted k ≡ true = same d ∙ a in
-          let n : (list_any (admits s k) found && not (calls.accepted k)) ≡ false = rw w (none (list_any (admits s k) found)) in
-          rw a (again ∙ n ∙ sym (rw w (none (list_any (admits s k) (finds.Classified id (verdicts.WebTransport ses o) true ∷ found)))))
+          let n : (list_any (admits s k) found && not (calls.accepted k)) ≡ false = rw w (and-false (list_any (admits s k) found)) in
+          rw a (again ∙ n ∙ sym (rw w (and-false (list_any (admits s k) (finds.Classified id (verdicts.WebTransport ses o) true ∷ found)))))
       by false true true u a b c d again = absurd (let r : true ≡ false = sym b ∙ ap g (eqb-true ses s c) ∙ stays in cc r)
       by false true false true a b c d again = rw (a, b, c, d) again
       by false true false false a b c d again = rw (a, b, c, d) again
@@ -231,20 +214,7 @@ module _ (calls : CallView) (g : ℕ → Bool) (s : ℕ) (stays : g s ≡ false)
       by false false true false a b c d again = rw (a, b, c, d) again
       by false false false true a b c d again = rw (a, b, c, d) again
       by false false false false a b c d again = rw (a, b, c, d) again
-  waiting-has k (finds.Classified id (verdicts.WebTransport ses o) false ∷ found) = waiting-has k found
-  waiting-has k (finds.Classified id (verdicts.Refused c) keeps ∷ found) = waiting-has k found
-  waiting-has k (finds.Classified id (verdicts.Request f o) keeps ∷ found) = waiting-has k found
-  waiting-has k (finds.Classified id (verdicts.Control o) keeps ∷ found) = waiting-has k found
-  waiting-has k (finds.Classified id (verdicts.Encoder o) keeps ∷ found) = waiting-has k found
-  waiting-has k (finds.Classified id (verdicts.Decoder o) keeps ∷ found) = waiting-has k found
-  waiting-has k (finds.Classified id verdicts.Incomplete keeps ∷ found) = waiting-has k found
-  waiting-has k (finds.Classified id verdicts.Dropped keeps ∷ found) = waiting-has k found
-  waiting-has k (finds.Classified id (verdicts.Fault c) keeps ∷ found) = waiting-has k found
-  waiting-has k (SessionClosed session code reason by_capsule ∷ found) = waiting-has k found
-  waiting-has k (Dequeued id ∷ found) = waiting-has k found
-  waiting-has k (DatagramRead index session payload keeps ∷ found) = waiting-has k found
-  waiting-has k (SettingsRead ∷ found) = waiting-has k found
-  waiting-has k (Faulted code ∷ found) = waiting-has k found
+  waiting-has k (_ ∷ found) = waiting-has k found
 
 -- ---- the same streams
 

@@ -12,7 +12,7 @@ use Rattle.wt_meaning.specs.Moments.{after_checks, checks, findings, ids_from}
 use Rattle.wt_meaning.specs.Rows.{first_row}
 use Rattle.wt_meaning.specs.Sends.{action_if, moment_actions}
 use Rattle.wt_meaning.specs.Windows.{is_established, last_request, session_in}
-use Rattle.wt_promise.proofs.Actions.{none-append, none-if, none-sent, opened-next}
+use Rattle.wt_promise.proofs.Actions.{none-append, none-if, none-sent, opened-next, or-assoc}
 use Rattle.wt_promise.proofs.Few.{APoll, AnAccept, SessionCall, session-call}
 use Rattle.wt_promise.proofs.Grows.{checks-add, more}
 use Rattle.wt_promise.proofs.Sessions.{Accepted, AcceptGives, ConnectGives, Connected, PollGives, accept-gives, poll-gives}
@@ -27,6 +27,7 @@ use Rattle.wt_sessions.specs.Driver.{call_view, gives_up, is_moment, log_and_flu
 use Rattle.wt_sessions.specs.Handshake.{handshake_state}
 use Rattle.wt_sessions.specs.StreamTable.{CallView, Session, was_established}
 use Rattle.wt_sessions_agree.proofs.AnswerLaws.{sent-then}
+use Rattle.wt_sessions_agree.proofs.Basics.{or-turned}
 use Rattle.wt_sessions_agree.proofs.CallKeeps.{accepted-after, call-keeps, ended-after, given_up-after, reset-from}
 use Rattle.wt_sessions_agree.proofs.CallTells.{reset-goes}
 use Rattle.wt_sessions_agree.proofs.CallTurns as plain
@@ -103,12 +104,6 @@ gives-open side h c s e = by c (session-call c (own_answer side h (turns.Call c)
         (open-poll side h s _ (last_begun h) (poll-gives side h (last_begun h) s (ap (λ (x : Call). session_in (own_answer side h (turns.Call x)).reply) (sym q) ∙ f)))
 
 -- ---- the setting
-
-or-three : (a b c : Bool) → (a || (b || c)) ≡ ((b || a) || c)
-or-three true true c = refl
-or-three true false c = refl
-or-three false true c = refl
-or-three false false c = refl
 
 module _ (side : Side) (offset : ℕ → ℕ) (h : History) (log : Log) (x : Stands side offset h log) (hist : IsHistory side h) (members : MembersIn side h (call_view log) (findings side h))
     (c : Call) (lawful : is_lawful side h (turns.Call c) ≡ true) where
@@ -204,7 +199,8 @@ module _ (side : Side) (offset : ℕ → ℕ) (h : History) (log : Log) (x : Sta
       ap (list_any logs.ends_by) (flush-as side front (Called left)) ∙ ended-acted (sent-then side now) now
       ∙ ap (λ (as_ : List Action). list_any closes as_ || list_any logs.ends_by now) (plain.sent-same side offset h log x c pending)
       ∙ ap (λ (b : Bool). list_any closes (moment_actions side (pair ∷ h)) || b) (plain.at-ends side offset h log x c)
-      ∙ or-three (list_any closes (moment_actions side (pair ∷ h))) (list_any closes mine.actions) (list_any logs.ends_by log)
+      ∙ or-turned (list_any closes (moment_actions side (pair ∷ h))) (list_any closes mine.actions) (list_any logs.ends_by log)
+      ∙ or-assoc (list_any closes mine.actions) (list_any closes (moment_actions side (pair ∷ h))) (list_any logs.ends_by log)
       ∙ ap (λ (b : Bool). b || list_any logs.ends_by log) (sym (list_any-append closes mine.actions (moment_actions side (pair ∷ h))))
 
   -- what was found is in order by turns and replies, whatever went out

@@ -59,11 +59,7 @@ stream-fault-keeps Good kept found before v g = by v
     by (verdicts.Control offset) = once (is_some (first_of control_in before)) h3.StreamCreation
     by (verdicts.Encoder offset) = once (is_some (first_of encoder_in before)) h3.StreamCreation
     by (verdicts.Decoder offset) = once (is_some (first_of decoder_in before)) h3.StreamCreation
-    by (verdicts.WebTransport session offset) = none
-    by (verdicts.Request headers offset) = none
-    by (verdicts.Refused code) = none
-    by verdicts.Incomplete = none
-    by verdicts.Dropped = none
+    by _ = none
 
 -- ---- datagrams
 

@@ -48,13 +48,7 @@ one-more k (actions.Send id piece) before = by (id == k)
     by : (b : Bool) → (if b then sent_on before k ++ piece else sent_on before k) ≡ sent_on before k ++ (if b then piece else [])
     by true = refl
     by false = sym (append-nil (sent_on before k))
-one-more k (actions.Dial address name) before = sym (append-nil (sent_on before k))
-one-more k (actions.Opened id) before = sym (append-nil (sent_on before k))
-one-more k (actions.Finish id) before = sym (append-nil (sent_on before k))
-one-more k (actions.ResetOut id code) before = sym (append-nil (sent_on before k))
-one-more k (actions.StopOut id code) before = sym (append-nil (sent_on before k))
-one-more k (actions.DatagramOut piece) before = sym (append-nil (sent_on before k))
-one-more k (actions.Close code reason) before = sym (append-nil (sent_on before k))
+one-more k a before = sym (append-nil (sent_on before k))
 
 sent-newest : (k : ℕ) (xs before : List Action) → sent_on (newest_first xs before) k ≡ sent_on before k ++ sent-in k xs
 sent-newest k [] before = sym (append-nil (sent_on before k))

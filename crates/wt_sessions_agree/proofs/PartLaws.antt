@@ -29,7 +29,7 @@ use Rattle.wt_proto.specs.declared.response_walk.ResponseWalk.{ResponseWalk}
 use Rattle.wt_proto.specs.declared.verdict.Verdict.{Verdict}
 use Rattle.wt_seam_spec.specs.Reports.{end_of}
 use Rattle.wt_promise.proofs.Phases.{last-given}
-use Rattle.wt_sessions_agree.proofs.Basics.{or-first}
+use Rattle.wt_sessions_agree.proofs.Basics.{is-none, or-first}
 use Rattle.wt_sessions_agree.specs.Orderly.{begins_at, is_of_peer}
 use Rattle.wt_turn.specs.declared.answer.Answer.{Answer}
 use Rattle.wt_turn.specs.declared.turn.Turn.{Turn}
@@ -167,15 +167,11 @@ queued-now h k found more headers offset b d c w e = record {
   offset = offset;
   is_verdict =
       first_of-append (verdict_in k) found (Classified k (verdicts.Request headers offset) b ∷ more)
-      ∙ ap (λ (o : Option Verdict). option_or o (first_of (verdict_in k) (Classified k (verdicts.Request headers offset) b ∷ more))) (none (verdict_of found k) c) ∙ here;
+      ∙ ap (λ (o : Option Verdict). option_or o (first_of (verdict_in k) (Classified k (verdicts.Request headers offset) b ∷ more))) (is-none (verdict_of found k) c) ∙ here;
   is_bi = request-bi h k headers offset w;
   came = list_any-append (dequeues k) found (Classified k (verdicts.Request headers offset) b ∷ more) ∙ ap (λ (x : Bool). x || list_any (dequeues k) (Classified k (verdicts.Request headers offset) b ∷ more)) d;
 }
   where
-    none : (o : Option Verdict) → is_some o ≡ false → o ≡ None
-    none None q = refl
-    none (Some w) q = absurd (cc q)
-
     here : first_of (verdict_in k) (Classified k (verdicts.Request headers offset) b ∷ more) ≡ Some (verdicts.Request headers offset)
     here = ap (λ (x : Bool). option_or (if x then Some (verdicts.Request headers offset) else None) (first_of (verdict_in k) more)) (eq-eqb k k refl)
 

@@ -91,18 +91,7 @@ module _ (side : Side) (h : History) (o : is_open h ≡ true) (r : ready-of side
                 = ap (λ (es : List Event). nat_le (credit es (local_uni side)) total) all-same ∙ ap (λ (k : ℕ). nat_le (credit (all_events h) k) total) (sym i)
                 ∙ rises (is_connected (all_events h)) (not (is_lost h)) (can_send side h id) (nat_le (credit (all_events h) id) total) (nat_lt total (2 ^ 62)) l in
           rw e (three (is_connected (events h)) (nat_le 1 (unis_allowed (events h))) (nat_le 25 total) connected allowed (le-more 25 (credit (events h) (local_uni side)) total covered c))
-  grows (turns.Bytes id piece) l = r
-  grows (turns.Call c) l = r
-  grows turns.PeerUni l = r
-  grows turns.PeerBi l = r
-  grows (turns.End id) l = r
-  grows (turns.Reset id code) l = r
-  grows (turns.Stop id code) l = r
-  grows (turns.Acked id) l = r
-  grows (turns.Datagram piece) l = r
-  grows (turns.MaxBi total) l = r
-  grows (turns.DatagramLimit fact) l = r
-  grows (turns.Loss reason) l = r
+  grows _ l = r
 
 pub ready-stays : (side : Side) (h : History) (turn : Turn) (a : Answer) → is_lawful side h turn ≡ true → is_ready side h ≡ true → is_ready side (with_pair h turn a) ≡ true
 ready-stays side h turn a l r = by (is_open h) refl

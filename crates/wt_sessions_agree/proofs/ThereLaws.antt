@@ -127,14 +127,7 @@ module _ (side : Side) (h : History) where
       by : (b : Bool) → AllThere (found ++ (if b then Dequeued j ∷ [] else []))
       by true = new
       by false = plain-there [] found refl there
-  check-there (Classify k) found e false o there = absurd (cc o)
-  check-there (ReadDatagram n piece) found e false o there = absurd (cc o)
-  check-there (WalkSession s) found e false o there = absurd (cc o)
-  check-there LocalStop found e false o there = absurd (cc o)
-  check-there ReadSettings found e false o there = absurd (cc o)
-  check-there ControlFault found e false o there = absurd (cc o)
-  check-there EncoderEnd found e false o there = absurd (cc o)
-  check-there DecoderEnd found e false o there = absurd (cc o)
+  check-there c found e false o there = absurd (cc o)
 
   after-there : (cs : List Check) (found : List Finding) → list_all (asks-there side h) cs ≡ true → AllThere found → AllThere (after_checks side h cs found)
   after-there [] found a there = there

@@ -103,13 +103,7 @@ unsent-reset k _ = false
 
 sent-resets : (k : ℕ) (a : Action) → sends.resets k (Sent a) ≡ is_reset_of k a
 sent-resets k (actions.ResetOut id code) = refl
-sent-resets k (actions.Dial address name) = refl
-sent-resets k (actions.Opened id) = refl
-sent-resets k (actions.Send id piece) = refl
-sent-resets k (actions.Finish id) = refl
-sent-resets k (actions.StopOut id code) = refl
-sent-resets k (actions.DatagramOut piece) = refl
-sent-resets k (actions.Close code reason) = refl
+sent-resets k a = refl
 
 called-resets : (k : ℕ) (r : CallRecord) → sends.resets k (Called r) ≡ unsent-reset k r
 called-resets k (ResetUnsent id code) = refl

@@ -50,20 +50,7 @@ module _ (calls : CallView) (a g g2 : ℕ → Bool) (acc : (k : ℕ) → calls.a
       by true y e f again = rw (acc id, e) again
       by false true e f again = rw (acc id, e, gone s, f) again
       by false false e f again = rw (acc id, e, gone s, f) (ap (λ (l : List (ℕ × ℕ)). (id, s) ∷ l) again)
-  waits-found (finds.Classified id (verdicts.WebTransport s o) false ∷ found) = waits-found found
-  waits-found (finds.Classified id (verdicts.Refused c) keeps ∷ found) = waits-found found
-  waits-found (finds.Classified id (verdicts.Request f o) keeps ∷ found) = waits-found found
-  waits-found (finds.Classified id (verdicts.Control o) keeps ∷ found) = waits-found found
-  waits-found (finds.Classified id (verdicts.Encoder o) keeps ∷ found) = waits-found found
-  waits-found (finds.Classified id (verdicts.Decoder o) keeps ∷ found) = waits-found found
-  waits-found (finds.Classified id verdicts.Incomplete keeps ∷ found) = waits-found found
-  waits-found (finds.Classified id verdicts.Dropped keeps ∷ found) = waits-found found
-  waits-found (finds.Classified id (verdicts.Fault c) keeps ∷ found) = waits-found found
-  waits-found (SessionClosed session code reason by_capsule ∷ found) = waits-found found
-  waits-found (Dequeued id ∷ found) = waits-found found
-  waits-found (DatagramRead index session payload keeps ∷ found) = waits-found found
-  waits-found (SettingsRead ∷ found) = waits-found found
-  waits-found (Faulted code ∷ found) = waits-found found
+  waits-found (_ ∷ found) = waits-found found
 
 pub waiting-agree : (h : History) (calls : CallView) (found : List Finding) (table : StreamTable) → CallsAgree h calls → IsTable found table → map stream-pair (tables.waiting_streams calls table) ≡ waiting_streams h found
 waiting-agree h calls found table c t =
@@ -125,11 +112,7 @@ closed-found s (SessionClosed session code reason by_capsule ∷ found) = by (se
         ≡ closed-error (cond b (Some (record { id = session; code = code; reason = reason })) (find (is_closed s) (filter_map closed_in found)))
     by true e = refl
     by false e = e
-closed-found s (finds.Classified id v keeps ∷ found) = closed-found s found
-closed-found s (Dequeued id ∷ found) = closed-found s found
-closed-found s (DatagramRead index session payload keeps ∷ found) = closed-found s found
-closed-found s (SettingsRead ∷ found) = closed-found s found
-closed-found s (Faulted code ∷ found) = closed-found s found
+closed-found s (_ ∷ found) = closed-found s found
 
 pub error-is : (side : Side) (offset : ℕ → ℕ) (h : History) (log : Log) (s : ℕ) → Stands side offset h log → session_error side h s ≡ effects.session_error side log s
 error-is side offset h log s x =

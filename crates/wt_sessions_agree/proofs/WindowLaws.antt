@@ -31,19 +31,9 @@ gone-found : (s : ℕ) (found : List Finding) → list_any (makes_gone s) found 
 gone-found s [] = refl
 gone-found s (finds.Classified id (verdicts.Refused code) keeps ∷ found) = rw (and-true (id == s)) (or-left-true _ (list_any (is_closed s) (filter_map closed_in found)) _ (gone-found s found) (id == s))
 gone-found s (finds.Classified id (verdicts.Request f o) false ∷ found) = rw (and-true (id == s)) (or-left-true _ (list_any (is_closed s) (filter_map closed_in found)) _ (gone-found s found) (id == s))
-gone-found s (finds.Classified id (verdicts.Request f o) true ∷ found) = rw (and-false (id == s)) (gone-found s found)
-gone-found s (finds.Classified id (verdicts.WebTransport n o) keeps ∷ found) = rw (and-false (id == s)) (gone-found s found)
-gone-found s (finds.Classified id (verdicts.Control o) keeps ∷ found) = rw (and-false (id == s)) (gone-found s found)
-gone-found s (finds.Classified id (verdicts.Encoder o) keeps ∷ found) = rw (and-false (id == s)) (gone-found s found)
-gone-found s (finds.Classified id (verdicts.Decoder o) keeps ∷ found) = rw (and-false (id == s)) (gone-found s found)
-gone-found s (finds.Classified id verdicts.Incomplete keeps ∷ found) = rw (and-false (id == s)) (gone-found s found)
-gone-found s (finds.Classified id verdicts.Dropped keeps ∷ found) = rw (and-false (id == s)) (gone-found s found)
-gone-found s (finds.Classified id (verdicts.Fault c) keeps ∷ found) = rw (and-false (id == s)) (gone-found s found)
+gone-found s (finds.Classified id _ keeps ∷ found) = rw (and-false (id == s)) (gone-found s found)
 gone-found s (SessionClosed session code reason by_capsule ∷ found) = or-in-front _ (list_any (is_closed s) (filter_map closed_in found)) _ (gone-found s found) (session == s)
-gone-found s (Dequeued id ∷ found) = gone-found s found
-gone-found s (DatagramRead index session payload keeps ∷ found) = gone-found s found
-gone-found s (SettingsRead ∷ found) = gone-found s found
-gone-found s (Faulted code ∷ found) = gone-found s found
+gone-found s (_ ∷ found) = gone-found s found
 
 pub gone-agrees : (h : History) (calls : CallView) (found : List Finding) (table : StreamTable) (s : ℕ) → CallsAgree h calls → IsTable found table → tables.is_gone calls table s ≡ is_gone h found s
 gone-agrees h calls found table s c t = rw (c.ended s, gone-found s found, t.closed, t.classified) refl
@@ -64,20 +54,7 @@ module _ (calls : CallView) (a g g2 p q : ℕ → Bool) (acc : (k : ℕ) → cal
       by false true z e f r again = rw (acc id, e, gone s, f) again
       by false false true e f r again = rw (acc id, e, gone s, f, pq s f, r) (ap suc again)
       by false false false e f r again = rw (acc id, e, gone s, f, pq s f, r) again
-  window-count (finds.Classified id (verdicts.WebTransport s o) false ∷ found) = window-count found
-  window-count (finds.Classified id (verdicts.Refused c) keeps ∷ found) = window-count found
-  window-count (finds.Classified id (verdicts.Request f o) keeps ∷ found) = window-count found
-  window-count (finds.Classified id (verdicts.Control o) keeps ∷ found) = window-count found
-  window-count (finds.Classified id (verdicts.Encoder o) keeps ∷ found) = window-count found
-  window-count (finds.Classified id (verdicts.Decoder o) keeps ∷ found) = window-count found
-  window-count (finds.Classified id verdicts.Incomplete keeps ∷ found) = window-count found
-  window-count (finds.Classified id verdicts.Dropped keeps ∷ found) = window-count found
-  window-count (finds.Classified id (verdicts.Fault c) keeps ∷ found) = window-count found
-  window-count (SessionClosed session code reason by_capsule ∷ found) = window-count found
-  window-count (Dequeued id ∷ found) = window-count found
-  window-count (DatagramRead index session payload keeps ∷ found) = window-count found
-  window-count (SettingsRead ∷ found) = window-count found
-  window-count (Faulted code ∷ found) = window-count found
+  window-count (_ ∷ found) = window-count found
 
 pub window-agrees : (h : History) (calls : CallView) (found : List Finding) (table : StreamTable) (s : ℕ) → CallsAgree h calls → IsTable found table
     → has_room (dispatched_streams calls table) s (map (λ (w : Waiting). w.session) (tables.waiting_streams calls table)) ≡ nat_lt (streams_in_window h found s) 16
@@ -104,20 +81,7 @@ module _ (g g2 : ℕ → Bool) (gone : (s : ℕ) → g2 s ≡ g s) where
       by : (x : Bool) → g id ≡ x → Held found → Held (finds.Classified id (verdicts.Request f o) true ∷ found)
       by true e again = rw (gone id, e) again
       by false e again = rw (gone id, e) (ap suc again)
-  held-count (finds.Classified id (verdicts.Request f o) false ∷ found) = held-count found
-  held-count (finds.Classified id (verdicts.WebTransport s o) keeps ∷ found) = held-count found
-  held-count (finds.Classified id (verdicts.Refused c) keeps ∷ found) = held-count found
-  held-count (finds.Classified id (verdicts.Control o) keeps ∷ found) = held-count found
-  held-count (finds.Classified id (verdicts.Encoder o) keeps ∷ found) = held-count found
-  held-count (finds.Classified id (verdicts.Decoder o) keeps ∷ found) = held-count found
-  held-count (finds.Classified id verdicts.Incomplete keeps ∷ found) = held-count found
-  held-count (finds.Classified id verdicts.Dropped keeps ∷ found) = held-count found
-  held-count (finds.Classified id (verdicts.Fault c) keeps ∷ found) = held-count found
-  held-count (SessionClosed session code reason by_capsule ∷ found) = held-count found
-  held-count (Dequeued id ∷ found) = held-count found
-  held-count (DatagramRead index session payload keeps ∷ found) = held-count found
-  held-count (SettingsRead ∷ found) = held-count found
-  held-count (Faulted code ∷ found) = held-count found
+  held-count (_ ∷ found) = held-count found
 
 -- ---- so a stream keeps its place in both or in none
 
