@@ -31,10 +31,11 @@ use Rattle.wt_sessions_agree.proofs.Basics.{or-none}
 use Rattle.wt_sessions_agree.proofs.CallOpenings.{opening-next, opening-of, unfailed-next}
 use Rattle.wt_sessions_agree.proofs.CallReplies.{suits-own}
 use Rattle.wt_sessions_agree.proofs.CallTells.{ended-by, priority-by, read-as, reset-by, reset-goes, stopped-by, told-if}
+use Rattle.wt_sessions_agree.proofs.DoneStays.{done-before, told-resets}
 use Rattle.wt_sessions_agree.proofs.OutLaws.{any-newest, same-out}
 use Rattle.wt_sessions_agree.proofs.RecordLaws.{accepted-by, established-by, requested-by}
 use Rattle.wt_sessions_agree.proofs.TransportLaws.{called-contents, called-events}
-use Rattle.wt_sessions_agree.proofs.TurnKeeps.{resets-apart, told-resets, unsent-reset}
+use Rattle.wt_sessions_agree.proofs.TurnKeeps.{resets-apart, unsent-reset}
 use Rattle.wt_sessions_agree.specs.Agrees.{Agrees, IsTable}
 use Rattle.wt_sessions_agree.specs.Orderly.{Orderly, session_at}
 use Rattle.wt_sessions_agree.specs.Records.{record_of}
@@ -132,35 +133,10 @@ module _ (side : Side) (offset : ℕ → ℕ) (h : History) (log : Log) (x : Sta
 
     -- ---- halves
 
-    -- a reset went out in both, or was told
-    reset-more : (k : ℕ) → is_reset h k ≡ true → is_reset after k ≡ true
-    reset-more k e =
-        more (list_any (is_reset_of k) (actions_out h)) (list_any (is_reset_of k) (join_all [] all_sent)) (told-resets h k) (list_any (is_reset_of k) (actions_out after))
-        (any-newest (is_reset_of k) (join_all [] all_sent) (actions_out h)) (answers_reset k (turns.Call c) own.reply) e
-      where
-        more : (a b t z : Bool) → z ≡ (a || b) → (ar : Bool) → (a || t) ≡ true → (z || (ar || t)) ≡ true
-        more true b t z q ar f = rw q refl
-        more false true true z q ar f = rw q refl
-        more false false true z q true f = rw q refl
-        more false false true z q false f = rw q refl
-        more false b false z q ar f = absurd (cc f)
-
-    done-before : (k : ℕ) → is_done after k ≡ false → is_done h k ≡ false
-    done-before k d = by (is_reset h k) refl (was_finished h k) refl (is_acknowledged (events h) k) refl
-      where
-        by : (r : Bool) → is_reset h k ≡ r → (f : Bool) → was_finished h k ≡ f → (a : Bool) → is_acknowledged (events h) k ≡ a → (r || (f && a)) ≡ false
-        by true e f g a i = absurd (let q : is_done after k ≡ true = ap (λ (b : Bool). b || (was_finished after k && is_acknowledged (events after) k)) (reset-more k e) in cc (sym q ∙ d))
-        by false e true g true i = absurd (
-            let w : was_finished after k ≡ true = any-newest (sends.finishes k) (join_all [] all_sent) (actions_out h) ∙ ap (λ (b : Bool). b || list_any (sends.finishes k) (join_all [] all_sent)) g in
-            let j : is_acknowledged (events after) k ≡ true = ap (λ (es : List logs.Event). is_acknowledged es k) (called-events h c (next side h (turns.Call c))) ∙ i in
-            let q : is_done after k ≡ true = ap (λ (b : Bool). is_reset after k || (b && is_acknowledged (events after) k)) w ∙ ap (λ (b : Bool). is_reset after k || b) j ∙ or-true (is_reset after k) in cc (sym q ∙ d))
-        by false e true g false i = refl
-        by false e false g a i = refl
-
     pub priority-after : (k : ℕ) → is_done after k ≡ false → unwrap_or (first_of (λ (p : Pair). priority_by k p.turn p.answer.reply) after) (pos 0) ≡ sends.priority_of rs k
     priority-after k d =
-        by (priority_by k (turns.Call c) own.reply) (x.halves.priority k (done-before k d))
-        ∙ ap (λ (o : Option ℤ). unwrap_or (option_or o (logs.newest (sends.priority_set k) (calls_of log))) (pos 0)) (sym (priority-by side h c k (done-before k d) own.reply)) ∙ sym (ap (λ (ts : List CallRecord). sends.priority_of ts k) called)
+        by (priority_by k (turns.Call c) own.reply) (x.halves.priority k (done-before (record { turn = turns.Call c; answer = next side h (turns.Call c) }) h k d))
+        ∙ ap (λ (o : Option ℤ). unwrap_or (option_or o (logs.newest (sends.priority_set k) (calls_of log))) (pos 0)) (sym (priority-by side h c k (done-before (record { turn = turns.Call c; answer = next side h (turns.Call c) }) h k d) own.reply)) ∙ sym (ap (λ (ts : List CallRecord). sends.priority_of ts k) called)
       where
         by : (o : Option ℤ) → unwrap_or (first_of (λ (p : Pair). priority_by k p.turn p.answer.reply) h) (pos 0) ≡ sends.priority_of (calls_of log) k
             → unwrap_or (option_or o (first_of (λ (p : Pair). priority_by k p.turn p.answer.reply) h)) (pos 0) ≡ unwrap_or (option_or o (logs.newest (sends.priority_set k) (calls_of log))) (pos 0)

@@ -25,7 +25,8 @@ use Rattle.wt_promise.specs.Promise.{IsHistory}
 use Rattle.wt_seam_spec.specs.Streams.{local_bi, local_uni, peer_bi, peer_uni}
 use Rattle.wt_sessions.specs.Connection.{ends_opening, opened_for, starts_opening}
 use Rattle.wt_sessions.specs.Driver.{accepts_stream}
-use Rattle.wt_sessions_agree.proofs.CallReplies.{Aside, failure-aside, gives_bytes, gives_exact, is_usual, pending-aside, suits, suits-own}
+use Rattle.wt_sessions_agree.proofs.CallReplies.{gives_bytes, gives_exact, is_usual, suits, suits-own}
+use Rattle.wt_sessions_agree.proofs.RecordLaws.{Aside, failure-aside, pending-aside}
 use Rattle.wt_sessions_agree.proofs.StreamKinds.{local-bi-small, local-uni-small}
 use Rattle.wt_sessions_agree.specs.Records.{call_session, done_record, record_of}
 use Rattle.wt_sessions_agree.specs.Stands.{IsOpening, NotOpening, OpeningAgrees, fails_opening}

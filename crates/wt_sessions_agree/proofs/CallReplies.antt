@@ -1,4 +1,4 @@
--- Which call may give which reply, of those that a record tells with a number; what each record says by its reply alone.
+-- Which call may give which reply, of those that a record tells with a number.
 use Rattle.std.specs.Prelude.{[], ◌/◌, ◌∷◌, ◌||◌, ◌≡◌, Bool, Err, List, None, Ok, Option, Result, Some, codes, false, if◌then◌else◌, length, not, true, ℕ}
 use Rattle.std.proofs.Common.{refl}
 use Rattle.url.specs.Parser.{parse_url}
@@ -177,33 +177,3 @@ suits-rows side h (calls.StopRecv id code) = half-passes is_usual (has_receiving
 
 pub suits-own : (side : Side) (h : History) (call : Call) → suits call (first_row (rows_of side h call)).reply ≡ true
 suits-own side h call = (suits-rows side h call).first
-
--- ---- records that a question passes over, where a call waits or fails
-
-module _ {T : Type 0} (ask : CallRecord → T) (none : T) where
-  -- the question passes over what calls leave that answer Pending or Failed
-  pub record Aside : Type 0 where
-    pub polled : ask Polled ≡ none
-    pub started : (reserved : Option (List ℕ)) (head : List ℕ) → ask (ConnectStarted reserved head) ≡ none
-    pub response : (accepts : Bool) (head : List ℕ) → ask (ResponseStarted accepts head) ≡ none
-    pub over : ask HandshakeOver ≡ none
-    pub failed : ask AcceptanceFailed ≡ none
-
-  module _ (p : Aside) where
-    connect-aside : (t : Result Target ConnectingError) → ask (connect_record t) ≡ none
-    connect-aside (Err e) = p.polled
-    connect-aside (Ok t) = p.started t.reserved t.frame
-
-    pub pending-aside : (c : Call) → ask (pending_record c) ≡ none
-    pending-aside (calls.Connect options lookup outcome) = connect-aside (target_of (parse_url None options.0) options.1 lookup outcome)
-    pending-aside (calls.Accept headers) = p.response true _
-    pending-aside calls.Forbidden = p.response false _
-    pending-aside calls.NotFound = p.response false _
-    pending-aside calls.TooManyRequests = p.response false _
-    pending-aside c = p.polled
-
-    pub failure-aside : (c : Call) → ask (failure_record c) ≡ none
-    failure-aside calls.Incoming = p.over
-    failure-aside (calls.Accept headers) = p.failed
-    failure-aside calls.Handshake = p.failed
-    failure-aside c = p.polled

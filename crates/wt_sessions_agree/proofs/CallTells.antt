@@ -22,7 +22,8 @@ use Rattle.wt_promise.specs.Promise.{IsHistory}
 use Rattle.wt_seam_spec.specs.Sent.{priority_set}
 use Rattle.wt_sessions.specs.Driver.{ends_session, gives_up}
 use Rattle.wt_sessions.specs.Halves.{bytes_read}
-use Rattle.wt_sessions_agree.proofs.CallReplies.{Aside, failure-aside, pending-aside, suits}
+use Rattle.wt_sessions_agree.proofs.CallReplies.{suits}
+use Rattle.wt_sessions_agree.proofs.RecordLaws.{Aside, either, failure-aside, pending-aside}
 use Rattle.wt_sessions_agree.proofs.TurnKeeps.{unsent-reset}
 use Rattle.wt_sessions_agree.specs.Records.{done_record, record_of}
 use Rattle.wt_turn.specs.Log.{CallRecord, Polled, PrioritySet, RequestRejected, ResetUnsent}
@@ -40,11 +41,6 @@ use Rattle.wt_turn.specs.declared.turn.Turn.TheVariants as turns
 abbrev pub is_taken : Reply → Bool
 is_taken replies.Done = true
 is_taken _ = false
-
--- either record answers alike
-either : {T : Type 0} (ask : CallRecord → T) (t : T) (b : Bool) (r s : CallRecord) → ask r ≡ t → ask s ≡ t → ask (if b then r else s) ≡ t
-either ask t true r s e f = e
-either ask t false r s e f = f
 
 -- ---- halves that are given up
 

@@ -22,6 +22,7 @@ use Rattle.wt_promise.specs.Promise.{IsHistory}
 use Rattle.wt_sessions.specs.Handshake.{HandshakeState, after_record, awaits_answer, awaits_request, handshake_state, is_continuable, requested_stream}
 use Rattle.wt_sessions.specs.Handshake as handshakes
 use Rattle.wt_sessions_agree.proofs.DueLaws.{is_asked}
+use Rattle.wt_sessions_agree.proofs.RecordLaws.{either}
 use Rattle.wt_sessions_agree.proofs.ReplyLaws.{accept-replies, incoming-replies, is_accepting, is_asking, is_other, is_rejecting, other-replies, reject-replies}
 use Rattle.wt_sessions_agree.proofs.ShakeLaws.{failed-is, failed-shut, has_failed, is_over, shake-agrees}
 use Rattle.wt_sessions_agree.specs.Records.{done_record, failure_record, pending_record, record_of}
@@ -99,13 +100,10 @@ is_end (calls.EndSession name) = true
 is_end _ = false
 
 module _ (side : Side) (h : History) (req : ℕ) where
-  passes-if : (b : Bool) (r s : CallRecord) → after_record req r ≡ None → after_record req s ≡ None → after_record req (if b then r else s) ≡ None
-  passes-if true r s e f = e
-  passes-if false r s e f = f
 
   done-passes : (c : Call) → is_end c ≡ false → after_record req (done_record side h c) ≡ None
-  done-passes (calls.ResetSend id code) e = passes-if (is_open h) Polled (ResetUnsent id code) refl refl
-  done-passes (calls.SetPriority id priority) e = passes-if (is_done h id) Polled (PrioritySet id priority) refl refl
+  done-passes (calls.ResetSend id code) e = either (after_record req) None (is_open h) Polled (ResetUnsent id code) refl refl
+  done-passes (calls.SetPriority id priority) e = either (after_record req) None (is_done h id) Polled (PrioritySet id priority) refl refl
   done-passes (calls.EndSession name) e = absurd (cc e)
   done-passes c e = refl
 

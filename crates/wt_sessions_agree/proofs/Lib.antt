@@ -14,6 +14,7 @@ pub mod SessionLaws
 pub mod OrderlyLaws
 pub mod MomentAgrees
 pub mod OutLaws
+pub mod DoneStays
 pub mod HalfRows
 pub mod WaitLaws
 pub mod ConnectionRows

@@ -28,7 +28,7 @@ use Rattle.wt_sessions.specs.StreamTable.{CallView}
 use Rattle.wt_sessions_agree.proofs.Basics.{and-false}
 use Rattle.wt_sessions_agree.proofs.StreamKinds.{local-bi-small, local-uni-small}
 use Rattle.wt_sessions_agree.proofs.MembersLaws.{has-with, with-ascends}
-use Rattle.wt_sessions_agree.proofs.RecordLaws.{Passes, done-passes, failure-passes, pending-passes}
+use Rattle.wt_sessions_agree.proofs.RecordLaws.{Passes, done-passes, failure-aside, pending-aside}
 use Rattle.wt_sessions_agree.specs.Members.{Ascends, MembersIn, has_id, is_opened_for}
 use Rattle.wt_sessions_agree.specs.Records.{opened_session, record_of}
 use Rattle.wt_turn.specs.Log.{CallRecord, Log, calls_of}
@@ -130,12 +130,12 @@ gives (replies.Opening id) = true
 gives _ = false
 
 member-passes : (s : ℕ) → Passes (member_by s) None
-member-passes s = record { polled = refl; unsent = λ i c. refl; priority = λ i p. refl; given_up = λ i. refl; rejected = λ t. refl; started = λ r i. refl; response = λ a i. refl; over = refl; failed = refl }
+member-passes s = record { aside = record { polled = refl; started = λ r i. refl; response = λ a i. refl; over = refl; failed = refl }; unsent = λ i c. refl; priority = λ i p. refl; given_up = λ i. refl; rejected = λ t. refl }
 
 no-member : (side : Side) (h : History) (c : Call) (s : ℕ) (r : Reply) → gives r ≡ false → member_by s (record_of side h c r) ≡ None
 no-member side h c s replies.Done e = done-passes (member_by s) None (member-passes s) side h c
-no-member side h c s replies.Pending e = pending-passes (member_by s) None (member-passes s) side h c
-no-member side h c s (replies.Failed x) e = failure-passes (member_by s) None (member-passes s) side h c
+no-member side h c s replies.Pending e = pending-aside (member_by s) None (member-passes s).aside c
+no-member side h c s (replies.Failed x) e = failure-aside (member_by s) None (member-passes s).aside c
 no-member side h c s (replies.Read (Some (b ∷ bytes))) e = refl
 no-member side h c s (replies.Read (Some [])) e = refl
 no-member side h c s (replies.Read None) e = refl

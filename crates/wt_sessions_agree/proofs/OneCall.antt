@@ -31,6 +31,7 @@ use Rattle.wt_sessions_agree.proofs.Basics.{or-turned}
 use Rattle.wt_sessions_agree.proofs.CallKeeps.{accepted-after, call-keeps, ended-after, given_up-after, reset-from}
 use Rattle.wt_sessions_agree.proofs.CallTells.{reset-goes}
 use Rattle.wt_sessions_agree.proofs.CallTurns as plain
+use Rattle.wt_sessions_agree.proofs.DoneStays.{told-resets}
 use Rattle.wt_sessions_agree.proofs.DueEnds.{ends-hold}
 use Rattle.wt_sessions_agree.proofs.EntryTurns.{ended-acted, flush-as}
 use Rattle.wt_sessions_agree.proofs.HalvesAlike.{halves-seen}
@@ -47,7 +48,7 @@ use Rattle.wt_sessions_agree.proofs.RowsAgree.{call-agrees}
 use Rattle.wt_sessions_agree.proofs.SessionTurns.{calls-established, session-reply, sessions-call, sessions-session, with-offset}
 use Rattle.wt_sessions_agree.proofs.TransportLaws.{acted-all, acted-contents, acted-events, called-contents, called-events, flushed}
 use Rattle.wt_sessions_agree.proofs.TurnFinds.{acted-table, sees-alike}
-use Rattle.wt_sessions_agree.proofs.TurnKeeps.{acted-calls, flushed-first, resets-apart, told-resets, unsent-reset, view-of}
+use Rattle.wt_sessions_agree.proofs.TurnKeeps.{acted-calls, flushed-first, resets-apart, unsent-reset, view-of}
 use Rattle.wt_sessions_agree.specs.Agreement.{Agree, TurnAgrees}
 use Rattle.wt_sessions_agree.specs.Agrees.{IsTable}
 use Rattle.wt_sessions_agree.specs.Members.{HalvesSeen, MembersIn}

@@ -29,7 +29,7 @@ use Rattle.wt_sessions_agree.proofs.DatagramLaws.{pair-of}
 use Rattle.wt_sessions_agree.proofs.PartLaws.{begins-stays, known-new, parted}
 use Rattle.wt_sessions_agree.proofs.ReadyLaws.{none-early-after}
 use Rattle.wt_sessions_agree.proofs.ReceivedLaws.{indexed, received-one, received-plain}
-use Rattle.wt_sessions_agree.proofs.RecordLaws.{Passes, done-passes, failure-passes, pending-passes}
+use Rattle.wt_sessions_agree.proofs.RecordLaws.{Passes, done-passes, failure-aside, pending-aside}
 use Rattle.wt_sessions_agree.proofs.SessionTurns.{with-offset}
 use Rattle.wt_sessions_agree.proofs.TransportLaws.{called-contents, called-events}
 use Rattle.wt_sessions_agree.proofs.TurnKeeps.{view-of}
@@ -78,13 +78,13 @@ order-plain side offset h log hist x turn plain lawful xs log2 called = record {
 -- ---- a call that receives no datagram
 
 receive-passes : (n : ℕ) → Passes (drivers.receives n) false
-receive-passes n = record { polled = refl; unsent = λ i c. refl; priority = λ i p. refl; given_up = λ i. refl; rejected = λ s. refl; started = λ r i. refl; response = λ a i. refl; over = refl; failed = refl }
+receive-passes n = record { aside = record { polled = refl; started = λ r i. refl; response = λ a i. refl; over = refl; failed = refl }; unsent = λ i c. refl; priority = λ i p. refl; given_up = λ i. refl; rejected = λ s. refl }
 
 received-by : (side : Side) (h : History) (c : Call) (n : ℕ) (reply : Reply) → is_payload reply ≡ false → drivers.receives n (record_of side h c reply) ≡ false
 received-by side h c n (replies.Datagram payload) e = absurd (cc e)
 received-by side h c n replies.Done e = done-passes (drivers.receives n) false (receive-passes n) side h c
-received-by side h c n replies.Pending e = pending-passes (drivers.receives n) false (receive-passes n) side h c
-received-by side h c n (replies.Failed x) e = failure-passes (drivers.receives n) false (receive-passes n) side h c
+received-by side h c n replies.Pending e = pending-aside (drivers.receives n) false (receive-passes n).aside c
+received-by side h c n (replies.Failed x) e = failure-aside (drivers.receives n) false (receive-passes n).aside c
 received-by side h c n (replies.Read (Some (b ∷ bytes))) e = refl
 received-by side h c n (replies.Read (Some [])) e = refl
 received-by side h c n (replies.Read None) e = refl

@@ -20,58 +20,63 @@ use Rattle.wt_turn.specs.declared.stream_error.StreamReadExactError.TheVariants 
 
 -- ---- records that a question passes over
 
+-- of either record
+pub either : {T : Type 0} (ask : CallRecord → T) (t : T) (b : Bool) (r s : CallRecord) → ask r ≡ t → ask s ≡ t → ask (if b then r else s) ≡ t
+either ask t true r s e f = e
+either ask t false r s e f = f
+
 module _ {T : Type 0} (ask : CallRecord → T) (none : T) where
-  -- the question passes over what calls leave that answer Done, Pending or Failed
-  pub record Passes : Type 0 where
+  -- the question passes over what calls leave that answer Pending or Failed
+  pub record Aside : Type 0 where
     pub polled : ask Polled ≡ none
-    pub unsent : (k code : ℕ) → ask (ResetUnsent k code) ≡ none
-    pub priority : (k : ℕ) (p : ℤ) → ask (PrioritySet k p) ≡ none
-    pub given_up : (k : ℕ) → ask (StreamGivenUp k) ≡ none
-    pub rejected : (s : ℕ) → ask (RequestRejected s) ≡ none
     pub started : (reserved : Option (List ℕ)) (head : List ℕ) → ask (ConnectStarted reserved head) ≡ none
     pub response : (accepts : Bool) (head : List ℕ) → ask (ResponseStarted accepts head) ≡ none
     pub over : ask HandshakeOver ≡ none
     pub failed : ask AcceptanceFailed ≡ none
 
-  module _ (p : Passes) (side : Side) (h : History) where
-    either : (b : Bool) (r s : CallRecord) → ask r ≡ none → ask s ≡ none → ask (if b then r else s) ≡ none
-    either true r s e f = e
-    either false r s e f = f
+  module _ (p : Aside) where
+    connect-aside : (t : Result Target ConnectingError) → ask (connect_record t) ≡ none
+    connect-aside (Err e) = p.polled
+    connect-aside (Ok t) = p.started t.reserved t.frame
 
-    pub done-passes : (c : Call) → ask (done_record side h c) ≡ none
-    done-passes (calls.ResetSend id code) = either (is_open h) Polled (ResetUnsent id code) p.polled (p.unsent id code)
-    done-passes (calls.SetPriority id priority) = either (is_done h id) Polled (PrioritySet id priority) p.polled (p.priority id priority)
-    done-passes (calls.StopRecv id code) = p.given_up id
-    done-passes (calls.EndSession name) = either (is_open h) (RequestRejected _) Polled (p.rejected _) p.polled
-    done-passes c = p.polled
+    pub pending-aside : (c : Call) → ask (pending_record c) ≡ none
+    pending-aside (calls.Connect options lookup outcome) = connect-aside (target_of (parse_url None options.0) options.1 lookup outcome)
+    pending-aside (calls.Accept headers) = p.response true _
+    pending-aside calls.Forbidden = p.response false _
+    pending-aside calls.NotFound = p.response false _
+    pending-aside calls.TooManyRequests = p.response false _
+    pending-aside c = p.polled
 
-    pub connect-passes : (t : Result Target ConnectingError) → ask (connect_record t) ≡ none
-    connect-passes (Err e) = p.polled
-    connect-passes (Ok t) = p.started t.reserved t.frame
+    pub failure-aside : (c : Call) → ask (failure_record c) ≡ none
+    failure-aside calls.Incoming = p.over
+    failure-aside (calls.Accept headers) = p.failed
+    failure-aside calls.Handshake = p.failed
+    failure-aside c = p.polled
 
-    pub pending-passes : (c : Call) → ask (pending_record c) ≡ none
-    pending-passes (calls.Connect options lookup outcome) = connect-passes (target_of (parse_url None options.0) options.1 lookup outcome)
-    pending-passes (calls.Accept headers) = p.response true _
-    pending-passes calls.Forbidden = p.response false _
-    pending-passes calls.NotFound = p.response false _
-    pending-passes calls.TooManyRequests = p.response false _
-    pending-passes c = p.polled
+  -- and what calls leave that answer Done
+  pub record Passes : Type 0 where
+    pub aside : Aside
+    pub unsent : (k code : ℕ) → ask (ResetUnsent k code) ≡ none
+    pub priority : (k : ℕ) (p : ℤ) → ask (PrioritySet k p) ≡ none
+    pub given_up : (k : ℕ) → ask (StreamGivenUp k) ≡ none
+    pub rejected : (s : ℕ) → ask (RequestRejected s) ≡ none
 
-    pub failure-passes : (c : Call) → ask (failure_record c) ≡ none
-    failure-passes calls.Incoming = p.over
-    failure-passes (calls.Accept headers) = p.failed
-    failure-passes calls.Handshake = p.failed
-    failure-passes c = p.polled
+  pub done-passes : Passes → (side : Side) (h : History) (c : Call) → ask (done_record side h c) ≡ none
+  done-passes p side h (calls.ResetSend id code) = either ask none (is_open h) Polled (ResetUnsent id code) p.aside.polled (p.unsent id code)
+  done-passes p side h (calls.SetPriority id priority) = either ask none (is_done h id) Polled (PrioritySet id priority) p.aside.polled (p.priority id priority)
+  done-passes p side h (calls.StopRecv id code) = p.given_up id
+  done-passes p side h (calls.EndSession name) = either ask none (is_open h) (RequestRejected _) Polled (p.rejected _) p.aside.polled
+  done-passes p side h c = p.aside.polled
 
 -- ---- streams that are given
 
 accept-passes : (k : ℕ) → Passes (accepts_stream k) false
-accept-passes k = record { polled = refl; unsent = λ i c. refl; priority = λ i p. refl; given_up = λ i. refl; rejected = λ s. refl; started = λ r i. refl; response = λ a i. refl; over = refl; failed = refl }
+accept-passes k = record { aside = record { polled = refl; started = λ r i. refl; response = λ a i. refl; over = refl; failed = refl }; unsent = λ i c. refl; priority = λ i p. refl; given_up = λ i. refl; rejected = λ s. refl }
 
 pub accepted-by : (side : Side) (h : History) (c : Call) (k : ℕ) (reply : Reply) → accepts_stream k (record_of side h c reply) ≡ hands_out k reply
 accepted-by side h c k replies.Done = done-passes (accepts_stream k) false (accept-passes k) side h c
-accepted-by side h c k replies.Pending = pending-passes (accepts_stream k) false (accept-passes k) side h c
-accepted-by side h c k (replies.Failed e) = failure-passes (accepts_stream k) false (accept-passes k) side h c
+accepted-by side h c k replies.Pending = pending-aside (accepts_stream k) false (accept-passes k).aside c
+accepted-by side h c k (replies.Failed e) = failure-aside (accepts_stream k) false (accept-passes k).aside c
 accepted-by side h c k (replies.Read (Some (b ∷ bytes))) = refl
 accepted-by side h c k (replies.Read (Some [])) = refl
 accepted-by side h c k (replies.Read None) = refl
@@ -82,12 +87,12 @@ accepted-by side h c k reply = refl
 -- ---- requests and sessions
 
 deliver-passes : Passes requested_by None
-deliver-passes = record { polled = refl; unsent = λ i c. refl; priority = λ i p. refl; given_up = λ i. refl; rejected = λ s. refl; started = λ r i. refl; response = λ a i. refl; over = refl; failed = refl }
+deliver-passes = record { aside = record { polled = refl; started = λ r i. refl; response = λ a i. refl; over = refl; failed = refl }; unsent = λ i c. refl; priority = λ i p. refl; given_up = λ i. refl; rejected = λ s. refl }
 
 pub requested-by : (side : Side) (h : History) (c : Call) (reply : Reply) → requested_by (record_of side h c reply) ≡ request_in reply
 requested-by side h c replies.Done = done-passes requested_by None deliver-passes side h c
-requested-by side h c replies.Pending = pending-passes requested_by None deliver-passes side h c
-requested-by side h c (replies.Failed e) = failure-passes requested_by None deliver-passes side h c
+requested-by side h c replies.Pending = pending-aside requested_by None deliver-passes.aside c
+requested-by side h c (replies.Failed e) = failure-aside requested_by None deliver-passes.aside c
 requested-by side h c (replies.Read (Some (b ∷ bytes))) = refl
 requested-by side h c (replies.Read (Some [])) = refl
 requested-by side h c (replies.Read None) = refl
@@ -96,12 +101,12 @@ requested-by side h c (replies.ExactFailed (exacts.Read e) piece) = refl
 requested-by side h c reply = refl
 
 establish-passes : Passes establishes None
-establish-passes = record { polled = refl; unsent = λ i c. refl; priority = λ i p. refl; given_up = λ i. refl; rejected = λ s. refl; started = λ r i. refl; response = λ a i. refl; over = refl; failed = refl }
+establish-passes = record { aside = record { polled = refl; started = λ r i. refl; response = λ a i. refl; over = refl; failed = refl }; unsent = λ i c. refl; priority = λ i p. refl; given_up = λ i. refl; rejected = λ s. refl }
 
 pub established-by : (side : Side) (h : History) (c : Call) (reply : Reply) → establishes (record_of side h c reply) ≡ session_in reply
 established-by side h c replies.Done = done-passes establishes None establish-passes side h c
-established-by side h c replies.Pending = pending-passes establishes None establish-passes side h c
-established-by side h c (replies.Failed e) = failure-passes establishes None establish-passes side h c
+established-by side h c replies.Pending = pending-aside establishes None establish-passes.aside c
+established-by side h c (replies.Failed e) = failure-aside establishes None establish-passes.aside c
 established-by side h c (replies.Read (Some (b ∷ bytes))) = refl
 established-by side h c (replies.Read (Some [])) = refl
 established-by side h c (replies.Read None) = refl

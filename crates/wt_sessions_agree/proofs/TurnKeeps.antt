@@ -32,6 +32,7 @@ use Rattle.wt_sessions.specs.Connection.{opening_session}
 use Rattle.wt_sessions.specs.Driver.{accepts_stream, apply_if, call_view, delivers, ends_session, flush, gives_up, is_moment, log_and_flush, members_of, pending_actions, receives, sessions_of, stream_table}
 use Rattle.wt_sessions.specs.StreamTable.{CallView, is_session}
 use Rattle.wt_sessions_agree.proofs.Basics.{or-none, or-turned}
+use Rattle.wt_sessions_agree.proofs.DoneStays.{done-before, told-resets}
 use Rattle.wt_sessions_agree.proofs.OutLaws.{any-newest, same-out}
 use Rattle.wt_sessions_agree.proofs.TransportLaws.{flushed, is_single, turn_agrees}
 use Rattle.wt_sessions_agree.specs.Agrees.{Agrees, IsTable}
@@ -120,10 +121,6 @@ resets-apart k (Called r ∷ log) =
 resets-apart k (logs.Received id byte ∷ log) = resets-apart k log
 resets-apart k (logs.Reported event ∷ log) = resets-apart k log
 resets-apart k (logs.ReportedLate event ∷ log) = resets-apart k log
-
--- the resets that answers tell, beside those that went out
-abbrev pub told-resets : History → ℕ → Bool
-told-resets h k = list_any (λ (p : Pair). answers_reset k p.turn p.answer.reply) h
 
 -- ---- the established sessions, with more streams
 
@@ -219,24 +216,6 @@ module _ (side : Side) (offset : ℕ → ℕ) (h : History) (log : Log) (x : Sta
     told-same : (k : ℕ) → told-resets after k ≡ told-resets h k
     told-same k = ap (λ (b : Bool). b || told-resets h k) (no-reset k turn plain)
 
-    done-before : (k : ℕ) → is_done after k ≡ false → ((is_acknowledged (events h) k ≡ true → is_acknowledged (events after) k ≡ true)) → is_done h k ≡ false
-    done-before k d acked = by (is_reset h k) refl (was_finished h k) refl (is_acknowledged (events h) k) refl
-      where
-        reset-more : is_reset h k ≡ true → is_reset after k ≡ true
-        reset-more e =
-            more (list_any (is_reset_of k) (actions_out h)) (list_any (is_reset_of k) (join_all [] xs)) (told-resets h k) (list_any (is_reset_of k) (actions_out after)) (any-newest (is_reset_of k) (join_all [] xs) (actions_out h)) e
-          where
-            more : (a b c z : Bool) → z ≡ (a || b) → (a || c) ≡ true → (z || (answers_reset k turn replies.Done || c)) ≡ true
-            more true b c z q f = rw q refl
-            more false b true z q f = rw (no-reset k turn plain, q) (or-true b)
-            more false b false z q f = absurd (cc f)
-
-        by : (r : Bool) → is_reset h k ≡ r → (f : Bool) → was_finished h k ≡ f → (a : Bool) → is_acknowledged (events h) k ≡ a → (r || (f && a)) ≡ false
-        by true e f g a i = absurd (let q : is_done after k ≡ true = rw (reset-more e) refl in cc (sym q ∙ d))
-        by false e true g true i = absurd (let w : was_finished after k ≡ true = any-newest (sends.finishes k) (join_all [] xs) (actions_out h) ∙ rw g refl in let q : is_done after k ≡ true = rw (w, acked i) (or-true (is_reset after k)) in cc (sym q ∙ d))
-        by false e true g false i = refl
-        by false e false g a i = refl
-
     opening-after : (k : ℕ) → OpeningAgrees after log2 k
     opening-after k = by (x.openings k)
       where
@@ -249,16 +228,6 @@ module _ (side : Side) (offset : ℕ → ℕ) (h : History) (log : Log) (x : Sta
         by : OpeningAgrees h log k → OpeningAgrees after log2 k
         by (NotOpening b o) = NotOpening (same ∙ b) (code ∙ o)
         by (IsOpening name s b n o) = IsOpening name s (same ∙ b) (same-named name ∙ n) (code ∙ o)
-
-    -- ---- counts and acknowledgements only rise
-
-    acked-after : (k : ℕ) → is_acknowledged (events h) k ≡ true → is_acknowledged (events after) k ≡ true
-    acked-after k e = by (is_open h) (event_of turn)
-      where
-        by : (o : Bool) (v : Option Event) → is_acknowledged (if o then with_event v (events h) else events h) k ≡ true
-        by true None = e
-        by true (Some v) = ap (λ (b : Bool). acknowledges k v || b) e ∙ or-true (acknowledges k v)
-        by false v = e
 
     -- ---- halves
 
@@ -284,7 +253,7 @@ module _ (side : Side) (offset : ℕ → ℕ) (h : History) (log : Log) (x : Sta
       read = λ k. ap (λ (bytes : List ℕ). length (was_read h k ++ bytes)) (no-read k turn plain) ∙ ap length (append-nil (was_read h k)) ∙ x.halves.read k ∙ ap (halves.total_read k) (sym called);
       priority = λ k d.
           ap (λ (o : Option ℤ). unwrap_or (option_or o (first_of (λ (p : Pair). priority_by k p.turn p.answer.reply) h)) (pos 0)) (no-priority k turn plain)
-          ∙ x.halves.priority k (done-before k d (acked-after k)) ∙ ap (λ (rs : List CallRecord). sends.priority_of rs k) (sym called);
+          ∙ x.halves.priority k (done-before (record { turn = turn; answer = answer replies.Done (join_all [] xs) }) h k d) ∙ ap (λ (rs : List CallRecord). sends.priority_of rs k) (sym called);
     }
 
     -- ---- the handshake
