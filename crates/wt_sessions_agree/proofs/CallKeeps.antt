@@ -1,5 +1,5 @@
 -- A call keeps what its record tells of the relation: what went out, the streams that it gave, halves, openings, requests.
-use Rattle.std.specs.Prelude.{[], ◌&&◌, ◌++◌, ◌==◌, ◌∷◌, ◌||◌, ◌≡◌, Bool, List, None, Option, Some, false, filter_map, if◌then◌else◌, length, pos, true, unwrap_or, ℕ, ℤ}
+use Rattle.std.specs.Prelude.{[], ◌++◌, ◌==◌, ◌∷◌, ◌||◌, ◌≡◌, Bool, List, None, Option, Some, false, filter_map, length, pos, true, unwrap_or, ℕ, ℤ}
 use Rattle.std.specs.List.{cons_option, list_any}
 use Rattle.std.specs.Option.{option_or}
 use Rattle.std.proofs.Common.{◌∙◌, ap, arith, refl, subst, sym}
@@ -7,7 +7,7 @@ use Rattle.std.proofs.lemmas.List.{length-append}
 use Rattle.wt_meaning.specs.Findings.{first_of}
 use Rattle.wt_meaning.specs.Halves.{is_done, priority_by, read_by, was_read}
 use Rattle.wt_meaning.specs.Handshakes.{was_given}
-use Rattle.wt_meaning.specs.History.{History, Pair, actions_out, answers_reset, answers_stop, contents, events, exists, hands_out, is_given_up, is_handed_out, is_open, is_reset, is_reset_of, stream_count, was_finished}
+use Rattle.wt_meaning.specs.History.{History, Pair, actions_out, answers_reset, answers_stop, exists, hands_out, is_given_up, is_handed_out, is_open, is_reset, is_reset_of, stream_count}
 use Rattle.wt_meaning.specs.Lawful.{is_lawful}
 use Rattle.wt_meaning.specs.Meaning.{next, own_answer, step, with_pair}
 use Rattle.wt_meaning.specs.Moments.{findings, ids_from}
@@ -17,24 +17,21 @@ use Rattle.wt_promise.specs.Promise.{IsHistory}
 use Rattle.wt_promise.proofs.Actions.{any-join_all}
 use Rattle.wt_promise.proofs.Owed.{has-left}
 use Rattle.wt_seam_spec.specs.Joined.{join_all, newest_first}
-use Rattle.wt_seam_spec.specs.Reports.{is_acknowledged}
 use Rattle.wt_seam_spec.specs.Sent as sends
 use Rattle.wt_seam_spec.specs.Streams as streams
-use Rattle.wt_promise.proofs.Accepted.{or-true}
 use Rattle.wt_sessions.specs.Answers as answers
 use Rattle.wt_sessions.specs.Driver as drivers
 use Rattle.wt_sessions.specs.Driver.{accepts_stream, call_view, delivers, ends_session, gives_up, members_of, receives, sessions_of, stream_table}
 use Rattle.wt_sessions.specs.Halves as halves
 use Rattle.wt_sessions.specs.Handshake.{handshake_state, requested_by, requested_stream}
 use Rattle.wt_sessions.specs.StreamTable.{was_established}
-use Rattle.wt_sessions_agree.proofs.Basics.{or-none}
 use Rattle.wt_sessions_agree.proofs.CallOpenings.{opening-next, opening-of, unfailed-next}
 use Rattle.wt_sessions_agree.proofs.CallReplies.{suits-own}
 use Rattle.wt_sessions_agree.proofs.CallTells.{ended-by, priority-by, read-as, reset-by, reset-goes, stopped-by, told-if}
 use Rattle.wt_sessions_agree.proofs.DoneStays.{done-before, told-resets}
 use Rattle.wt_sessions_agree.proofs.OutLaws.{any-newest, same-out}
 use Rattle.wt_sessions_agree.proofs.RecordLaws.{accepted-by, established-by, requested-by}
-use Rattle.wt_sessions_agree.proofs.TransportLaws.{called-contents, called-events}
+use Rattle.wt_sessions_agree.proofs.CameAgrees.{called-contents, called-events}
 use Rattle.wt_sessions_agree.proofs.TurnKeeps.{resets-apart, unsent-reset}
 use Rattle.wt_sessions_agree.specs.Agrees.{Agrees, IsTable}
 use Rattle.wt_sessions_agree.specs.Orderly.{Orderly, session_at}

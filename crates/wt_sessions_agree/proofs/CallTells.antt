@@ -26,7 +26,7 @@ use Rattle.wt_sessions_agree.proofs.CallReplies.{suits}
 use Rattle.wt_sessions_agree.proofs.RecordLaws.{Aside, either, failure-aside, pending-aside}
 use Rattle.wt_sessions_agree.proofs.TurnKeeps.{unsent-reset}
 use Rattle.wt_sessions_agree.specs.Records.{done_record, record_of}
-use Rattle.wt_turn.specs.Log.{CallRecord, Polled, PrioritySet, RequestRejected, ResetUnsent}
+use Rattle.wt_turn.specs.Log.{Polled, PrioritySet, RequestRejected, ResetUnsent}
 use Rattle.wt_turn.specs.declared.answer.Answer.{Answer}
 use Rattle.wt_turn.specs.declared.call.Call.{Call}
 use Rattle.wt_turn.specs.declared.reply.Reply.{Reply}

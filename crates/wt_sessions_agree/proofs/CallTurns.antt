@@ -1,26 +1,20 @@
 -- A call agrees, where its moment sends and finds alike and its record keeps the relation.
-use Rattle.std.specs.Prelude.{[], ◌&&◌, ◌++◌, ◌∷◌, ◌||◌, ◌≡◌, Bool, List, None, Option, false, filter_map, if◌then◌else◌, not, true, ℕ}
+use Rattle.std.specs.Prelude.{[], ◌&&◌, ◌++◌, ◌∷◌, ◌||◌, ◌≡◌, Bool, List, false, if◌then◌else◌, not, true, ℕ}
 use Rattle.std.specs.List.{list_any}
 use Rattle.std.proofs.Common.{◌∙◌, ap, refl, subst, sym}
-use Rattle.std.proofs.lemmas.List.Folds.{list_any-append}
-use Rattle.wt_meaning.specs.Calls.{rows_of}
 use Rattle.wt_meaning.specs.Findings.{Finding}
-use Rattle.wt_meaning.specs.History.{History, Pair, actions_out, contents, ends_by, events, is_open, stream_count}
+use Rattle.wt_meaning.specs.History.{History, Pair, ends_by, is_open}
 use Rattle.wt_meaning.specs.Meaning.{next, own_answer, step, with_pair}
-use Rattle.wt_meaning.specs.Moments.{after_checks, after_moments, checks, findings, ids_from}
-use Rattle.wt_meaning.specs.Rows.{first_row}
+use Rattle.wt_meaning.specs.Moments.{after_checks, after_moments, checks, findings}
 use Rattle.wt_meaning.specs.Sends.{moment_actions}
-use Rattle.wt_meaning.specs.Windows.{session_in}
 use Rattle.wt_promise.proofs.Actions.{any-join_all}
 use Rattle.wt_promise.proofs.Grows.{peers-checked}
 use Rattle.wt_promise.proofs.OpenStays.{same-findings}
 use Rattle.wt_seam_spec.specs.Joined.{join_all, newest_first}
-use Rattle.wt_seam_spec.specs.Streams as streams
 use Rattle.wt_sessions.specs.Answers.{call_effect, log_after}
 use Rattle.wt_sessions.specs.Answers as answers
-use Rattle.wt_sessions.specs.Driver.{call_view, is_moment, log_and_flush, pending_actions, stream_table, transport_view}
-use Rattle.wt_sessions.specs.Effect.{Effect, log_call, reply_with}
-use Rattle.wt_sessions.specs.StreamTable.{CallView}
+use Rattle.wt_sessions.specs.Driver.{call_view, is_moment, pending_actions, stream_table, transport_view}
+use Rattle.wt_sessions.specs.Effect.{Effect, log_call}
 use Rattle.wt_sessions_agree.proofs.AnswerLaws.{answer-agrees, called-actions, sent-then}
 use Rattle.wt_sessions_agree.proofs.EntryTurns.{closes-alike, ended-acted}
 use Rattle.wt_sessions_agree.proofs.MomentAgrees.{moment-agrees}
@@ -37,9 +31,7 @@ use Rattle.wt_turn.specs.declared.action.Action.{Action}
 use Rattle.wt_turn.specs.declared.answer.Answer.{Answer}
 use Rattle.wt_turn.specs.declared.call.Call.{Call}
 use Rattle.wt_turn.specs.declared.reply.Reply.{Reply}
-use Rattle.wt_turn.specs.declared.turn.Turn.{Turn}
 use Rattle.wt_wire.specs.declared.side.Side.{Side}
-use Rattle.wt_turn.specs.declared.reply.Reply.TheVariants as replies
 use Rattle.wt_turn.specs.declared.turn.Turn.TheVariants as turns
 
 -- what the newest pair's moment finds: a second one, of a reply that establishes a session, finds nothing

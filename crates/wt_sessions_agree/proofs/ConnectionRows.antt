@@ -1,7 +1,6 @@
 -- The calls on a session: the rows of each lead to what its ladder of tests does.
-use Rattle.std.specs.Prelude.{[], ◌&&◌, ◌*◌, ◌++◌, ◌+◌, ◌/◌, ◌==◌, ◌∷◌, ◌≡◌, Bool, List, None, Option, Some, drop, false, if◌then◌else◌, is_some, length, nat_lt, not, suc, take, true, zero, ℕ}
+use Rattle.std.specs.Prelude.{[], ◌&&◌, ◌*◌, ◌++◌, ◌+◌, ◌/◌, ◌∷◌, ◌≡◌, Bool, List, None, Option, Some, drop, false, if◌then◌else◌, is_some, length, nat_lt, not, suc, take, true, zero, ℕ}
 use Rattle.std.proofs.Common.{◌∙◌, ap, refl, sym}
-use Rattle.std.proofs.lemmas.Bool.{eq-eqb, eqb-true}
 use Rattle.wt_meaning.specs.Calls.{accept, being_opened, ended_row, first_datagram, in_session, is_living, open_stream, opening_for, opening_rows, payload_limit, receive, send_datagram, stream_header}
 use Rattle.wt_meaning.specs.Handshakes.{head_left, is_nothing, is_refused, lacks_credit, send, transport_error}
 use Rattle.wt_meaning.specs.History.{History, allowed, credit_left, events, is_open, may_open, next_id, stream_count}

@@ -21,8 +21,7 @@ use Rattle.wt_sessions_agree.specs.Stands.{CallsAgree}
 use Rattle.wt_sessions_agree.specs.Agrees.{IsTable, admitted_in, classified_in, closed_in}
 use Rattle.wt_wire.specs.declared.error.ErrorCode.{ErrorCode}
 use Rattle.wt_wire.specs.declared.side.Side.{Side}
-use Rattle.wt_meaning.specs.Findings.{DatagramRead, Dequeued, Faulted, Finding, SessionClosed, SettingsRead, fault_in, fault_of, is_datagram, reads_settings, settings_came}
-use Rattle.wt_meaning.specs.Findings as finds
+use Rattle.wt_meaning.specs.Findings.{DatagramRead, Faulted, Finding, fault_in, fault_of, is_datagram, reads_settings, settings_came}
 use Rattle.wt_meaning.specs.History.{History}
 use Rattle.wt_meaning.specs.Moments.{ReadDatagram, after_checks, datagram_checks, datagram_found, is_ready, reading}
 use Rattle.wt_meaning.specs.Windows.{admitted_datagram, datagrams_in_window, is_established, is_gone, received_count, shares_window, waiting_datagrams}

@@ -1,5 +1,5 @@
 -- A half that is done stays so: a reset, a finish and an acknowledgement do.
-use Rattle.std.specs.Prelude.{◌&&◌, ◌∷◌, ◌||◌, ◌≡◌, Bool, List, None, Option, Some, false, if◌then◌else◌, true, ℕ}
+use Rattle.std.specs.Prelude.{◌&&◌, ◌∷◌, ◌||◌, ◌≡◌, Bool, None, Option, Some, false, if◌then◌else◌, true, ℕ}
 use Rattle.std.specs.List.{list_any}
 use Rattle.std.proofs.Common.{◌∙◌, ap, refl, sym}
 use Rattle.wt_meaning.specs.Halves.{is_done}

@@ -32,7 +32,7 @@ use Rattle.wt_sessions_agree.proofs.HalvesAlike.{halves-seen}
 use Rattle.wt_sessions_agree.proofs.MembersLaws.{gone-alike}
 use Rattle.wt_sessions_agree.proofs.RowsAgree.{EndsAgree, is_due}
 use Rattle.wt_sessions_agree.proofs.WaitLaws.{gone-is}
-use Rattle.wt_sessions_agree.specs.Members.{HalvesSeen, MembersIn}
+use Rattle.wt_sessions_agree.specs.Members.{MembersIn}
 use Rattle.wt_sessions_agree.specs.Records.{part_start}
 use Rattle.wt_sessions_agree.specs.Stands.{BegunAgrees, IsResponse, Stands}
 use Rattle.wt_turn.specs.Log.{Event, Log, calls_of}

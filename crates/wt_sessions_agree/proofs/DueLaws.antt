@@ -1,5 +1,5 @@
 -- A request that was given and isn't answered: its verdict is a request, and its session isn't gone.
-use Rattle.std.specs.Prelude.{[], ◌++◌, ◌==◌, ◌||◌, ◌∷◌, ◌≡◌, Bool, List, None, Option, Some, false, filter_map, if◌then◌else◌, is_some, not, true, unwrap_or, ℕ}
+use Rattle.std.specs.Prelude.{[], ◌++◌, ◌==◌, ◌||◌, ◌∷◌, ◌≡◌, Bool, List, None, Option, Some, false, if◌then◌else◌, not, true, unwrap_or, ℕ}
 use Rattle.std.specs.List.{list_any}
 use Rattle.std.proofs.Common.{◌∙◌, ap, refl, sym}
 use Rattle.std.proofs.lemmas.Bool.{eq-eqb, eqb-true}
@@ -10,10 +10,10 @@ use Rattle.wt_meaning.specs.History.{History, Pair, is_open}
 use Rattle.wt_meaning.specs.Lawful.{gives_request, has_request, is_first, is_lawful, is_of_request, is_response, is_waiting, may_call, polls}
 use Rattle.wt_meaning.specs.Meaning.{next}
 use Rattle.wt_meaning.specs.Moments.{findings, keeps, stream_fault}
-use Rattle.wt_meaning.specs.Windows.{gone_in, is_established, is_gone, is_gone_by_call, is_number, last_request, makes_gone, named, queued_request, request_in}
+use Rattle.wt_meaning.specs.Windows.{gone_in, is_established, is_gone, is_gone_by_call, is_number, last_request, makes_gone, named, request_in}
 use Rattle.wt_promise.proofs.Accepted.{and-left, and-right, or-true}
 use Rattle.wt_promise.proofs.Datagrams.{numbered}
-use Rattle.wt_promise.proofs.Few.{given-by-incoming, given-queued, has}
+use Rattle.wt_promise.proofs.Few.{given-by-incoming, given-queued}
 use Rattle.wt_promise.proofs.Flow.{clash}
 use Rattle.wt_promise.proofs.Grows.{AClassified, AClosed, ADatagram, ADequeued, AFault, ASettings, Adds, Nothing, findings-keep, first_of-append, first_of-stays, of-stream-fault}
 use Rattle.wt_promise.proofs.Phases.{given-monotone, incoming-new, last-given, phase, same-last}
@@ -31,7 +31,6 @@ use Rattle.wt_wire.specs.HeaderList.{Fields}
 use Rattle.wt_wire.specs.declared.side.Side.{Side}
 use Rattle.wt_wire.specs.declared.side.Side.TheVariants.{Server}
 use Rattle.wt_proto.specs.declared.verdict.Verdict.TheVariants as verdicts
-use Rattle.wt_sessions_agree.proofs.Basics.{is-none}
 use Rattle.wt_sessions_agree.proofs.PartLaws.{none-queued, queues, queues-has}
 use Rattle.wt_turn.specs.declared.call.Call.TheVariants as calls
 use Rattle.wt_turn.specs.declared.reply.Reply.TheVariants as replies

@@ -1,14 +1,10 @@
 -- Each lawful turn agrees, and so does each list of turns.
-use Rattle.std.specs.Prelude.{[], ◌∷◌, ◌≡◌, List, true, ℕ}
+use Rattle.std.specs.Prelude.{[], ◌∷◌}
 use Rattle.std.proofs.Common.{refl}
-use Rattle.wt_meaning.specs.History.{History}
-use Rattle.wt_meaning.specs.Lawful.{is_lawful}
 use Rattle.wt_sessions_agree.proofs.ListLaws.{lists-agree, runs-agree}
 use Rattle.wt_sessions_agree.proofs.OneCall.{call-turn}
 use Rattle.wt_sessions_agree.proofs.TransportTurns.{transport-turn}
-use Rattle.wt_sessions_agree.specs.Agreement.{Agree, EachTurnAgrees, ListsAgree, RunsAgree, TurnAgrees, is_one}
-use Rattle.wt_turn.specs.Log.{Log}
-use Rattle.wt_turn.specs.declared.turn.Turn.{Turn}
+use Rattle.wt_sessions_agree.specs.Agreement.{EachTurnAgrees, ListsAgree, RunsAgree}
 use Rattle.wt_wire.specs.declared.side.Side.{Side}
 use Rattle.wt_turn.specs.declared.turn.Turn.TheVariants as turns
 

@@ -1,5 +1,5 @@
 -- A turn that leaves one entry in the log agrees: where its moment finds and sends alike, and where both find nothing.
-use Rattle.std.specs.Prelude.{[], ◌&&◌, ◌∷◌, ◌||◌, ◌≡◌, Bool, List, Some, false, if◌then◌else◌, not, true, ℕ}
+use Rattle.std.specs.Prelude.{[], ◌&&◌, ◌∷◌, ◌||◌, ◌≡◌, Bool, List, false, if◌then◌else◌, not, true, ℕ}
 use Rattle.std.specs.List.{list_any}
 use Rattle.std.proofs.Common.{◌∙◌, ap, refl, subst, sym}
 use Rattle.wt_meaning.specs.History.{History, Pair, contents, ends_by, events, is_open, loses}
@@ -19,7 +19,7 @@ use Rattle.wt_sessions.specs.Driver.{apply_if, call_view, flush, is_moment, log_
 use Rattle.wt_sessions.specs.StreamTable.{CallView}
 use Rattle.wt_sessions_agree.proofs.Basics.{or-turned}
 use Rattle.wt_sessions_agree.proofs.OutLaws.{acted}
-use Rattle.wt_sessions_agree.proofs.TransportLaws.{acted-contents, acted-events, flushed, is_single, turn_agrees}
+use Rattle.wt_sessions_agree.proofs.CameAgrees.{acted-contents, acted-events, flushed, is_single, turn_agrees}
 use Rattle.wt_sessions_agree.proofs.TurnAnswers.{done-next, sends-now, turn-agrees-by}
 use Rattle.wt_sessions_agree.proofs.TurnFinds.{finds-alike, orderly-then, sees-alike, table-same}
 use Rattle.wt_sessions_agree.proofs.TurnKeeps.{calls-after, count-after, sessions-after, single-plain, turn-calls, view-of}
@@ -30,7 +30,6 @@ use Rattle.wt_sessions_agree.specs.Orderly.{Orderly}
 use Rattle.wt_sessions_agree.specs.Stands.{CallsAgree, SeesAlike, Stands}
 use Rattle.wt_turn.specs.Log.{CallRecord, Entry, Event, Log, Received, Reported, ReportedLate, Sent, actions_of, calls_of, closes, events_of, with_actions}
 use Rattle.wt_turn.specs.Log as logs
-use Rattle.wt_turn.specs.Turns.{event_of}
 use Rattle.wt_turn.specs.declared.action.Action.{Action}
 use Rattle.wt_turn.specs.declared.turn.Turn.{Turn}
 use Rattle.wt_wire.specs.declared.side.Side.{Side}

@@ -134,30 +134,20 @@ module _ (side : Side) (h : History) (log : Log) (k : ℕ) (a : HalfAgrees h log
     where
       by : (x : Bool) → logs.is_open log ≡ x → (f : Bool) → sends.is_finished (actions_of log) k ≡ f → (r : Bool) → sends.is_reset log k ≡ r → (o : Option ℕ) → stop_of (events_of log) k ≡ o → (d : Bool) → is_acknowledged (events_of log) k ≡ d
           → ladders.finish side log k ≡ effect_of side h log (calls.Finish k) (first_row (finish h k))
-      by true e true i true j (Some code) g d q = rw (a.events, g, a.openness, e, a.finished, i) refl
-      by true e true i false j (Some code) g d q = rw (a.events, g, a.openness, e, a.finished, i) refl
+      by true e true i r j (Some code) g d q = rw (a.events, g, a.openness, e, a.finished, i) refl
       by true e false i true j (Some code) g d q = rw (a.events, g, a.openness, e, a.finished, i, a.reset, j) refl
       by true e false i false j (Some code) g d q = rw (a.events, g, a.openness, e, a.finished, i, a.reset, j) refl
-      by false e true i true j (Some code) g d q = rw (a.events, g, a.openness, e) refl
-      by false e true i false j (Some code) g d q = rw (a.events, g, a.openness, e) refl
-      by false e false i true j (Some code) g d q = rw (a.events, g, a.openness, e) refl
-      by false e false i false j (Some code) g d q = rw (a.events, g, a.openness, e) refl
-      by true e true i true j None g true q = rw (a.events, g, a.openness, e, a.finished, i, a.reset, j) refl
-      by true e true i true j None g false q = rw (a.events, g, a.openness, e, a.finished, i, a.reset, j) refl
+      by false e f i r j (Some code) g d q = rw (a.events, g, a.openness, e) refl
+      by true e true i true j None g d q = rw (a.events, g, a.openness, e, a.finished, i, a.reset, j) refl
+      by true e false i true j None g d q = rw (a.events, g, a.openness, e, a.finished, i, a.reset, j) refl
+      by false e true i true j None g d q = rw (a.events, g, a.openness, e, a.finished, i, a.reset, j) refl
+      by false e false i true j None g d q = rw (a.events, g, a.openness, e, a.finished, i, a.reset, j) refl
       by true e true i false j None g true q = rw (a.events, g, a.openness, e, a.finished, i, a.reset, j, q) refl
       by true e true i false j None g false q = rw (a.events, g, a.openness, e, a.finished, i, a.reset, j, q) refl
-      by true e false i true j None g true q = rw (a.events, g, a.openness, e, a.finished, i, a.reset, j) refl
-      by true e false i true j None g false q = rw (a.events, g, a.openness, e, a.finished, i, a.reset, j) refl
-      by true e false i false j None g true q = rw (a.events, g, a.openness, e, a.finished, i, a.reset, j) refl
-      by true e false i false j None g false q = rw (a.events, g, a.openness, e, a.finished, i, a.reset, j) refl
-      by false e true i true j None g true q = rw (a.events, g, a.openness, e, a.finished, i, a.reset, j) refl
-      by false e true i true j None g false q = rw (a.events, g, a.openness, e, a.finished, i, a.reset, j) refl
       by false e true i false j None g true q = rw (a.events, g, a.openness, e, a.finished, i, a.reset, j, q) refl
       by false e true i false j None g false q = rw (a.events, g, a.openness, e, a.finished, i, a.reset, j, q) refl
-      by false e false i true j None g true q = rw (a.events, g, a.openness, e, a.finished, i, a.reset, j) refl
-      by false e false i true j None g false q = rw (a.events, g, a.openness, e, a.finished, i, a.reset, j) refl
-      by false e false i false j None g true q = rw (a.events, g, a.openness, e, a.finished, i, a.reset, j) refl
-      by false e false i false j None g false q = rw (a.events, g, a.openness, e, a.finished, i, a.reset, j) refl
+      by true e false i false j None g d q = rw (a.events, g, a.openness, e, a.finished, i, a.reset, j) refl
+      by false e false i false j None g d q = rw (a.events, g, a.openness, e, a.finished, i, a.reset, j) refl
 
   pub reset-agrees : (code : ℕ) → ladders.reset side log k code ≡ effect_of side h log (calls.ResetSend k code) (first_row (reset h k code))
   reset-agrees code = by (ladders.is_done log k) refl (logs.is_open log) refl

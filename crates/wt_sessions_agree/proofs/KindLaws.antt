@@ -9,8 +9,7 @@ use Rattle.wt_sessions.specs.Scan.{is_unclassified, scan_kind, stream_ids}
 use Rattle.wt_sessions.specs.StreamTable.{CallView, StreamTable, TransportView}
 use Rattle.wt_sessions_agree.proofs.Appends.{filter-ids}
 use Rattle.wt_sessions_agree.proofs.FoundLaws.{ripe-agrees}
-use Rattle.wt_sessions_agree.proofs.ScanLaws.{Admits, ScanKeeps, check-step, checks-faulty, scan-keeps, table-kept}
-use Rattle.wt_sessions_agree.specs.Agrees.{IsTable}
+use Rattle.wt_sessions_agree.proofs.ScanLaws.{Admits, ScanKeeps, check-step, checks-faulty, scan-keeps}
 use Rattle.wt_meaning.specs.Findings.{Finding, fault_of, is_classified, is_dequeued}
 use Rattle.wt_meaning.specs.History.{History}
 use Rattle.wt_meaning.specs.Moments.{Classify, Dequeue, after_checks, classifying, dequeuing, ids_from, is_ready, stream_checks, verdict}

@@ -1,11 +1,10 @@
 -- What holds at the start of a turn's moment, and so after it.
-use Rattle.std.specs.Prelude.{[], ◌%◌, ◌&&◌, ◌==◌, ◌||◌, ◌∷◌, ◌≡◌, Bool, List, None, Option, false, if◌then◌else◌, not, true, ℕ}
+use Rattle.std.specs.Prelude.{[], ◌||◌, ◌∷◌, ◌≡◌, Bool, List, None, Option, false, if◌then◌else◌, true, ℕ}
 use Rattle.std.specs.List.{list_any}
 use Rattle.std.proofs.Common.{◌∙◌, ap, refl, sym}
-use Rattle.std.proofs.lemmas.Bool.{eq-eqb, eqb-true}
 use Rattle.wt_meaning.specs.Findings.{Finding, is_classified}
 use Rattle.wt_meaning.specs.Handshakes.{was_given}
-use Rattle.wt_meaning.specs.History.{History, Pair, actions_out, all_events, events, exists, hands_out, is_given_up, is_handed_out, is_open, is_reset}
+use Rattle.wt_meaning.specs.History.{History, Pair, hands_out, is_handed_out, is_open}
 use Rattle.wt_meaning.specs.Lawful.{is_lawful}
 use Rattle.wt_meaning.specs.Meaning.{next, own_answer, step, with_pair}
 use Rattle.wt_meaning.specs.Moments.{findings}
@@ -23,18 +22,10 @@ use Rattle.wt_promise.proofs.Tables.{fits-own}
 use Rattle.wt_promise.proofs.Verdicts.{ByAccept, ByOpening, HandedBy, given-classified, handed-by, hands-by}
 use Rattle.wt_promise.proofs.Waiting.{named-established}
 use Rattle.wt_promise.specs.Promise.{IsHistory}
-use Rattle.wt_seam_spec.specs.Reports.{end_of, is_running}
-use Rattle.wt_seam_spec.specs.Sent as sends
-use Rattle.wt_seam_spec.specs.Streams.{local_uni, peer_uni}
-use Rattle.wt_seam_spec.specs.Streams as streams
-use Rattle.wt_sessions.specs.Driver.{gives_up, transport_view}
 use Rattle.wt_sessions.specs.StreamTable.{CallView}
-use Rattle.wt_sessions_agree.proofs.Basics.{eqb-sym}
 use Rattle.wt_sessions_agree.proofs.CameLaws.{came, came-more}
 use Rattle.wt_sessions_agree.proofs.MembersKept.{Good, closed-more, good-kept}
-use Rattle.wt_sessions_agree.specs.Members.{HalvesSeen, MembersIn}
-use Rattle.wt_sessions_agree.specs.Stands.{SameOut}
-use Rattle.wt_turn.specs.Log.{Log, actions_of, all_events_of, calls_of, events_of}
+use Rattle.wt_sessions_agree.specs.Members.{MembersIn}
 use Rattle.wt_turn.specs.declared.action.Action.{Action}
 use Rattle.wt_turn.specs.declared.reply.Reply.{Reply}
 use Rattle.wt_turn.specs.declared.turn.Turn.{Turn}

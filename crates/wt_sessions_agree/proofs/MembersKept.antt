@@ -1,16 +1,16 @@
 -- What holds in a moment, and is kept by each of its checks: a session's streams are the same in both, and a session that is gone has a verdict or was established.
-use Rattle.std.specs.Prelude.{[], ◌&&◌, ◌++◌, ◌==◌, ◌||◌, ◌∷◌, ◌≡◌, Bool, List, None, Option, Some, false, is_some, not, true, ℕ}
-use Rattle.std.specs.List.{list_all, list_any}
+use Rattle.std.specs.Prelude.{[], ◌&&◌, ◌++◌, ◌==◌, ◌||◌, ◌∷◌, ◌≡◌, Bool, List, false, not, true, ℕ}
+use Rattle.std.specs.List.{list_any}
 use Rattle.std.proofs.Common.{◌∙◌, ap, refl, sym}
 use Rattle.std.proofs.lemmas.Bool.{eqb-true}
 use Rattle.std.proofs.lemmas.List.Folds.{list_any-append}
-use Rattle.wt_meaning.specs.Findings.{Classified, DatagramRead, Dequeued, Faulted, Finding, SessionClosed, SettingsRead, is_classified, verdict_in, verdict_of}
+use Rattle.wt_meaning.specs.Findings.{Classified, Finding, SessionClosed, is_classified}
 use Rattle.wt_meaning.specs.History.{History, exists, is_handed_out}
-use Rattle.wt_meaning.specs.Moments.{Check, after_checks, keeps, stream_fault, verdict}
+use Rattle.wt_meaning.specs.Moments.{keeps, stream_fault, verdict}
 use Rattle.wt_meaning.specs.Sends.{admits, session_gone_actions}
 use Rattle.wt_meaning.specs.Windows.{is_established, is_gone, is_gone_by_call, makes_gone}
 use Rattle.wt_promise.proofs.Accepted.{and-left, or-true}
-use Rattle.wt_promise.proofs.Grows.{AClassified, AClosed, ADatagram, ADequeued, AFault, ASettings, Adds, Kept, Nothing, asks_peers, checks-keep, first_of-stays, is_peers, of-stream-fault}
+use Rattle.wt_promise.proofs.Grows.{AClassified, AClosed, ADatagram, ADequeued, AFault, ASettings, Adds, Kept, Nothing, is_peers, of-stream-fault}
 use Rattle.wt_promise.proofs.MomentActs.{closes_session}
 use Rattle.wt_proto.specs.declared.verdict.Verdict.{Verdict}
 use Rattle.wt_sessions.specs.StreamTable.{CallView, StreamTable, TransportView, dispatched_streams, gone_actions}

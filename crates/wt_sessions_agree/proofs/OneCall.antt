@@ -1,31 +1,26 @@
 -- Each call agrees.
-use Rattle.std.specs.Prelude.{[], ◌&&◌, ◌++◌, ◌+◌, ◌∷◌, ◌||◌, ◌≡◌, Bool, List, None, Option, Some, false, filter_map, if◌then◌else◌, not, take, true, unwrap_or, ℕ}
+use Rattle.std.specs.Prelude.{◌&&◌, ◌++◌, ◌+◌, ◌∷◌, ◌||◌, ◌≡◌, Bool, List, None, Option, Some, false, filter_map, not, take, true, unwrap_or, ℕ}
 use Rattle.std.specs.List.{list_any}
 use Rattle.std.proofs.Common.{◌∙◌, ap, refl, subst, sym}
 use Rattle.std.proofs.lemmas.List.Folds.{list_any-append}
 use Rattle.wt_meaning.specs.Findings.{Finding}
-use Rattle.wt_meaning.specs.Handshakes.{acceptance_frame, head_left, is_opened, last_begun, poll_rows, send}
+use Rattle.wt_meaning.specs.Handshakes.{acceptance_frame, head_left, is_opened, last_begun, send}
 use Rattle.wt_meaning.specs.History.{History, Pair, actions_out, all_events, contents, credit_left, events, is_given_up, is_open, is_reset, is_reset_of, stream_count}
 use Rattle.wt_meaning.specs.Lawful.{is_lawful}
-use Rattle.wt_meaning.specs.Meaning.{next, own_answer, step, with_pair}
+use Rattle.wt_meaning.specs.Meaning.{own_answer, step}
 use Rattle.wt_meaning.specs.Moments.{after_checks, checks, findings, ids_from}
-use Rattle.wt_meaning.specs.Rows.{first_row}
 use Rattle.wt_meaning.specs.Sends.{action_if, moment_actions}
 use Rattle.wt_meaning.specs.Windows.{is_established, last_request, session_in}
 use Rattle.wt_promise.proofs.Actions.{none-append, none-if, none-sent, opened-next, or-assoc}
 use Rattle.wt_promise.proofs.Few.{APoll, AnAccept, SessionCall, session-call}
-use Rattle.wt_promise.proofs.Grows.{checks-add, more}
 use Rattle.wt_promise.proofs.Sessions.{Accepted, AcceptGives, ConnectGives, Connected, PollGives, accept-gives, poll-gives}
 use Rattle.wt_promise.proofs.Tables.{fits-own}
 use Rattle.wt_promise.specs.Promise.{IsHistory, head_of}
-use Rattle.wt_seam_spec.specs.Joined.{newest_first}
 use Rattle.wt_seam_spec.specs.Sent as sends
 use Rattle.wt_seam_spec.specs.Streams as streams
-use Rattle.wt_sessions.specs.Answers.{call_effect, log_after, may_call}
-use Rattle.wt_sessions.specs.Answers as answers
+use Rattle.wt_sessions.specs.Answers.{call_effect}
 use Rattle.wt_sessions.specs.Driver.{call_view, gives_up, is_moment, log_and_flush, pending_actions, stream_table, transport_view}
-use Rattle.wt_sessions.specs.Handshake.{handshake_state}
-use Rattle.wt_sessions.specs.StreamTable.{CallView, Session, was_established}
+use Rattle.wt_sessions.specs.StreamTable.{CallView, was_established}
 use Rattle.wt_sessions_agree.proofs.AnswerLaws.{sent-then}
 use Rattle.wt_sessions_agree.proofs.Basics.{or-turned}
 use Rattle.wt_sessions_agree.proofs.CallKeeps.{accepted-after, call-keeps, ended-after, given_up-after, reset-from}
@@ -46,7 +41,7 @@ use Rattle.wt_sessions_agree.proofs.OutLaws.{acted, any-newest, same-raw}
 use Rattle.wt_sessions_agree.proofs.RestTurns.{idle-call}
 use Rattle.wt_sessions_agree.proofs.RowsAgree.{call-agrees}
 use Rattle.wt_sessions_agree.proofs.SessionTurns.{calls-established, session-reply, sessions-call, sessions-session, with-offset}
-use Rattle.wt_sessions_agree.proofs.TransportLaws.{acted-all, acted-contents, acted-events, called-contents, called-events, flushed}
+use Rattle.wt_sessions_agree.proofs.CameAgrees.{acted-all, acted-contents, acted-events, called-contents, called-events, flushed}
 use Rattle.wt_sessions_agree.proofs.TurnFinds.{acted-table, sees-alike}
 use Rattle.wt_sessions_agree.proofs.TurnKeeps.{acted-calls, flushed-first, resets-apart, unsent-reset, view-of}
 use Rattle.wt_sessions_agree.specs.Agreement.{Agree, TurnAgrees}
@@ -54,7 +49,7 @@ use Rattle.wt_sessions_agree.specs.Agrees.{IsTable}
 use Rattle.wt_sessions_agree.specs.Members.{HalvesSeen, MembersIn}
 use Rattle.wt_sessions_agree.specs.Orderly.{Orderly, session_at}
 use Rattle.wt_sessions_agree.specs.Records.{effect_of, part_start, record_of}
-use Rattle.wt_sessions_agree.specs.Stands.{CallsAgree, HandshakeAgrees, SameOut, SeesAlike, Stands}
+use Rattle.wt_sessions_agree.specs.Stands.{CallsAgree, SameOut, SeesAlike, Stands}
 use Rattle.wt_turn.specs.Log.{CallRecord, Called, Log, Polled, actions_of, all_events_of, calls_of, closes, events_of, with_actions}
 use Rattle.wt_turn.specs.Log as logs
 use Rattle.wt_turn.specs.declared.action.Action.{Action}
@@ -63,7 +58,6 @@ use Rattle.wt_turn.specs.declared.call.Call.{Call}
 use Rattle.wt_wire.specs.HeaderList.{Fields}
 use Rattle.wt_wire.specs.declared.side.Side.{Side}
 use Rattle.wt_turn.specs.declared.action.Action.TheVariants as actions
-use Rattle.wt_turn.specs.declared.call.Call.TheVariants as calls
 use Rattle.wt_turn.specs.declared.reply.Reply.TheVariants as replies
 use Rattle.wt_turn.specs.declared.turn.Turn.TheVariants as turns
 

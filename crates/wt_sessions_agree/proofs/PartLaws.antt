@@ -1,5 +1,5 @@
 -- Where an established session's part of its stream begins is settled: by its request on a server, by its response on a client.
-use Rattle.std.specs.Prelude.{[], ◌%◌, ◌&&◌, ◌++◌, ◌+◌, ◌==◌, ◌||◌, ◌∷◌, ◌≡◌, Bool, List, None, Option, Some, drop, false, filter_map, if◌then◌else◌, is_some, not, true, unwrap_or, ℕ}
+use Rattle.std.specs.Prelude.{[], ◌%◌, ◌&&◌, ◌++◌, ◌+◌, ◌==◌, ◌||◌, ◌∷◌, ◌≡◌, Bool, List, None, Option, Some, drop, false, filter_map, if◌then◌else◌, not, true, unwrap_or, ℕ}
 use Rattle.std.specs.List.{cons_option, list_any}
 use Rattle.std.specs.Option.{option_or}
 use Rattle.std.proofs.Common.{◌∙◌, ap, refl, subst, sym}
@@ -11,7 +11,7 @@ use Rattle.wt_meaning.specs.Handshakes.{is_opened, is_success, was_given}
 use Rattle.wt_meaning.specs.History.{History, Pair, contents, events, is_open, with_bytes}
 use Rattle.wt_meaning.specs.Meaning.{next, with_pair}
 use Rattle.wt_meaning.specs.Moments.{findings, keeps, stream_fault, verdict}
-use Rattle.wt_meaning.specs.Windows.{after_request, after_response, establishes, is_established, last_request, queued_request, requests, session_in}
+use Rattle.wt_meaning.specs.Windows.{after_request, after_response, establishes, is_established, last_request, queued_request, session_in}
 use Rattle.wt_promise.proofs.Accepted.{and-left}
 use Rattle.wt_promise.proofs.Datagrams.{numbered}
 use Rattle.wt_promise.proofs.Established.{established-rightly}

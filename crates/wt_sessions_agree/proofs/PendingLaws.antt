@@ -1,10 +1,9 @@
 -- All that goes out at a moment is the same in both: this end's control stream, what is found leads to, and the close.
-use Rattle.std.specs.Prelude.{[], ◌&&◌, ◌++◌, ◌∷◌, ◌||◌, ◌≡◌, Bool, List, None, drop, false, if◌then◌else◌, length, not, true, ℕ}
-use Rattle.std.specs.List.{list_any}
+use Rattle.std.specs.Prelude.{[], ◌&&◌, ◌++◌, ◌∷◌, ◌≡◌, Bool, List, drop, if◌then◌else◌, length, true, ℕ}
 use Rattle.std.proofs.Common.{◌∙◌, ap, append_assoc, refl, sym}
 use Rattle.std.proofs.lemmas.List.{append-nil}
-use Rattle.wt_meaning.specs.Findings.{Finding, fault_of, is_classified}
-use Rattle.wt_meaning.specs.History.{History, Pair, actions_out, ends_by, events, is_open}
+use Rattle.wt_meaning.specs.Findings.{Finding}
+use Rattle.wt_meaning.specs.History.{History, Pair, actions_out, events, is_open}
 use Rattle.wt_meaning.specs.Moments.{checks, findings}
 use Rattle.wt_meaning.specs.Sends.{actions_for_all, moment_actions, session_gone_actions}
 use Rattle.wt_meaning.specs.Sends as sends
@@ -13,9 +12,9 @@ use Rattle.wt_promise.proofs.OpenStays.{no-fault}
 use Rattle.wt_promise.specs.Promise.{IsHistory}
 use Rattle.wt_seam_spec.specs.Streams.{local_uni}
 use Rattle.wt_promise.proofs.Opened.{open-before}
-use Rattle.wt_sessions.specs.Driver.{actions_after, apply_if, call_view, close_actions, control_actions, control_sent, is_moment, pending_actions, stream_table, transport_view}
+use Rattle.wt_sessions.specs.Driver.{actions_after, call_view, close_actions, control_actions, control_sent, is_moment, pending_actions, stream_table, transport_view}
 use Rattle.wt_sessions.specs.Scan.{scan_order}
-use Rattle.wt_sessions.specs.StreamTable.{StreamTable, dispatched_streams, gone_actions}
+use Rattle.wt_sessions.specs.StreamTable.{StreamTable}
 use Rattle.wt_sessions_agree.proofs.AnswerLaws.{control-agrees}
 use Rattle.wt_sessions_agree.proofs.MembersKept.{Good, good-alike, good-fresh, good-kept}
 use Rattle.wt_sessions_agree.proofs.MomentSends.{moment-sends}

@@ -1,21 +1,19 @@
 -- Which replies the calls of the handshakes give; and that no other call gives a request, a session, a rejection or a failed connect.
-use Rattle.std.specs.Prelude.{[], ◌/◌, ◌∷◌, ◌≡◌, Bool, List, None, Option, Result, Some, false, if◌then◌else◌, length, not, true, ℕ}
+use Rattle.std.specs.Prelude.{[], ◌/◌, ◌∷◌, ◌≡◌, Bool, List, None, Option, Some, false, if◌then◌else◌, length, not, true, ℕ}
 use Rattle.std.proofs.Common.{refl}
 use Rattle.wt_meaning.specs.Calls.{being_opened, first_datagram, first_waiting, in_session, opening_for, refused_by, rows_of}
 use Rattle.wt_meaning.specs.Halves.{has_receiving, has_sending, is_closed, is_done, reset_code, stopped_rows, where_has, write_rows}
-use Rattle.wt_meaning.specs.Handshakes.{connect_on, incoming_rows, next_request, rejection, response_to}
+use Rattle.wt_meaning.specs.Handshakes.{incoming_rows, next_request, rejection, response_to}
 use Rattle.wt_meaning.specs.History.{History, events, is_open}
 use Rattle.wt_meaning.specs.Lawful.{is_of_request, polls}
 use Rattle.wt_meaning.specs.Rows.{Row, first_row, row, row_for}
-use Rattle.wt_meaning.specs.Targets.{Target}
 use Rattle.wt_meaning.specs.Windows.{named}
 use Rattle.wt_message.specs.Datagram.{datagram_bytes}
-use Rattle.wt_promise.proofs.Tables.{OfRows, Says, accepts-pass, by-row, by-session, by-value, connect-passes, no-row, rejects-pass}
+use Rattle.wt_promise.proofs.Tables.{OfRows, Says, accepts-pass, by-row, by-session, by-value, no-row, rejects-pass}
 use Rattle.wt_seam_spec.specs.Reports.{datagram_fact, end_of, stop_of}
 use Rattle.wt_seam_spec.specs.Streams.{peer_bi, peer_uni}
 use Rattle.wt_turn.specs.declared.action.Action.{Action}
 use Rattle.wt_turn.specs.declared.call.Call.{Call}
-use Rattle.wt_turn.specs.declared.connecting_error.ConnectingError.{ConnectingError}
 use Rattle.wt_turn.specs.declared.reply.Reply.{Reply}
 use Rattle.wt_turn.specs.declared.stream_error.StreamWriteError.{StreamWriteError}
 use Rattle.wt_wire.specs.HeaderList.{Fields}
@@ -58,13 +56,6 @@ is_rejecting _ = false
 
 pub reject-replies : (side : Side) (h : History) (digits : List ℕ) → is_rejecting (first_row (rejection side h digits)).reply ≡ true
 reject-replies side h digits = (rejects-pass is_rejecting refl refl side h digits).first
-
--- of a connect that goes on
-abbrev pub is_connecting : Reply → Bool
-is_connecting (replies.Session id) = true
-is_connecting (replies.ConnectFailed e) = true
-is_connecting replies.Pending = true
-is_connecting _ = false
 
 -- ---- every other call
 

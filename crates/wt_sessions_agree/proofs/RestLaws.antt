@@ -26,7 +26,6 @@ use Rattle.wt_sessions_agree.proofs.RestKinds.{Classifies, Closes, Dequeues, Fin
 use Rattle.wt_sessions_agree.specs.Orderly.{Known, begins_at}
 use Rattle.wt_wire.specs.declared.error.ErrorCode.{ErrorCode}
 use Rattle.wt_wire.specs.declared.side.Side.{Side}
-use Rattle.wt_wire.specs.declared.side.Side.TheVariants.{Client, Server}
 use Rattle.wt_proto.specs.declared.session_walk.SessionWalk.TheVariants as walks
 use Rattle.wt_wire.specs.declared.side.StreamEnd.TheVariants as ends
 

@@ -6,7 +6,7 @@ use Rattle.std.proofs.lemmas.Bool.{eqb-true, lt-ltb, ltb-true}
 use Rattle.std.proofs.lemmas.List.Folds.{list_all-append, list_any-append}
 use Rattle.wt_meaning.specs.Findings.{Dequeued, Finding, dequeues, fault_of, is_dequeued}
 use Rattle.wt_meaning.specs.History.{History, all_events, events, exists, is_open, stream_count, with_event}
-use Rattle.wt_meaning.specs.Moments.{Check, Classify, ControlFault, DecoderEnd, Dequeue, EncoderEnd, LocalStop, ReadDatagram, ReadSettings, WalkSession, after_checks, after_moments, checks, datagram_checks, findings, found_by, ids_from, is_ready, stream_checks, unclassified_before}
+use Rattle.wt_meaning.specs.Moments.{Check, Dequeue, WalkSession, after_checks, after_moments, checks, datagram_checks, findings, found_by, ids_from, is_ready, stream_checks, unclassified_before}
 use Rattle.wt_meaning.specs.Windows.{is_established}
 use Rattle.wt_promise.proofs.Fresh.{established-opened, nth-of}
 use Rattle.wt_promise.proofs.HandedOut.{only-peers}

@@ -1,24 +1,19 @@
 -- Each turn of the transport agrees.
-use Rattle.std.specs.Prelude.{[], ◌&&◌, ◌++◌, ◌==◌, ◌∷◌, ◌||◌, ◌≡◌, Bool, List, None, Option, Some, false, filter_map, if◌then◌else◌, not, true, ℕ}
+use Rattle.std.specs.Prelude.{[], ◌&&◌, ◌++◌, ◌==◌, ◌∷◌, ◌||◌, ◌≡◌, Bool, List, Some, false, if◌then◌else◌, not, true, ℕ}
 use Rattle.std.specs.List.{list_any}
 use Rattle.std.proofs.Common.{◌∙◌, ap, refl, subst, sym}
-use Rattle.wt_meaning.specs.Findings.{Finding, fault_of, is_classified}
-use Rattle.wt_meaning.specs.History.{History, Pair, actions_out, all_events, contents, ends_by, events, is_given_up, is_open, is_reset, loses, with_bytes, with_event}
+use Rattle.wt_meaning.specs.History.{History, Pair, actions_out, all_events, contents, ends_by, events, is_open, loses, with_bytes, with_event}
 use Rattle.wt_meaning.specs.Lawful.{is_lawful}
 use Rattle.wt_meaning.specs.Meaning.{own_answer, step, with_pair}
 use Rattle.wt_meaning.specs.Moments.{after_checks, checks, findings}
 use Rattle.wt_meaning.specs.Rows.{answer}
 use Rattle.wt_meaning.specs.Sends.{moment_actions}
-use Rattle.wt_meaning.specs.Windows.{is_gone}
-use Rattle.wt_promise.proofs.Grows.{is_peers}
-use Rattle.wt_promise.proofs.OpenStays.{no-fault}
 use Rattle.wt_promise.specs.Promise.{IsHistory}
 use Rattle.wt_seam_spec.specs.Arrivals.{event_entry}
-use Rattle.wt_seam_spec.specs.Joined.{join_all, newest_first}
+use Rattle.wt_seam_spec.specs.Joined.{join_all}
 use Rattle.wt_seam_spec.specs.Streams as streams
 use Rattle.wt_sessions.specs.Answers.{log_after}
-use Rattle.wt_sessions.specs.Driver.{call_view, gives_up, is_moment, log_and_flush, pending_actions, stream_table, transport_view}
-use Rattle.wt_sessions.specs.StreamTable.{CallView, StreamTable}
+use Rattle.wt_sessions.specs.Driver.{call_view, is_moment, log_and_flush, pending_actions, transport_view}
 use Rattle.wt_sessions_agree.proofs.EntryTurns.{at-moment, closed-more, finds-nothing, leaves-nothing, none-now, open-after, open-byte}
 use Rattle.wt_sessions_agree.proofs.HalvesAlike.{halves-seen}
 use Rattle.wt_sessions_agree.proofs.MembersBefore.{good-before, members-moment}
@@ -27,19 +22,17 @@ use Rattle.wt_sessions_agree.proofs.MembersTurns.{members-plain}
 use Rattle.wt_sessions_agree.proofs.OrderTurns.{order-plain}
 use Rattle.wt_sessions_agree.proofs.PendingLaws.{sends-alike}
 use Rattle.wt_sessions_agree.proofs.RestTurns.{idle-loss}
-use Rattle.wt_sessions_agree.proofs.TransportLaws.{is_single}
+use Rattle.wt_sessions_agree.proofs.CameAgrees.{is_single}
 use Rattle.wt_sessions_agree.proofs.TurnAnswers.{done-next, sends-now}
 use Rattle.wt_sessions_agree.proofs.TurnFinds.{found-same, found-then, sees-alike}
 use Rattle.wt_sessions_agree.proofs.TurnKeeps.{calls-after, count-after, entry-actions, entry-calls, halves-after, out-after, sessions-after, single-plain, turn-calls}
 use Rattle.wt_sessions_agree.specs.Agreement.{TurnAgrees}
-use Rattle.wt_sessions_agree.specs.Agrees.{IsTable}
 use Rattle.wt_sessions_agree.specs.Members.{HalvesSeen, MembersIn}
 use Rattle.wt_sessions_agree.specs.Orderly.{Orderly}
 use Rattle.wt_sessions_agree.specs.Stands.{CallsAgree, HalvesAgree, SameOut, SeesAlike, Stands}
 use Rattle.wt_turn.specs.Log.{Entry, Event, Log, Loss, Received, Reported, ReportedLate, actions_of, all_events_of, calls_of, events_of, with_actions}
 use Rattle.wt_turn.specs.Log as logs
 use Rattle.wt_turn.specs.Turns.{event_of, is_call}
-use Rattle.wt_turn.specs.declared.action.Action.{Action}
 use Rattle.wt_turn.specs.declared.answer.Answer.{Answer}
 use Rattle.wt_turn.specs.declared.loss.LossReason.{LossReason}
 use Rattle.wt_turn.specs.declared.turn.Turn.{Turn}

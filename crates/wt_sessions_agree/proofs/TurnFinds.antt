@@ -13,7 +13,7 @@ use Rattle.wt_sessions.specs.Scan.{scan_order}
 use Rattle.wt_sessions.specs.StreamTable.{CallView}
 use Rattle.wt_sessions_agree.proofs.MomentAgrees.{moment-agrees}
 use Rattle.wt_sessions_agree.proofs.OrderlyLaws.{orderly-checks}
-use Rattle.wt_sessions_agree.proofs.TransportLaws.{ready-by-events}
+use Rattle.wt_sessions_agree.proofs.CameAgrees.{ready-by-events}
 use Rattle.wt_sessions_agree.specs.Agrees.{IsTable}
 use Rattle.wt_sessions_agree.specs.Orderly.{Orderly, session_at}
 use Rattle.wt_sessions_agree.specs.Stands.{CallsAgree, SeesAlike}
@@ -94,13 +94,6 @@ finds-alike side offset p h log e d o m s orderly table =
     subst (λ (found : List Finding). IsTable found (stream_table side (log_and_flush side log e))) (sym f)
     (subst (IsTable (after_checks side (p ∷ h) (checks side (p ∷ h)) (findings side h))) (sym t)
     (moment-agrees side (p ∷ h) (transport_view side (e ∷ log)) (call_view (e ∷ log)) offset s (findings side h) (stream_table side log) orderly table))
-
--- after the end nothing is found, and the table stays
-pub finds-none : (side : Side) (p : Pair) (h : History) (log : Log) (e : Entry) → is_open h ≡ false → (is_moment e && logs.is_open (e ∷ log)) ≡ false → IsTable (findings side h) (stream_table side log)
-    → IsTable (findings side (p ∷ h)) (stream_table side (log_and_flush side log e))
-finds-none side p h log e o m table =
-    subst (λ (found : List Finding). IsTable found (stream_table side (log_and_flush side log e))) (sym (found-same side p h o))
-    (subst (IsTable (findings side h)) (sym (table-same side log e m)) table)
 
 -- what held before the moment holds after it
 pub orderly-then : (side : Side) (offset : ℕ → ℕ) (p : Pair) (h : History) (calls : CallView) → p.answer.reply ≡ replies.Done → is_open h ≡ true → Orderly side (p ∷ h) calls offset (findings side h) → Orderly side (p ∷ h) calls offset (findings side (p ∷ h))

@@ -7,22 +7,20 @@ use Rattle.std.proofs.lemmas.Bool.{eqb-true}
 use Rattle.std.proofs.lemmas.List.{append-nil}
 use Rattle.wt_meaning.specs.Calls.{being_opened, opened_by, opening_ends}
 use Rattle.wt_meaning.specs.Findings.{first_of}
-use Rattle.wt_meaning.specs.Halves.{is_done, priority_by, read_by, was_read}
+use Rattle.wt_meaning.specs.Halves.{priority_by, read_by, was_read}
 use Rattle.wt_meaning.specs.Handshakes.{begun_by, last_begun}
-use Rattle.wt_meaning.specs.History.{History, Pair, actions_out, answers_reset, all_events, answers_stop, events, exists, is_given_up, is_open, is_reset, is_reset_of, stream_count, was_finished, with_event}
+use Rattle.wt_meaning.specs.History.{History, Pair, actions_out, answers_reset, all_events, answers_stop, exists, is_given_up, is_open, is_reset, is_reset_of, stream_count}
 use Rattle.wt_meaning.specs.Lawful.{fails_incoming, has_request, is_of_request, is_waiting, polls}
 use Rattle.wt_meaning.specs.Meaning.{with_pair}
 use Rattle.wt_meaning.specs.Moments.{findings, ids_from}
 use Rattle.wt_meaning.specs.Rows.{answer}
 use Rattle.wt_meaning.specs.Windows.{first_session, gone_in, is_established, named}
 use Rattle.wt_seam_spec.specs.Joined.{join_all, newest_first}
-use Rattle.wt_seam_spec.specs.Reports.{acknowledges, is_acknowledged}
 use Rattle.wt_seam_spec.specs.Sent as sends
 use Rattle.wt_seam_spec.specs.Arrivals.{event_entry}
 use Rattle.wt_seam_spec.specs.Streams.{one_more_if, peer_count, peer_opens}
 use Rattle.wt_promise.proofs.Actions.{opened-out, or-assoc}
 use Rattle.wt_promise.proofs.Stays.{exists-stays}
-use Rattle.wt_promise.proofs.Accepted.{or-true}
 use Rattle.wt_sessions.specs.Answers.{log_after}
 use Rattle.wt_sessions.specs.Driver as drivers
 use Rattle.wt_sessions.specs.Halves as halves
@@ -34,7 +32,7 @@ use Rattle.wt_sessions.specs.StreamTable.{CallView, is_session}
 use Rattle.wt_sessions_agree.proofs.Basics.{or-none, or-turned}
 use Rattle.wt_sessions_agree.proofs.DoneStays.{done-before, told-resets}
 use Rattle.wt_sessions_agree.proofs.OutLaws.{any-newest, same-out}
-use Rattle.wt_sessions_agree.proofs.TransportLaws.{flushed, is_single, turn_agrees}
+use Rattle.wt_sessions_agree.proofs.CameAgrees.{flushed, is_single, turn_agrees}
 use Rattle.wt_sessions_agree.specs.Agrees.{Agrees, IsTable}
 use Rattle.wt_sessions_agree.specs.Orderly.{Orderly, session_at}
 use Rattle.wt_sessions_agree.specs.Stands.{BegunAgrees, CallsAgree, HalvesAgree, HandshakeAgrees, IsOpening, NotOpening, OpeningAgrees, SameOut, Stands, fails_opening}
