@@ -1,20 +1,18 @@
 -- Which connect or response was begun for a stream.
-use Rattle.std.specs.Prelude.{[], ◌&&◌, ◌==◌, ◌||◌, ◌∷◌, ◌≡◌, Bool, None, Option, Some, false, if◌then◌else◌, not, true, unwrap_or, ℕ}
-use Rattle.std.specs.List.{list_any}
+use Rattle.std.specs.Prelude.{[], ◌==◌, ◌||◌, ◌∷◌, ◌≡◌, Bool, None, Option, Some, false, if◌then◌else◌, not, true, unwrap_or, ℕ}
 use Rattle.std.specs.Option.{option_or}
-use Rattle.std.proofs.Common.{◌∙◌, ap, refl, sym}
+use Rattle.std.proofs.Common.{◌∙◌, ap, refl, subst, sym}
 use Rattle.std.proofs.lemmas.Bool.{eq-eqb, eqb-true}
 use Rattle.wt_meaning.specs.Handshakes.{begun_by, last_begun, was_given}
 use Rattle.wt_meaning.specs.History.{History, Pair}
-use Rattle.wt_meaning.specs.Lawful.{all_answered, fails_incoming, gives_request, has_request, is_client, is_first, is_lawful, is_of_request, is_response, is_waiting, may_call, polls}
+use Rattle.wt_meaning.specs.Lawful.{all_answered, gives_request, has_request, is_first, is_lawful, is_of_request, is_response, is_waiting, polls}
 use Rattle.wt_meaning.specs.Meaning.{next}
 use Rattle.wt_meaning.specs.Windows.{last_request, request_in}
 use Rattle.wt_promise.proofs.Accepted.{and-right, or-true}
-use Rattle.wt_promise.proofs.Fresh.{client-begun}
-use Rattle.wt_promise.proofs.Phases.{given-monotone, idle-of, incoming-new, last-given, none-request, phase, polled-reply, quiet-reply, same-last, server-begun}
+use Rattle.wt_promise.proofs.Asks.{Asks, Begins, Else, ForRequest, GoesOn, Responds, asks, asks-of, begun-kind, of-connect, of-response}
+use Rattle.wt_promise.proofs.Phases.{given-monotone, idle-of, incoming-new, last-given, none-request, phase, same-last}
 use Rattle.wt_promise.proofs.Shapes.{going}
 use Rattle.wt_promise.proofs.Sessions.{is_connect}
-use Rattle.wt_promise.proofs.Tables.{fits, fits-own}
 use Rattle.wt_promise.specs.Promise.{IsHistory, begun_on}
 use Rattle.wt_turn.specs.declared.answer.Answer.{Answer}
 use Rattle.wt_turn.specs.declared.call.Call.{Call}
@@ -58,39 +56,31 @@ same-begun p h e = ap (λ (o : Option Call). option_or o (last_begun h)) e
 
 pub no-requests : (h : History) → IsHistory Client h → last_request h ≡ None
 no-requests [] i = refl
-no-requests (p ∷ h) i = ap (λ (o : Option ℕ). option_or o (last_request h)) (none-request p.answer.reply (ap (λ (a : Answer). gives_request a.reply) i.1 ∙ by p.turn i.0)) ∙ no-requests h i.2
+no-requests (p ∷ h) i = ap (λ (o : Option ℕ). option_or o (last_request h)) (none-request p.answer.reply (by (asks-of Client p h i))) ∙ no-requests h i.2
   where
-    quiet : (c : Call) (r : Reply) → may_call Client h c ≡ true → fits c r ≡ true → gives_request r ≡ false
-    quiet calls.Incoming r l f = absurd (cc l)
-    quiet c (replies.Request id headers) l f = absurd (cc f)
-    quiet c r l f = refl
-
-    by : (turn : Turn) → is_lawful Client h turn ≡ true → gives_request (next Client h turn).reply ≡ false
-    by (turns.Call c) l = quiet c (next Client h (turns.Call c)).reply l (fits-own Client h c)
-    by turn l = refl
+    by : Asks Client h p.turn p.answer.reply → gives_request p.answer.reply ≡ false
+    by (Begins c s t k f g n) = g
+    by (ForRequest s t a n) = absurd (cc s)
+    by (Responds c s t k q n) = absurd (cc s)
+    by (GoesOn t w n) = n
+    by (Else a b m g n) = g
 
 pub stream-zero : (h : History) → IsHistory Client h → last_stream h ≡ 0
 stream-zero h i = ap (λ (o : Option ℕ). unwrap_or o 0) (no-requests h i)
 
 no-asking : (h : History) → IsHistory Client h → has_request h ≡ false
 no-asking [] i = refl
-no-asking (p ∷ h) i = by (is_of_request p.turn) refl (no-asking h i.2)
+no-asking (p ∷ h) i = by (asks-of Client p h i) (no-asking h i.2)
   where
-    asks : (c : Call) → may_call Client h c ≡ true → is_of_request (turns.Call c) ≡ false
-    asks calls.Incoming l = absurd (cc l)
-    asks (calls.Accept headers) l = absurd (let m = and-right (not (is_first h)) false l in cc m)
-    asks calls.Forbidden l = absurd (let m = and-right (not (is_first h)) false l in cc m)
-    asks calls.NotFound l = absurd (let m = and-right (not (is_first h)) false l in cc m)
-    asks calls.TooManyRequests l = absurd (let m = and-right (not (is_first h)) false l in cc m)
-    asks c l = refl
+    still : is_of_request p.turn ≡ false → has_request h ≡ false → has_request (p ∷ h) ≡ false
+    still q again = ap (λ (x : Bool). if x then gives_request p.answer.reply else has_request h) q ∙ again
 
-    by : (b : Bool) → is_of_request p.turn ≡ b → has_request h ≡ false → (if b then gives_request p.answer.reply else has_request h) ≡ false
-    by false q again = again
-    by true q again = absurd (of p.turn i.0 q)
-      where
-        of : (t : Turn) → is_lawful Client h t ≡ true → is_of_request t ≡ true → ⊥
-        of (turns.Call c) m n = let r : false ≡ true = sym (asks c m) ∙ n in cc r
-        of t m n = cc n
+    by : Asks Client h p.turn p.answer.reply → has_request h ≡ false → has_request (p ∷ h) ≡ false
+    by (Begins c s t k f g n) again = still (ap is_of_request t ∙ (of-connect c k).0) again
+    by (ForRequest s t a n) again = absurd (cc s)
+    by (Responds c s t k q n) again = absurd (cc s)
+    by (GoesOn t w n) again = still (ap is_of_request t) again
+    by (Else a b m g n) again = still b again
 
 -- ---- whose stream it is
 
@@ -166,47 +156,16 @@ begins-begun p h c b g n q = record {
     same : last_stream (p ∷ h) ≡ last_stream h
     same = ap (λ (o : Option ℕ). unwrap_or o 0) (same-last p h g)
 
-begun-after : (side : Side) (p : Pair) (h : History) → IsHistory side (p ∷ h) → Begun h → Begun (p ∷ h)
-begun-after Client p h i before = by p.turn refl
+-- an Incoming of a server
+incoming-begun : (p : Pair) (h : History) → IsHistory Server (p ∷ h) → p.turn ≡ turns.Call calls.Incoming → all_answered h ≡ true → Begun (p ∷ h)
+incoming-begun p h i t all = by p.answer.reply refl
   where
-    lawful : (turn : Turn) → p.turn ≡ turn → is_lawful Client h turn ≡ true
-    lawful turn e = ap (is_lawful Client h) (sym e) ∙ i.0
+    idle : is_waiting (p ∷ h) ≡ true → ⊥
+    idle w = absurd (let x = rw t at w in let y : true ≡ false = sym x ∙ (idle-of h (phase h i.2) all).1 in cc y)
 
-    fit : (c : Call) → p.turn ≡ turns.Call c → fits c p.answer.reply ≡ true
-    fit c e = ap (λ (a : Answer). fits c a.reply) (i.1 ∙ ap (next Client h) e) ∙ fits-own Client h c
-
-    first : (x : History) → is_first x ≡ true → begun_on x (last_stream x) ≡ None
-    first [] q = refl
-    first (y ∷ x) q = absurd (cc q)
-
-    by : (turn : Turn) → p.turn ≡ turn → Begun (p ∷ h)
-    by (turns.Call (calls.Connect options lookup outcome)) e =
-        begins-begun p h (calls.Connect options lookup outcome) (ap begun_by e) (polled-reply (calls.Connect options lookup outcome) p.answer.reply (fit (calls.Connect options lookup outcome) e) refl)
-        (first h (lawful (turns.Call (calls.Connect options lookup outcome)) e)) (no-asking (p ∷ h) i)
-    by (turns.Call calls.Handshake) e = polled-begun p h (ap begun_by e) (polled-reply calls.Handshake p.answer.reply (fit calls.Handshake e) refl) (lawful (turns.Call calls.Handshake) e) (no-asking (p ∷ h) i) before
-    by (turns.Call (calls.Accept headers)) e = absurd (let m = and-right (not (is_first h)) false (lawful (turns.Call (calls.Accept headers)) e) in cc m)
-    by (turns.Call calls.Forbidden) e = absurd (let m = and-right (not (is_first h)) false (lawful (turns.Call calls.Forbidden) e) in cc m)
-    by (turns.Call calls.NotFound) e = absurd (let m = and-right (not (is_first h)) false (lawful (turns.Call calls.NotFound) e) in cc m)
-    by (turns.Call calls.TooManyRequests) e = absurd (let m = and-right (not (is_first h)) false (lawful (turns.Call calls.TooManyRequests) e) in cc m)
-    by (turns.Call calls.Incoming) e = absurd (let l = lawful (turns.Call calls.Incoming) e in cc l)
-    by (turns.Call c) e = quiet-begun p h (ap polls e) (ap is_of_request e) (ap begun_by e) (quiet-reply c p.answer.reply (fit c e) refl refl).0 before
-    by turn e = quiet-begun p h (ap polls e) (ap is_of_request e) (ap begun_by e) (ap (λ (a : Answer). gives_request a.reply) (i.1 ∙ ap (next Client h) e)) before
-begun-after Server p h i before = by p.turn refl
-  where
-    lawful : (turn : Turn) → p.turn ≡ turn → is_lawful Server h turn ≡ true
-    lawful turn e = ap (is_lawful Server h) (sym e) ∙ i.0
-
-    fit : (c : Call) → p.turn ≡ turns.Call c → fits c p.answer.reply ≡ true
-    fit c e = ap (λ (a : Answer). fits c a.reply) (i.1 ∙ ap (next Server h) e) ∙ fits-own Server h c
-
-    response : (c : Call) → p.turn ≡ turns.Call c → polls (turns.Call c) ≡ true → is_of_request (turns.Call c) ≡ true → begun_by (turns.Call c) ≡ Some c → has_request h ≡ true → Begun (p ∷ h)
-    response c e a r b q =
-        let n = polled-reply c p.answer.reply (fit c e) a in
-        begins-begun p h c (ap begun_by e ∙ b) n (before.fresh q) (ap (λ (x : Bool). if x then gives_request p.answer.reply else has_request h) (ap is_of_request e ∙ r) ∙ n)
-
-    asked : (r : Reply) → p.answer.reply ≡ r → all_answered h ≡ true → p.turn ≡ turns.Call calls.Incoming → Begun (p ∷ h)
-    asked (replies.Request id headers) e all t = record {
-      waiting = λ w. absurd (let x = rw t at w in let y : true ≡ false = sym x ∙ (idle-of h (phase h i.2) all).1 in cc y);
+    by : (r : Reply) → p.answer.reply ≡ r → Begun (p ∷ h)
+    by (replies.Request id headers) e = record {
+      waiting = λ w. absurd (idle w);
       fresh = λ q. rw e (begun-same p h id (ap begun_by t) ∙ none (begun_on h id) refl);
     }
       where
@@ -216,30 +175,37 @@ begun-after Server p h i before = by p.turn refl
             let given = begun-for Server h i.2 id c x in
             let new : was_given h id ≡ false = incoming-new Server h id (ap (λ (a : Answer). request_in a.reply) (sym (i.1 ∙ ap (next Server h) t)) ∙ ap request_in e) in
             absurd (let y : true ≡ false = sym given ∙ new in cc y)
-    asked r e all t = record {
-      waiting = λ w. absurd (let x = rw t at w in let y : true ≡ false = sym x ∙ (idle-of h (phase h i.2) all).1 in cc y);
+    by r e = record {
+      waiting = λ w. absurd (idle w);
       fresh = λ q. absurd (let x = rw (t, e) at q in cc x);
     }
 
-    by : (turn : Turn) → p.turn ≡ turn → Begun (p ∷ h)
-    by (turns.Call (calls.Connect options lookup outcome)) e = absurd (let l = lawful (turns.Call (calls.Connect options lookup outcome)) e in cc l)
-    by (turns.Call calls.Handshake) e =
-        let w : is_waiting h ≡ true = lawful (turns.Call calls.Handshake) e in
-        polled-begun p h (ap begun_by e) (polled-reply calls.Handshake p.answer.reply (fit calls.Handshake e) refl) w (ap (λ (x : Bool). if x then gives_request p.answer.reply else has_request h) (ap is_of_request e) ∙ unasked (has_request h) refl w) before
-      where
-        unasked : (b : Bool) → has_request h ≡ b → is_waiting h ≡ true → b ≡ false
-        unasked false q w = refl
-        unasked true q w = absurd (let r : true ≡ false = sym w ∙ (phase h i.2).apart q in cc r)
-    by (turns.Call (calls.Accept headers)) e = response (calls.Accept headers) e refl refl refl (and-right (not (is_first h)) (has_request h) (lawful (turns.Call (calls.Accept headers)) e))
-    by (turns.Call calls.Forbidden) e = response calls.Forbidden e refl refl refl (and-right (not (is_first h)) (has_request h) (lawful (turns.Call calls.Forbidden) e))
-    by (turns.Call calls.NotFound) e = response calls.NotFound e refl refl refl (and-right (not (is_first h)) (has_request h) (lawful (turns.Call calls.NotFound) e))
-    by (turns.Call calls.TooManyRequests) e = response calls.TooManyRequests e refl refl refl (and-right (not (is_first h)) (has_request h) (lawful (turns.Call calls.TooManyRequests) e))
-    by (turns.Call calls.Incoming) e = asked p.answer.reply refl (last-part (lawful (turns.Call calls.Incoming) e)) e
-      where
-        last-part : may_call Server h calls.Incoming ≡ true → all_answered h ≡ true
-        last-part l = and-right (not (is_client Server) && not (is_first h) && not (list_any (λ (x : Pair). fails_incoming x.turn x.answer.reply) h)) (all_answered h) l
-    by (turns.Call c) e = quiet-begun p h (ap polls e) (ap is_of_request e) (ap begun_by e) (quiet-reply c p.answer.reply (fit c e) refl refl).0 before
-    by turn e = quiet-begun p h (ap polls e) (ap is_of_request e) (ap begun_by e) (ap (λ (a : Answer). gives_request a.reply) (i.1 ∙ ap (next Server h) e)) before
+-- where a handshake goes on, no request is left that wasn't answered
+unasked : (side : Side) (h : History) → IsHistory side h → is_waiting h ≡ true → has_request h ≡ false
+unasked Client h i w = no-asking h i
+unasked Server h i w = by (has_request h) refl
+  where
+    by : (b : Bool) → has_request h ≡ b → b ≡ false
+    by false q = refl
+    by true q = absurd (let r : true ≡ false = sym w ∙ (phase h i).apart q in cc r)
+
+-- before a connect nothing was begun
+pub first-begun : (h : History) → is_first h ≡ true → begun_on h (last_stream h) ≡ None
+first-begun [] q = refl
+first-begun (y ∷ h) q = absurd (cc q)
+
+begun-after : (side : Side) (p : Pair) (h : History) → IsHistory side (p ∷ h) → Begun h → Begun (p ∷ h)
+begun-after side p h i before = by (asks-of side p h i)
+  where
+    asked : (b : Bool) → is_of_request p.turn ≡ b → has_request (p ∷ h) ≡ (if b then gives_request p.answer.reply else has_request h)
+    asked b q = ap (λ (x : Bool). if x then gives_request p.answer.reply else has_request h) q
+
+    by : Asks side h p.turn p.answer.reply → Begun (p ∷ h)
+    by (Begins c s t k f g n) = begins-begun p h c (ap begun_by t ∙ (of-connect c k).1) g (first-begun h f) (no-asking (p ∷ h) (subst (λ (x : Side). IsHistory x (p ∷ h)) s i))
+    by (ForRequest s t a n) = incoming-begun p h (subst (λ (x : Side). IsHistory x (p ∷ h)) s i) t a
+    by (Responds c s t k q n) = let r = of-response c k in begins-begun p h c (ap begun_by t ∙ r.begun) n (before.fresh q) (asked true (ap is_of_request t ∙ r.of_request) ∙ n)
+    by (GoesOn t w n) = polled-begun p h (ap begun_by t) n w (asked false (ap is_of_request t) ∙ unasked side h i.2 w) before
+    by (Else a b m g n) = quiet-begun p h a b m g before
 
 pub begun : (side : Side) (h : History) → IsHistory side h → Begun h
 begun side [] i = record { waiting = λ e. absurd (cc e); fresh = λ e. absurd (cc e) }
@@ -252,26 +218,22 @@ PolledStream Client h c = is_connect c ≡ true
 PolledStream Server h c = (is_response c ≡ true) × ((r : ℕ) × (last_request h ≡ Some r) × (was_given h r ≡ true))
 
 pub polled-stream : (side : Side) (h : History) (turn : Turn) (c : Call) → IsHistory side h → is_lawful side h turn ≡ true → polls turn ≡ true → going h turn ≡ Some c → PolledStream side h c
-polled-stream Client h (turns.Call calls.Handshake) c i l p g = client-begun h i c g
-polled-stream Client h (turns.Call (calls.Connect options lookup outcome)) c i l p g = let same : calls.Connect options lookup outcome ≡ c = cc g in ap is_connect (sym same)
-polled-stream Client h (turns.Call (calls.Accept headers)) c i l p g = absurd (let m = and-right (not (is_first h)) false l in cc m)
-polled-stream Client h (turns.Call calls.Forbidden) c i l p g = absurd (let m = and-right (not (is_first h)) false l in cc m)
-polled-stream Client h (turns.Call calls.NotFound) c i l p g = absurd (let m = and-right (not (is_first h)) false l in cc m)
-polled-stream Client h (turns.Call calls.TooManyRequests) c i l p g = absurd (let m = and-right (not (is_first h)) false l in cc m)
-polled-stream Server h turn c i l p g = by turn l p g
+polled-stream side h turn c i l p g = by (asks side h turn l)
   where
-    given : (has_request h || is_waiting h) ≡ true → (r : ℕ) × (last_request h ≡ Some r) × (was_given h r ≡ true)
-    given w = let a = (phase h i).asked w in (a.0, a.1, last-given h a.0 a.1)
+    same : (d : Call) → begun_by turn ≡ Some d → d ≡ c
+    same d b = let q : Some d ≡ Some c = ap (λ (o : Option Call). option_or o (last_begun h)) (sym b) ∙ g in cc q
 
-    response : (d : Call) → is_response d ≡ true → Some d ≡ Some c → has_request h ≡ true → PolledStream Server h c
-    response d r e q = let same : d ≡ c = cc e in (ap is_response (sym same) ∙ r, given (ap (λ (b : Bool). b || is_waiting h) q))
+    given : IsHistory Server h → (has_request h || is_waiting h) ≡ true → (r : ℕ) × (last_request h ≡ Some r) × (was_given h r ≡ true)
+    given j w = let a = (phase h j).asked w in (a.0, a.1, last-given h a.0 a.1)
 
-    by : (t : Turn) → is_lawful Server h t ≡ true → polls t ≡ true → going h t ≡ Some c → PolledStream Server h c
-    by (turns.Call calls.Handshake) m q e = (server-begun h i c e, given (ap (λ (b : Bool). has_request h || b) m ∙ or-true (has_request h)))
-    by (turns.Call (calls.Connect options lookup outcome)) m q e = absurd (cc m)
-    by (turns.Call (calls.Accept headers)) m q e = response (calls.Accept headers) refl e (and-right (not (is_first h)) (has_request h) m)
-    by (turns.Call calls.Forbidden) m q e = response calls.Forbidden refl e (and-right (not (is_first h)) (has_request h) m)
-    by (turns.Call calls.NotFound) m q e = response calls.NotFound refl e (and-right (not (is_first h)) (has_request h) m)
-    by (turns.Call calls.TooManyRequests) m q e = response calls.TooManyRequests refl e (and-right (not (is_first h)) (has_request h) m)
-    by t m q e = absurd (cc q)
-polled-stream side h turn c i l p g = absurd (cc p)
+    goes : (x : Side) → IsHistory x h → is_waiting h ≡ true → last_begun h ≡ Some c → PolledStream x h c
+    goes Client j w e = begun-kind Client h j c e
+    goes Server j w e = (begun-kind Server h j c e, given j (ap (λ (b : Bool). has_request h || b) w ∙ or-true (has_request h)))
+
+    by : Asks side h turn (next side h turn).reply → PolledStream side h c
+    by (Begins d s t k f x n) = subst (λ (y : Side). PolledStream y h c) (sym s) (ap is_connect (sym (same d (ap begun_by t ∙ (of-connect d k).1))) ∙ k)
+    by (ForRequest s t a n) = absurd (let q : false ≡ true = sym (ap polls t) ∙ p in cc q)
+    by (Responds d s t k q n) =
+        subst (λ (y : Side). PolledStream y h c) (sym s) (ap is_response (sym (same d (ap begun_by t ∙ (of-response d k).begun))) ∙ k, given (subst (λ (y : Side). IsHistory y h) s i) (ap (λ (b : Bool). b || is_waiting h) q))
+    by (GoesOn t w n) = goes side i w (sym (ap (λ (x : Turn). going h x) t) ∙ g)
+    by (Else a b m x n) = absurd (let q : false ≡ true = sym a ∙ p in cc q)

@@ -9,14 +9,15 @@ use Rattle.std.proofs.lemmas.List.Folds.{list_any-append}
 use Rattle.wt_meaning.specs.Findings.{Classified, DatagramRead, Finding, first_of, settings_came}
 use Rattle.wt_meaning.specs.Handshakes.{last_begun, next_request, poll_rows, was_given}
 use Rattle.wt_meaning.specs.History.{History, Pair, is_open}
-use Rattle.wt_meaning.specs.Lawful.{has_request, is_first, is_lawful, is_waiting}
+use Rattle.wt_meaning.specs.Lawful.{has_request, is_lawful, is_waiting}
 use Rattle.wt_meaning.specs.Meaning.{next}
 use Rattle.wt_meaning.specs.Moments.{findings, keeps, stream_fault}
 use Rattle.wt_meaning.specs.Rows.{first_row}
 use Rattle.wt_meaning.specs.Windows.{datagrams_in_window, establishes, gone_in, held_requests, is_established, is_gone, is_gone_by_call, is_number, lives, makes_gone, queued_request, request_in, requests, session_in}
 use Rattle.wt_promise.proofs.Accepted.{and-right, or-true}
+use Rattle.wt_promise.proofs.Asks.{Asks, Begins, Else, ForRequest, GoesOn, Responds, asks}
 use Rattle.wt_promise.proofs.Grows.{AClassified, AClosed, ADatagram, ADequeued, AFault, ASettings, Adds, Nothing, findings-add, findings-keep, news, of-stream-fault}
-use Rattle.wt_promise.proofs.Phases.{IsLast, accept-gives-last, client-waits, phase, poll-gives-last, server-begun}
+use Rattle.wt_promise.proofs.Phases.{IsLast, client-waits, phase, poll-gives-last, response-gives-last, server-begun}
 use Rattle.wt_promise.proofs.Tables.{by-row, by-value, fits, fits-own, no-row}
 use Rattle.wt_promise.specs.Promise.{FewLive, IsHistory}
 use Rattle.wt_proto.specs.declared.verdict.Verdict.{Verdict}
@@ -45,32 +46,40 @@ session-call (calls.Accept headers) r s f e = AnAccept headers refl
 session-call c (replies.Session id) s f e = absurd (cc f)
 session-call c r s f e = absurd (cc e)
 
-accept-new : (side : Side) (h : History) (headers : Fields) → IsHistory side h → is_lawful side h (turns.Call (calls.Accept headers)) ≡ true → (s : ℕ) → session_in (next side h (turns.Call (calls.Accept headers))).reply ≡ Some s
-    → is_established h s ≡ false
-accept-new Server h headers i l s e =
-    let r = (phase h i).asked (ap (λ (b : Bool). b || is_waiting h) (and-right (not (is_first h)) (has_request h) l)) in
-    ap (is_established h) (accept-gives-last Server h headers s e ∙ ap (λ (o : Option ℕ). unwrap_or o 0) r.1) ∙ r.2
-accept-new Client h headers i l s e = absurd (let m = and-right (not (is_first h)) false l in cc m)
-
-poll-new : (side : Side) (h : History) → IsHistory side h → is_waiting h ≡ true → (s : ℕ) → session_in (next side h (turns.Call calls.Handshake)).reply ≡ Some s → is_established h s ≡ false
-poll-new Client h i w s e = client-waits h i w s
-poll-new Server h i w s e =
-    let r = (phase h i).asked (ap (λ (b : Bool). has_request h || b) w ∙ or-true (has_request h)) in
-    ap (is_established h) (polled (last_begun h) refl s e ∙ ap (λ (o : Option ℕ). unwrap_or o 0) r.1) ∙ r.2
+-- a client gives a session where its connect goes on
+client-gives : (h : History) (turn : Turn) → is_lawful Client h turn ≡ true → (s : ℕ) → session_in (next Client h turn).reply ≡ Some s → is_waiting h ≡ true
+client-gives h turn l s e = by (asks Client h turn l)
   where
+    none : session_in (next Client h turn).reply ≡ None → is_waiting h ≡ true
+    none n = absurd (let q : None ≡ Some s = sym n ∙ e in cc q)
+
+    by : Asks Client h turn (next Client h turn).reply → is_waiting h ≡ true
+    by (Begins c x t k f g n) = none n
+    by (ForRequest x t a n) = none n
+    by (Responds c x t k q n) = absurd (cc x)
+    by (GoesOn t w n) = w
+    by (Else a b m g n) = none n
+
+pub new-session : (side : Side) (h : History) (turn : Turn) → IsHistory side h → is_lawful side h turn ≡ true → (s : ℕ) → session_in (next side h turn).reply ≡ Some s → is_established h s ≡ false
+new-session Client h turn i l s e = client-waits h i (client-gives h turn l s e) s
+new-session Server h turn i l s e = by (asks Server h turn l)
+  where
+    none : session_in (next Server h turn).reply ≡ None → is_established h s ≡ false
+    none n = absurd (let q : None ≡ Some s = sym n ∙ e in cc q)
+
+    last : (has_request h || is_waiting h) ≡ true → IsLast h (next Server h turn) → is_established h s ≡ false
+    last w f = let r = (phase h i).asked w in ap (is_established h) (f s e ∙ ap (λ (o : Option ℕ). unwrap_or o 0) r.1) ∙ r.2
+
     polled : (o : Option Call) → last_begun h ≡ o → IsLast h (first_row (poll_rows Server h o))
     polled None q = λ t x. absurd (cc x)
     polled (Some d) q = poll-gives-last Server h d (server-begun h i d q)
 
-pub new-session : (side : Side) (h : History) (turn : Turn) → IsHistory side h → is_lawful side h turn ≡ true → (s : ℕ) → session_in (next side h turn).reply ≡ Some s → is_established h s ≡ false
-new-session side h (turns.Call c) i l s e = by c (session-call c (next side h (turns.Call c)).reply s (fits-own side h c) e) l e
-  where
-    by : (d : Call) → SessionCall d → is_lawful side h (turns.Call d) ≡ true → session_in (next side h (turns.Call d)).reply ≡ Some s → is_established h s ≡ false
-    by d (AnAccept headers q) m f =
-        accept-new side h headers i (ap (λ (x : Call). is_lawful side h (turns.Call x)) (sym q) ∙ m) s (ap (λ (x : Call). session_in (next side h (turns.Call x)).reply) (sym q) ∙ f)
-    by d (APoll q) m f =
-        poll-new side h i (ap (λ (x : Call). is_lawful side h (turns.Call x)) (sym q) ∙ m) s (ap (λ (x : Call). session_in (next side h (turns.Call x)).reply) (sym q) ∙ f)
-new-session side h turn i l s e = absurd (cc e)
+    by : Asks Server h turn (next Server h turn).reply → is_established h s ≡ false
+    by (Begins c x t k f g n) = none n
+    by (ForRequest x t a n) = none n
+    by (Responds c x t k q n) = last (ap (λ (b : Bool). b || is_waiting h) q) (rw t (response-gives-last h c k))
+    by (GoesOn t w n) = last (ap (λ (b : Bool). has_request h || b) w ∙ or-true (has_request h)) (rw t (polled (last_begun h) refl))
+    by (Else a b m g n) = none n
 
 -- ---- lists of numbers that are apart
 
@@ -356,15 +365,7 @@ one-client (p ∷ h) i = by (establishes p) refl (one-client h i.2)
     by None q again = rw q again
     by (Some s) q again =
         let e : session_in (next Client h p.turn).reply ≡ Some s = ap (λ (a : Answer). session_in a.reply) (sym i.1) ∙ q in
-        rw (q, none-listed (filter_map establishes h) (client-waits h i.2 (waiting p.turn i.0 s e))) (omega arith)
-      where
-        waiting : (turn : Turn) → is_lawful Client h turn ≡ true → (t : ℕ) → session_in (next Client h turn).reply ≡ Some t → is_waiting h ≡ true
-        waiting (turns.Call c) l t e = of c (session-call c (next Client h (turns.Call c)).reply t (fits-own Client h c) e) l
-          where
-            of : (d : Call) → SessionCall d → is_lawful Client h (turns.Call d) ≡ true → is_waiting h ≡ true
-            of d (AnAccept headers x) m = absurd (let n = and-right (not (is_first h)) false (ap (λ (y : Call). is_lawful Client h (turns.Call y)) (sym x) ∙ m) in cc n)
-            of d (APoll x) m = ap (λ (y : Call). is_lawful Client h (turns.Call y)) (sym x) ∙ m
-        waiting turn l t e = absurd (cc e)
+        rw (q, none-listed (filter_map establishes h) (client-waits h i.2 (client-gives h p.turn i.0 s e))) (omega arith)
 
 few-of : (mine : ℕ → Bool) (xs : List ℕ) → length (filter mine xs) ≤ length xs
 few-of mine [] = omega arith

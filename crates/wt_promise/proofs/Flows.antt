@@ -7,15 +7,16 @@ use Rattle.std.proofs.lemmas.Bool.{eqb-true}
 use Rattle.std.proofs.lemmas.List.{append-nil}
 use Rattle.wt_meaning.specs.Calls.{being_opened, opened_by, stream_header}
 use Rattle.wt_meaning.specs.Findings.{first_of}
-use Rattle.wt_meaning.specs.Handshakes.{begun_by, head_left, is_nothing, lacks_credit}
+use Rattle.wt_meaning.specs.Handshakes.{begun_by, head_left, is_nothing, lacks_credit, last_begun}
 use Rattle.wt_meaning.specs.History.{History, Pair, credit_left, hands_out, is_handed_out, out}
-use Rattle.wt_meaning.specs.Lawful.{has_request, is_first, is_lawful, polls}
+use Rattle.wt_meaning.specs.Lawful.{polls}
 use Rattle.wt_meaning.specs.Meaning.{next, own_answer}
 use Rattle.wt_meaning.specs.Moments.{findings}
 use Rattle.wt_meaning.specs.Sends.{admits}
 use Rattle.wt_meaning.specs.Windows.{named}
-use Rattle.wt_promise.proofs.Accepted.{and-right, bi-accepted, uni-accepted}
-use Rattle.wt_promise.proofs.Begun.{PolledStream, begun, begun-for, begun-now, begun-same, last_stream, polled-stream, stream-zero}
+use Rattle.wt_promise.proofs.Accepted.{bi-accepted, uni-accepted}
+use Rattle.wt_promise.proofs.Asks.{Asks, Begins, Else, ForRequest, GoesOn, Responds, asks-of, of-connect, of-response}
+use Rattle.wt_promise.proofs.Begun.{PolledStream, begun, begun-for, begun-now, begun-same, first-begun, last_stream, polled-stream, stream-zero}
 use Rattle.wt_promise.proofs.BytesOut.{bytes_on, out-add}
 use Rattle.wt_promise.proofs.ControlKept.{begun-opening, own-bytes}
 use Rattle.wt_promise.proofs.Flow.{Flow, InHead, clash, flow-as, flow-given, flow-new, flow-on, flow-whole, flow-write}
@@ -50,28 +51,17 @@ polled-last Server h i c k q e = e
 
 -- a poll's is that of the connect or response that was begun for the stream
 pub polled-begun : (side : Side) (p : Pair) (h : History) → IsHistory side (p ∷ h) → (c : Call) → polls p.turn ≡ true → going h p.turn ≡ Some c → begun_on (p ∷ h) (last_stream h) ≡ Some c
-polled-begun side p h i c q g = by side p.turn i.0 i.2 refl q g
+polled-begun side p h i c q g = by (asks-of side p h i)
   where
-    same : (d : Call) → Some d ≡ Some c → begun_by p.turn ≡ Some d → begun_on h (last_stream h) ≡ None → begun_on (p ∷ h) (last_stream h) ≡ Some c
-    same d e b n = begun-now p h (last_stream h) d n refl b ∙ e
+    same : (d : Call) → begun_by p.turn ≡ Some d → begun_on h (last_stream h) ≡ None → begun_on (p ∷ h) (last_stream h) ≡ Some c
+    same d b n = begun-now p h (last_stream h) d n refl b ∙ ap (λ (o : Option Call). option_or o (last_begun h)) (sym b) ∙ g
 
-    first : (x : History) → is_first x ≡ true → begun_on x (last_stream x) ≡ None
-    first [] e = refl
-    first (y ∷ x) e = absurd (cc e)
-
-    by : (s : Side) (turn : Turn) → is_lawful s h turn ≡ true → IsHistory s h → p.turn ≡ turn → polls turn ≡ true → going h turn ≡ Some c → begun_on (p ∷ h) (last_stream h) ≡ Some c
-    by s (turns.Call calls.Handshake) l j t x y = begun-same p h (last_stream h) (ap begun_by t) ∙ (begun s h j).waiting l ∙ y
-    by Client (turns.Call (calls.Connect options lookup outcome)) l j t x y = same (calls.Connect options lookup outcome) y (ap begun_by t) (first h l)
-    by Server (turns.Call (calls.Connect options lookup outcome)) l j t x y = absurd (cc l)
-    by Client (turns.Call (calls.Accept headers)) l j t x y = absurd (let m = and-right (not (is_first h)) false l in cc m)
-    by Client (turns.Call calls.Forbidden) l j t x y = absurd (let m = and-right (not (is_first h)) false l in cc m)
-    by Client (turns.Call calls.NotFound) l j t x y = absurd (let m = and-right (not (is_first h)) false l in cc m)
-    by Client (turns.Call calls.TooManyRequests) l j t x y = absurd (let m = and-right (not (is_first h)) false l in cc m)
-    by Server (turns.Call (calls.Accept headers)) l j t x y = same (calls.Accept headers) y (ap begun_by t) ((begun Server h j).fresh (and-right (not (is_first h)) (has_request h) l))
-    by Server (turns.Call calls.Forbidden) l j t x y = same calls.Forbidden y (ap begun_by t) ((begun Server h j).fresh (and-right (not (is_first h)) (has_request h) l))
-    by Server (turns.Call calls.NotFound) l j t x y = same calls.NotFound y (ap begun_by t) ((begun Server h j).fresh (and-right (not (is_first h)) (has_request h) l))
-    by Server (turns.Call calls.TooManyRequests) l j t x y = same calls.TooManyRequests y (ap begun_by t) ((begun Server h j).fresh (and-right (not (is_first h)) (has_request h) l))
-    by s turn l j t x y = absurd (cc x)
+    by : Asks side h p.turn p.answer.reply → begun_on (p ∷ h) (last_stream h) ≡ Some c
+    by (Begins d s t k f x n) = same d (ap begun_by t ∙ (of-connect d k).1) (first-begun h f)
+    by (ForRequest s t a n) = absurd (let r : false ≡ true = sym (ap polls t) ∙ q in cc r)
+    by (Responds d s t k w n) = same d (ap begun_by t ∙ (of-response d k).begun) ((begun side h i.2).fresh w)
+    by (GoesOn t w n) = begun-same p h (last_stream h) (ap begun_by t) ∙ (begun side h i.2).waiting w ∙ sym (ap (λ (x : Turn). going h x) t) ∙ g
+    by (Else a b m x n) = absurd (let r : false ≡ true = sym a ∙ q in cc r)
 
 -- an opening's is its header
 opening-head : (side : Side) (p : Pair) (h : History) → IsHistory side (p ∷ h) → (k s : ℕ) (name : Option ℕ) → (k == local_uni side) ≡ false → p.turn ≡ turns.Call (calls.PollOpening k) → being_opened h k ≡ Some name → named h name ≡ Some s

@@ -5,14 +5,15 @@ use Rattle.std.proofs.Common.{◌∙◌, ap, arith, refl, subst, sym}
 use Rattle.std.proofs.lemmas.Bool.{eq-eqb, eqb-true, le-leb, lt-ltb, ltb-true}
 use Rattle.wt_meaning.specs.Calls.{opened_by}
 use Rattle.wt_meaning.specs.Findings.{first_of}
-use Rattle.wt_meaning.specs.Handshakes.{begun_by, head_left, is_opened, last_begun, poll_rows, send}
+use Rattle.wt_meaning.specs.Handshakes.{head_left, is_opened, last_begun, poll_rows, send}
 use Rattle.wt_meaning.specs.History.{History, Pair, actions_out, events, exists, is_open, may_open, next_id, stream_count}
-use Rattle.wt_meaning.specs.Lawful.{begins, is_first, is_lawful, may_call}
+use Rattle.wt_meaning.specs.Lawful.{is_first, is_lawful}
 use Rattle.wt_meaning.specs.Meaning.{next, own_answer, with_pair}
 use Rattle.wt_meaning.specs.Rows.{first_row}
 use Rattle.wt_meaning.specs.Sends.{action_if}
 use Rattle.wt_meaning.specs.Windows.{is_established, named, session_in}
 use Rattle.wt_promise.proofs.Accepted.{and-left, and-right}
+use Rattle.wt_promise.proofs.Asks.{begun-kind}
 use Rattle.wt_promise.proofs.Actions.{opened, opened-append, opened-out}
 use Rattle.wt_promise.proofs.Few.{APoll, AnAccept, SessionCall, session-call}
 use Rattle.wt_promise.proofs.Opened.{OpensFor, at-least-one, control-opened, opened-all, opens-for, pair-is}
@@ -48,25 +49,7 @@ one-opened h bytes = by (local_count (actions_out h) 0 == 0) refl
 
 -- a client begins a connect alone
 pub client-begun : (h : History) → IsHistory Client h → (c : Call) → last_begun h ≡ Some c → is_connect c ≡ true
-client-begun [] i c e = absurd (cc e)
-client-begun (p ∷ h) i c e = by p.turn i.0 (begun_by p.turn) refl e (client-begun h i.2 c)
-  where
-    connects : (d : Call) → may_call Client h d ≡ true → begins d ≡ true → is_connect d ≡ true
-    connects (calls.Connect options lookup outcome) l b = refl
-    connects (calls.Accept headers) l b = absurd (let m = and-right (not (is_first h)) false l in cc m)
-    connects calls.Forbidden l b = absurd (let m = and-right (not (is_first h)) false l in cc m)
-    connects calls.NotFound l b = absurd (let m = and-right (not (is_first h)) false l in cc m)
-    connects calls.TooManyRequests l b = absurd (let m = and-right (not (is_first h)) false l in cc m)
-    connects d l b = absurd (cc b)
-
-    by : (turn : Turn) → is_lawful Client h turn ≡ true → (o : Option Call) → begun_by turn ≡ o → option_or o (last_begun h) ≡ Some c → (last_begun h ≡ Some c → is_connect c ≡ true) → is_connect c ≡ true
-    by turn l None q r again = again r
-    by (turns.Call d) l (Some b) q r again = of (begins d) refl q
-      where
-        of : (x : Bool) → begins d ≡ x → (if x then Some d else None) ≡ Some b → is_connect c ≡ true
-        of true y z = let same : d ≡ c = cc (z, r) in rw (sym same) (connects d l y)
-        of false y z = absurd (cc z)
-    by turn l (Some b) q r again = absurd (cc q)
+client-begun h i c e = begun-kind Client h i c e
 
 -- the answer that gives it opened the stream, or it was open
 session-opens : (h : History) (s : ℕ) (turn : Turn) → IsHistory Client h → is_lawful Client h turn ≡ true → session_in (next Client h turn).reply ≡ Some s

@@ -15,6 +15,7 @@ pub mod Owed
 pub mod Datagrams
 pub mod HandedOut
 pub mod ReadPieces
+pub mod Asks
 pub mod Phases
 pub mod Few
 pub mod ResultKept

@@ -1,19 +1,19 @@
 -- The phases of a handshake: a session that a reply gives is new, and was asked for.
 use Rattle.std.specs.Prelude.{[], ◌&&◌, ◌+◌, ◌==◌, ◌∷◌, ◌||◌, ◌≡◌, Bool, List, None, Option, Some, codes, false, filter, filter_map, if◌then◌else◌, is_some, length, not, suc, true, unwrap_or, ℕ}
-use Rattle.std.specs.List.{list_any}
 use Rattle.std.specs.Option.{option_or}
 use Rattle.std.proofs.Common.{◌∙◌, ap, arith, refl, sym}
 use Rattle.std.proofs.lemmas.Bool.{eq-eqb, eqb-true}
 use Rattle.wt_meaning.specs.Findings.{first_of, settings_came}
-use Rattle.wt_meaning.specs.Handshakes.{acceptance_frame, begun_by, head_left, is_refused, lacks_credit, last_begun, next_request, poll_rows, rejection, response_to, send, was_given}
+use Rattle.wt_meaning.specs.Handshakes.{acceptance_frame, head_left, is_refused, lacks_credit, last_begun, next_request, poll_rows, rejection, response_to, send, was_given}
 use Rattle.wt_meaning.specs.History.{History, Pair, is_open}
-use Rattle.wt_meaning.specs.Lawful.{all_answered, begins, fails_incoming, gives_request, has_request, is_client, is_first, is_lawful, is_of_request, is_pending, is_response, is_waiting, may_call, polls}
+use Rattle.wt_meaning.specs.Lawful.{all_answered, gives_request, has_request, is_first, is_of_request, is_pending, is_response, is_waiting, polls}
 use Rattle.wt_meaning.specs.Meaning.{next}
 use Rattle.wt_meaning.specs.Moments.{findings}
 use Rattle.wt_meaning.specs.Rows.{first_row}
 use Rattle.wt_meaning.specs.Windows.{is_established, last_request, queued_request, request_in, requests, session_in}
-use Rattle.wt_promise.proofs.Accepted.{and-right, or-true}
-use Rattle.wt_promise.proofs.Tables.{by-row, by-value, fits, fits-own, no-row, rejects-pass}
+use Rattle.wt_promise.proofs.Accepted.{or-true}
+use Rattle.wt_promise.proofs.Asks.{Asks, Begins, Else, ForRequest, GoesOn, Responds, asks-of, begun-kind, of-response}
+use Rattle.wt_promise.proofs.Tables.{by-row, by-value, no-row, rejects-pass}
 use Rattle.wt_promise.specs.Promise.{IsHistory}
 use Rattle.wt_turn.specs.declared.answer.Answer.{Answer}
 use Rattle.wt_turn.specs.declared.call.Call.{Call}
@@ -27,21 +27,6 @@ use Rattle.wt_turn.specs.declared.reply.Reply.TheVariants as replies
 use Rattle.wt_turn.specs.declared.turn.Turn.TheVariants as turns
 
 -- ---- replies
-
--- a call that is neither of a request nor polls gives no request and no session
-pub quiet-reply : (c : Call) (r : Reply) → fits c r ≡ true → polls (turns.Call c) ≡ false → is_of_request (turns.Call c) ≡ false → (gives_request r ≡ false) × (session_in r ≡ None)
-quiet-reply calls.Incoming r f p q = absurd (cc q)
-quiet-reply (calls.Accept headers) r f p q = absurd (cc p)
-quiet-reply calls.Handshake r f p q = absurd (cc p)
-quiet-reply c (replies.Request id headers) f p q = absurd (cc f)
-quiet-reply c (replies.Session id) f p q = absurd (cc f)
-quiet-reply c r f p q = (refl, refl)
-
--- a call that polls gives no request
-pub polled-reply : (c : Call) (r : Reply) → fits c r ≡ true → polls (turns.Call c) ≡ true → gives_request r ≡ false
-polled-reply calls.Incoming r f p = absurd (cc p)
-polled-reply c (replies.Request id headers) f p = absurd (cc f)
-polled-reply c r f p = refl
 
 -- what is Pending gives no session
 pending-no-session : (r : Reply) → is_pending r ≡ true → session_in r ≡ None
@@ -58,7 +43,7 @@ none-request r e = refl
 abbrev pub IsLast : History → Answer → Type 0
 IsLast h a = (s : ℕ) → session_in a.reply ≡ Some s → s ≡ unwrap_or (last_request h) 0
 
-pub accept-gives-last : (side : Side) (h : History) (headers : Fields) → IsLast h (first_row (response_to side h (calls.Accept headers)))
+accept-gives-last : (side : Side) (h : History) (headers : Fields) → IsLast h (first_row (response_to side h (calls.Accept headers)))
 accept-gives-last side h headers =
     (by-row (IsLast h) (not (is_open h)) _ [] _ (λ c s e. absurd (cc e))
     (λ c. by-row (IsLast h) (is_refused h (unwrap_or (last_request h) 0) left) _ _ _ (λ d s e. absurd (cc e))
@@ -77,6 +62,13 @@ none-given h a n s e = absurd (let r : false ≡ true = sym (ap (λ (o : Option 
 rejection-gives-none : (side : Side) (h : History) (digits : List ℕ) → IsLast h (first_row (rejection side h digits))
 rejection-gives-none side h digits = none-given h (first_row (rejection side h digits)) (rejects-pass no-session refl refl side h digits).first
 
+pub response-gives-last : (h : History) (c : Call) → is_response c ≡ true → IsLast h (next Server h (turns.Call c))
+response-gives-last h (calls.Accept headers) r = accept-gives-last Server h headers
+response-gives-last h calls.Forbidden r = rejection-gives-none Server h (codes "403")
+response-gives-last h calls.NotFound r = rejection-gives-none Server h (codes "404")
+response-gives-last h calls.TooManyRequests r = rejection-gives-none Server h (codes "429")
+response-gives-last h c r = absurd (cc r)
+
 pub poll-gives-last : (side : Side) (h : History) (c : Call) → is_response c ≡ true → IsLast h (first_row (poll_rows side h (Some c)))
 poll-gives-last side h (calls.Accept headers) r = accept-gives-last side h headers
 poll-gives-last side h calls.Forbidden r = rejection-gives-none side h (codes "403")
@@ -86,21 +78,7 @@ poll-gives-last side h c r = absurd (cc r)
 
 -- a server begins responses alone
 pub server-begun : (h : History) → IsHistory Server h → (c : Call) → last_begun h ≡ Some c → is_response c ≡ true
-server-begun [] i c e = absurd (cc e)
-server-begun (p ∷ h) i c e = by p.turn i.0 (begun_by p.turn) refl e (server-begun h i.2 c)
-  where
-    is-response : (d : Call) → may_call Server h d ≡ true → begins d ≡ true → is_response d ≡ true
-    is-response (calls.Connect options lookup outcome) l b = absurd (cc l)
-    is-response d l b = b
-
-    by : (turn : Turn) → is_lawful Server h turn ≡ true → (o : Option Call) → begun_by turn ≡ o → option_or o (last_begun h) ≡ Some c → (last_begun h ≡ Some c → is_response c ≡ true) → is_response c ≡ true
-    by turn l None q r again = again r
-    by (turns.Call d) l (Some b) q r again = of (begins d) refl q
-      where
-        of : (x : Bool) → begins d ≡ x → (if x then Some d else None) ≡ Some b → is_response c ≡ true
-        of true y z = let same : d ≡ c = cc (z, r) in rw (sym same) (is-response d l y)
-        of false y z = absurd (cc z)
-    by turn l (Some b) q r again = absurd (cc q)
+server-begun h i c e = begun-kind Server h i c e
 
 -- ---- what was given
 
@@ -250,51 +228,33 @@ incoming-phase p h a b d new all f = by p.answer.reply refl
     }
 
 phase-after : (p : Pair) (h : History) → IsHistory Server (p ∷ h) → Phase h → Phase (p ∷ h)
-phase-after p h i before = by p.turn refl
+phase-after p h i before = by (asks-of Server p h i)
   where
     reply-of : (turn : Turn) → p.turn ≡ turn → p.answer ≡ next Server h turn
     reply-of turn e = i.1 ∙ ap (next Server h) e
 
-    lawful : (turn : Turn) → p.turn ≡ turn → is_lawful Server h turn ≡ true
-    lawful turn e = ap (is_lawful Server h) (sym e) ∙ i.0
-
-    fit : (c : Call) → p.turn ≡ turns.Call c → fits c p.answer.reply ≡ true
-    fit c e = ap (λ (a : Answer). fits c a.reply) (reply-of (turns.Call c) e) ∙ fits-own Server h c
-
-    response : (c : Call) → p.turn ≡ turns.Call c → is_response c ≡ true → polls (turns.Call c) ≡ true → is_of_request (turns.Call c) ≡ true → has_request h ≡ true → IsLast h (next Server h (turns.Call c)) → Phase (p ∷ h)
-    response c e r a b q last =
-        let n = polled-reply c p.answer.reply (fit c e) a in
-        polled-phase p h (ap polls e ∙ a) (ap (λ (x : Bool). if x then gives_request p.answer.reply else has_request h) (ap is_of_request e ∙ b) ∙ n) n (rw (reply-of (turns.Call c) e) last) (rw q refl) before
-
-    by : (turn : Turn) → p.turn ≡ turn → Phase (p ∷ h)
-    by (turns.Call calls.Incoming) e =
-        incoming-phase p h (ap polls e) (ap is_of_request e) (none p.answer.reply (fit calls.Incoming e)) (rw (reply-of (turns.Call calls.Incoming) e) (incoming-new Server h)) (last-part (lawful (turns.Call calls.Incoming) e)) before
+    -- a poll's request isn't asked for any more
+    unasked : is_waiting h ≡ true → has_request h ≡ false
+    unasked w = of (has_request h) before.apart
       where
-        none : (r : Reply) → fits calls.Incoming r ≡ true → session_in r ≡ None
-        none (replies.Session id) f = absurd (cc f)
-        none r f = refl
+        of : (b : Bool) → (b ≡ true → is_waiting h ≡ false) → b ≡ false
+        of true f = absurd (let r : true ≡ false = sym w ∙ f refl in cc r)
+        of false f = refl
 
-        last-part : may_call Server h calls.Incoming ≡ true → all_answered h ≡ true
-        last-part l = and-right (not (is_client Server) && not (is_first h) && not (list_any (λ (x : Pair). fails_incoming x.turn x.answer.reply) h)) (all_answered h) l
-    by (turns.Call (calls.Accept headers)) e = response (calls.Accept headers) e refl refl refl (and-right (not (is_first h)) (has_request h) (lawful (turns.Call (calls.Accept headers)) e)) (accept-gives-last Server h headers)
-    by (turns.Call calls.Forbidden) e = response calls.Forbidden e refl refl refl (and-right (not (is_first h)) (has_request h) (lawful (turns.Call calls.Forbidden) e)) (rejection-gives-none Server h (codes "403"))
-    by (turns.Call calls.NotFound) e = response calls.NotFound e refl refl refl (and-right (not (is_first h)) (has_request h) (lawful (turns.Call calls.NotFound) e)) (rejection-gives-none Server h (codes "404"))
-    by (turns.Call calls.TooManyRequests) e =
-        response calls.TooManyRequests e refl refl refl (and-right (not (is_first h)) (has_request h) (lawful (turns.Call calls.TooManyRequests) e)) (rejection-gives-none Server h (codes "429"))
-    by (turns.Call calls.Handshake) e =
-        let w : is_waiting h ≡ true = lawful (turns.Call calls.Handshake) e in let q = unasked (has_request h) before.apart w in let n = polled-reply calls.Handshake p.answer.reply (fit calls.Handshake e) refl in
-        polled-phase p h (ap polls e) (ap (λ (x : Bool). if x then gives_request p.answer.reply else has_request h) (ap is_of_request e) ∙ q) n (rw (reply-of (turns.Call calls.Handshake) e) (polled (last_begun h) refl)) (rw w (or-true (has_request h))) before
-      where
-        unasked : (b : Bool) → (b ≡ true → is_waiting h ≡ false) → is_waiting h ≡ true → b ≡ false
-        unasked true f w = absurd (let r : true ≡ false = sym w ∙ f refl in cc r)
-        unasked false f w = refl
+    polled : (o : Option Call) → last_begun h ≡ o → IsLast h (first_row (poll_rows Server h o))
+    polled None q = λ s x. absurd (cc x)
+    polled (Some c) q = poll-gives-last Server h c (server-begun h i.2 c q)
 
-        polled : (o : Option Call) → last_begun h ≡ o → IsLast h (first_row (poll_rows Server h o))
-        polled None q = λ s x. absurd (cc x)
-        polled (Some c) q = poll-gives-last Server h c (server-begun h i.2 c q)
-    by (turns.Call (calls.Connect options lookup outcome)) e = absurd (let l = lawful (turns.Call (calls.Connect options lookup outcome)) e in cc l)
-    by (turns.Call c) e = let q = quiet-reply c p.answer.reply (fit c e) refl refl in quiet-phase p h (ap polls e) (ap is_of_request e) q.0 q.1 before
-    by turn e = quiet-phase p h (ap polls e) (ap is_of_request e) (ap (λ (a : Answer). gives_request a.reply) (reply-of turn e)) (ap (λ (a : Answer). session_in a.reply) (reply-of turn e)) before
+    by : Asks Server h p.turn p.answer.reply → Phase (p ∷ h)
+    by (Begins c s t k f g n) = absurd (cc s)
+    by (ForRequest s t all n) = incoming-phase p h (ap polls t) (ap is_of_request t) n (rw (reply-of (turns.Call calls.Incoming) t) (incoming-new Server h)) all before
+    by (Responds c s t k q n) =
+        let r = of-response c k in
+        polled-phase p h (ap polls t ∙ r.polls_on) (ap (λ (x : Bool). if x then gives_request p.answer.reply else has_request h) (ap is_of_request t ∙ r.of_request) ∙ n) n (rw (reply-of (turns.Call c) t) (response-gives-last h c k)) (rw q refl) before
+    by (GoesOn t w n) =
+        polled-phase p h (ap polls t) (ap (λ (x : Bool). if x then gives_request p.answer.reply else has_request h) (ap is_of_request t) ∙ unasked w) n (rw (reply-of (turns.Call calls.Handshake) t) (polled (last_begun h) refl))
+        (rw w (or-true (has_request h))) before
+    by (Else a b m g n) = quiet-phase p h a b g n before
 
 pub phase : (h : History) → IsHistory Server h → Phase h
 phase [] i = record { count = refl; apart = λ e. refl; known = λ s e. absurd (cc e); asked = λ e. absurd (cc e) }
@@ -303,47 +263,18 @@ phase (p ∷ h) i = phase-after p h i (phase h i.2)
 -- ---- a client establishes one session
 
 waits-after : (p : Pair) (h : History) → IsHistory Client (p ∷ h) → is_waiting (p ∷ h) ≡ true → (s : ℕ) → (is_waiting h ≡ true → is_established h s ≡ false) → is_established (p ∷ h) s ≡ false
-waits-after p h i w s again = by p.turn refl
+waits-after p h i w s again = by (asks-of Client p h i)
   where
-    reply-of : (turn : Turn) → p.turn ≡ turn → p.answer ≡ next Client h turn
-    reply-of turn e = i.1 ∙ ap (next Client h) e
+    first : (x : History) → is_first x ≡ true → is_established x s ≡ false
+    first [] q = refl
+    first (y ∷ x) q = absurd (cc q)
 
-    lawful : (turn : Turn) → p.turn ≡ turn → is_lawful Client h turn ≡ true
-    lawful turn e = ap (is_lawful Client h) (sym e) ∙ i.0
-
-    fit : (c : Call) → p.turn ≡ turns.Call c → fits c p.answer.reply ≡ true
-    fit c e = ap (λ (a : Answer). fits c a.reply) (reply-of (turns.Call c) e) ∙ fits-own Client h c
-
-    waited : polls p.turn ≡ false → is_waiting h ≡ true
-    waited a = let r = rw a at w in r
-
-    response : (c : Call) → may_call Client h c ≡ true → is_response c ≡ true → ⊥
-    response (calls.Accept headers) l r = absurd (let m = and-right (not (is_first h)) false l in cc m)
-    response calls.Forbidden l r = absurd (let m = and-right (not (is_first h)) false l in cc m)
-    response calls.NotFound l r = absurd (let m = and-right (not (is_first h)) false l in cc m)
-    response calls.TooManyRequests l r = absurd (let m = and-right (not (is_first h)) false l in cc m)
-    response c l r = absurd (cc r)
-
-    by : (turn : Turn) → p.turn ≡ turn → is_established (p ∷ h) s ≡ false
-    by (turns.Call (calls.Connect options lookup outcome)) e =
-        same-established p h s (none p.answer.reply (fit (calls.Connect options lookup outcome) e)) ∙ first h (lawful (turns.Call (calls.Connect options lookup outcome)) e)
-      where
-        none : (r : Reply) → fits (calls.Connect options lookup outcome) r ≡ true → session_in r ≡ None
-        none (replies.Session id) f = absurd (cc f)
-        none r f = refl
-
-        first : (x : History) → is_first x ≡ true → is_established x s ≡ false
-        first [] q = refl
-        first (y ∷ x) q = absurd (cc q)
-    by (turns.Call calls.Handshake) e =
-        same-established p h s (pending-no-session p.answer.reply (let r = rw e at w in r)) ∙ again (lawful (turns.Call calls.Handshake) e)
-    by (turns.Call (calls.Accept headers)) e = absurd (response (calls.Accept headers) (lawful (turns.Call (calls.Accept headers)) e) refl)
-    by (turns.Call calls.Forbidden) e = absurd (response calls.Forbidden (lawful (turns.Call calls.Forbidden) e) refl)
-    by (turns.Call calls.NotFound) e = absurd (response calls.NotFound (lawful (turns.Call calls.NotFound) e) refl)
-    by (turns.Call calls.TooManyRequests) e = absurd (response calls.TooManyRequests (lawful (turns.Call calls.TooManyRequests) e) refl)
-    by (turns.Call calls.Incoming) e = absurd (let l = lawful (turns.Call calls.Incoming) e in cc l)
-    by (turns.Call c) e = let q = quiet-reply c p.answer.reply (fit c e) refl refl in same-established p h s q.1 ∙ again (waited (ap polls e))
-    by turn e = same-established p h s (ap (λ (a : Answer). session_in a.reply) (reply-of turn e)) ∙ again (waited (ap polls e))
+    by : Asks Client h p.turn p.answer.reply → is_established (p ∷ h) s ≡ false
+    by (Begins c x t k f g n) = same-established p h s n ∙ first h f
+    by (ForRequest x t a n) = absurd (cc x)
+    by (Responds c x t k q n) = absurd (cc x)
+    by (GoesOn t v n) = same-established p h s (pending-no-session p.answer.reply (let r = rw t at w in r)) ∙ again v
+    by (Else a b m g n) = same-established p h s n ∙ again (let r = rw a at w in r)
 
 -- while a client's connect waits, none is established
 pub client-waits : (h : History) → IsHistory Client h → is_waiting h ≡ true → (s : ℕ) → is_established h s ≡ false
