@@ -1,4 +1,4 @@
--- Once this end is ready it stays so, on lawful turns; no session lives in both or in none.
+-- Once this end is ready it stays so, on lawful turns, so that none is dequeued early.
 use Rattle.std.specs.Prelude.{◌&&◌, ◌==◌, ◌∷◌, ◌≡◌, ◌^◌, Bool, List, false, if◌then◌else◌, nat_le, nat_lt, not, true, ℕ}
 use Rattle.std.proofs.Common.{◌∙◌, ap, arith, refl, sym}
 use Rattle.std.proofs.lemmas.Bool.{eqb-true}
