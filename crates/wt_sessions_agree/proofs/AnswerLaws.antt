@@ -43,7 +43,8 @@ called-actions side log own r = by (logs.is_open (Called r ∷ with_actions own 
     later : Log
     later = Called r ∷ with_actions own log
 
-    by : (b : Bool) → logs.is_open later ≡ b → actions_of (apply_if (true && logs.is_open later) (with_actions (pending_actions side later)) later) ≡ newest_first (own ++ sent-then side later) (actions_of log)
+    by : (b : Bool) → logs.is_open later ≡ b → actions_of (apply_if (true && logs.is_open later) (with_actions (pending_actions side later)) later)
+        ≡ newest_first (own ++ sent-then side later) (actions_of log)
     by true e = rw e (acted (pending_actions side later) later ∙ ap (newest_first (pending_actions side later)) (acted own log) ∙ sym (newest-append own (pending_actions side later) (actions_of log)))
     by false e = rw (e, append-nil own) (acted own log)
 
@@ -80,12 +81,14 @@ control-agrees side h log e s = rw (e, one-lt (unis_allowed (events_of log))) (b
     opened false = refl
 
     by : (b : Bool) → (if b then action_if (local_count (actions_out h) (local_uni side) == 0) (actions.Opened (local_uni side))
-        ++ send_of (local_uni side) (take (credit (events_of log) (local_uni side) - length (sent_on (actions_out h) (local_uni side))) (drop (length (sent_on (actions_out h) (local_uni side))) local_control_bytes)) else [])
+        ++ send_of (local_uni side) (take (credit (events_of log) (local_uni side) - length (sent_on (actions_out h) (local_uni side)))
+        (drop (length (sent_on (actions_out h) (local_uni side))) local_control_bytes)) else [])
         ≡ control_actions b (local_uni side) (credit (events_of log) (local_uni side)) (control_sent side log)
     by false = refl
     by true =
         rw (s.opened (local_uni side), s.sent (local_uni side))
-        (ap (λ (xs : List Action). xs ++ send_of (local_uni side) (take (credit (events_of log) (local_uni side) - length (sent_on (actions_of log) (local_uni side))) (drop (length (sent_on (actions_of log) (local_uni side))) local_control_bytes)))
+        (ap (λ (xs : List Action). xs ++ send_of (local_uni side)
+        (take (credit (events_of log) (local_uni side) - length (sent_on (actions_of log) (local_uni side))) (drop (length (sent_on (actions_of log) (local_uni side))) local_control_bytes)))
         (opened (local_count (actions_of log) (local_uni side) == 0))
         ∙ ap (λ (bytes : List ℕ). opened_if (not (not (local_count (actions_of log) (local_uni side) == 0))) (local_uni side) ++ send_of (local_uni side) bytes)
         (front-rest (length (sent_on (actions_of log) (local_uni side))) (credit (events_of log) (local_uni side)) local_control_bytes))

@@ -71,7 +71,8 @@ classified-more found new k e = by (verdict_of found k) refl e
 
 -- ---- the table
 
-pub table-same : (found : List Finding) (table : StreamTable) (f : Finding) → classified_in f ≡ None → admitted_in f ≡ None → closed_in f ≡ None → is_datagram f ≡ false → reads_settings f ≡ false → fault_in f ≡ None
+pub table-same : (found : List Finding) (table : StreamTable) (f : Finding) → classified_in f ≡ None → admitted_in f ≡ None → closed_in f ≡ None → is_datagram f ≡ false → reads_settings f ≡ false
+    → fault_in f ≡ None
     → IsTable found table → IsTable (found ++ f ∷ []) table
 table-same found table f a b c d e g t = record {
   classified = drops classified_in f a found ∙ t.classified;
@@ -123,7 +124,9 @@ ids-more p kind n zero = by (p (4 * n + kind)) (p (4 * (n + zero) + kind)) (ap (
     by false true e = absurd (cc e)
 ids-more p kind n (suc c) = by (p (4 * n + kind)) (ids-more p kind (suc n) c) (ap (λ i. one-if (p (4 * i + kind))) (omega arith))
   where
-    by : (b : Bool) → length (filter p (ids_from kind (suc n) (suc c))) ≡ length (filter p (ids_from kind (suc n) c)) + one-if (p (4 * (suc n + c) + kind)) → one-if (p (4 * (suc n + c) + kind)) ≡ one-if (p (4 * (n + suc c) + kind))
-        → length (cond b ((4 * n + kind) ∷ filter p (ids_from kind (suc n) (suc c))) (filter p (ids_from kind (suc n) (suc c)))) ≡ length (cond b ((4 * n + kind) ∷ filter p (ids_from kind (suc n) c)) (filter p (ids_from kind (suc n) c))) + one-if (p (4 * (n + suc c) + kind))
+    by : (b : Bool) → length (filter p (ids_from kind (suc n) (suc c))) ≡ length (filter p (ids_from kind (suc n) c)) + one-if (p (4 * (suc n + c) + kind))
+        → one-if (p (4 * (suc n + c) + kind)) ≡ one-if (p (4 * (n + suc c) + kind))
+        → length (cond b ((4 * n + kind) ∷ filter p (ids_from kind (suc n) (suc c))) (filter p (ids_from kind (suc n) (suc c))))
+        ≡ length (cond b ((4 * n + kind) ∷ filter p (ids_from kind (suc n) c)) (filter p (ids_from kind (suc n) c))) + one-if (p (4 * (n + suc c) + kind))
     by true e q = omega (arith, e, q)
     by false e q = omega (arith, e, q)

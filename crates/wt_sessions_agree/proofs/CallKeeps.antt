@@ -72,7 +72,8 @@ module _ (side : Side) (offset : ℕ → ℕ) (h : History) (log : Log) (x : Sta
 
   -- ---- what came, and what went out
 
-  pub came-after : (log2 : Log) → events_of log2 ≡ events_of log → all_events_of log2 ≡ all_events_of log → ((k : ℕ) → streams.contents log2 k ≡ streams.contents log k) → is_open after ≡ logs.is_open log2 → Agrees after log2
+  pub came-after : (log2 : Log) → events_of log2 ≡ events_of log → all_events_of log2 ≡ all_events_of log → ((k : ℕ) → streams.contents log2 k ≡ streams.contents log k)
+      → is_open after ≡ logs.is_open log2 → Agrees after log2
   came-after log2 at all bytes opens = record {
     events = called-events h c (next side h (turns.Call c)) ∙ x.came.events ∙ sym at;
     all_events = x.came.all_events ∙ sym all;
@@ -87,7 +88,9 @@ module _ (side : Side) (offset : ℕ → ℕ) (h : History) (log : Log) (x : Sta
 
   module _ (rs : List CallRecord) (called : rs ≡ left ∷ calls_of log) where
     pub accepted-after : (k : ℕ) → list_any (accepts_stream k) rs ≡ is_handed_out after k
-    accepted-after k = ap (list_any (accepts_stream k)) called ∙ ap (λ (b : Bool). b || list_any (accepts_stream k) (calls_of log)) (accepted-by side h c k own.reply) ∙ or-with (hands_out k own.reply) _ _ (x.calls.accepted k)
+    accepted-after k =
+        ap (list_any (accepts_stream k)) called ∙ ap (λ (b : Bool). b || list_any (accepts_stream k) (calls_of log)) (accepted-by side h c k own.reply)
+        ∙ or-with (hands_out k own.reply) _ _ (x.calls.accepted k)
 
     pub ended-after : (s : ℕ) → list_any (ends_session s) rs ≡ is_gone_by_call after s
     ended-after s =
@@ -95,7 +98,9 @@ module _ (side : Side) (offset : ℕ → ℕ) (h : History) (log : Log) (x : Sta
         ∙ or-with (is_number s (gone_in h (turns.Call c) own.reply)) _ _ (x.calls.ended s)
 
     pub named-after : first_session after ≡ drivers.first_session rs
-    named-after = ap (λ (o : Option ℕ). option_or o (session_in own.reply)) x.named ∙ ap (option_or (drivers.first_session (calls_of log))) (sym (established-by side h c own.reply)) ∙ sym (ap drivers.first_session called)
+    named-after =
+        ap (λ (o : Option ℕ). option_or o (session_in own.reply)) x.named ∙ ap (option_or (drivers.first_session (calls_of log))) (sym (established-by side h c own.reply))
+        ∙ sym (ap drivers.first_session called)
 
     pub delivered-after : (k : ℕ) → was_given after k ≡ list_any (delivers k) rs
     delivered-after k = by (request_in own.reply) ∙ or-with _ _ _ (x.delivered k) ∙ ap (λ (b : Bool). b || list_any (delivers k) (calls_of log)) (sym same) ∙ sym (ap (list_any (delivers k)) called)
@@ -133,7 +138,9 @@ module _ (side : Side) (offset : ℕ → ℕ) (h : History) (log : Log) (x : Sta
     pub priority-after : (k : ℕ) → is_done after k ≡ false → unwrap_or (first_of (λ (p : Pair). priority_by k p.turn p.answer.reply) after) (pos 0) ≡ sends.priority_of rs k
     priority-after k d =
         by (priority_by k (turns.Call c) own.reply) (x.halves.priority k (done-before (record { turn = turns.Call c; answer = next side h (turns.Call c) }) h k d))
-        ∙ ap (λ (o : Option ℤ). unwrap_or (option_or o (logs.newest (sends.priority_set k) (calls_of log))) (pos 0)) (sym (priority-by side h c k (done-before (record { turn = turns.Call c; answer = next side h (turns.Call c) }) h k d) own.reply)) ∙ sym (ap (λ (ts : List CallRecord). sends.priority_of ts k) called)
+        ∙ ap (λ (o : Option ℤ). unwrap_or (option_or o (logs.newest (sends.priority_set k) (calls_of log))) (pos 0))
+        (sym (priority-by side h c k (done-before (record { turn = turns.Call c; answer = next side h (turns.Call c) }) h k d) own.reply))
+        ∙ sym (ap (λ (ts : List CallRecord). sends.priority_of ts k) called)
       where
         by : (o : Option ℤ) → unwrap_or (first_of (λ (p : Pair). priority_by k p.turn p.answer.reply) h) (pos 0) ≡ sends.priority_of (calls_of log) k
             → unwrap_or (option_or o (first_of (λ (p : Pair). priority_by k p.turn p.answer.reply) h)) (pos 0) ≡ unwrap_or (option_or o (logs.newest (sends.priority_set k) (calls_of log))) (pos 0)
@@ -167,7 +174,8 @@ module _ (side : Side) (offset : ℕ → ℕ) (h : History) (log : Log) (x : Sta
     pub reset-after : (k : ℕ) → is_reset after k ≡ sends.is_reset log2 k
     reset-after k =
         ap (λ (b : Bool). b || told-resets after k) went
-        ∙ reset-from k now (λ o a. any-join_all (is_reset_of k) (λ i p q. refl) [] all_sent ∙ has-left (is_reset_of k) own.actions (moment_actions side (with_pair h (turns.Call c) own)) (reset-goes side h c k o a))
+        ∙ reset-from k now (λ o a. any-join_all (is_reset_of k) (λ i p q. refl) [] all_sent
+        ∙ has-left (is_reset_of k) own.actions (moment_actions side (with_pair h (turns.Call c) own)) (reset-goes side h c k o a))
         ∙ ap (λ (b : Bool). b || list_any (unsent-reset k) (left ∷ calls_of log)) (sym went ∙ (out-after log2 sent).reset k)
         ∙ or-with (list_any (is_reset_of k) (actions_of log2)) _ _ (sym (ap (list_any (unsent-reset k)) called)) ∙ sym (resets-apart k log2)
       where
@@ -198,7 +206,8 @@ module _ (side : Side) (offset : ℕ → ℕ) (h : History) (log : Log) (x : Sta
     pub calls-after : ((s : ℕ) → was_established (call_view log2) s ≡ is_established after s) → CallsAgree after (call_view log2)
     calls-after established = record { accepted = accepted-after (calls_of log2) called; ended = ended-after (calls_of log2) called; established = established }
 
-    module _ (at : events_of log2 ≡ events_of log) (all : all_events_of log2 ≡ all_events_of log) (bytes : (k : ℕ) → streams.contents log2 k ≡ streams.contents log k) (opens : is_open after ≡ logs.is_open log2) where
+    module _ (at : events_of log2 ≡ events_of log) (all : all_events_of log2 ≡ all_events_of log) (bytes : (k : ℕ) → streams.contents log2 k ≡ streams.contents log k)
+        (opens : is_open after ≡ logs.is_open log2) where
       pub call-keeps : (offset2 : ℕ → ℕ) → answers.is_first log2 ≡ false → IsTable (findings side after) (stream_table side log2)
           → (call_view log2).sessions ≡ filter_map (session_at after offset2) (ids_from 0 0 (stream_count side after 0)) → ((s : ℕ) → was_established (call_view log2) s ≡ is_established after s)
           → Orderly side after (call_view log2) offset2 (findings side after) → HandshakeAgrees side after (handshake_state (calls_of log2)) → Stands side offset2 after log2

@@ -195,7 +195,8 @@ poll-step : (side : Side) (h : History) (k id : ℕ) (x : Option (Option ℕ)) �
 poll-step side h k id None = record { first = Other refl refl (none k) }
 poll-step side h k id (Some name) =
     by-session P (named h name) (λ (s : ℕ). opening_rows side h id s (left s)) (Other refl refl (none k))
-    (λ s q. by-row P _ _ [] _ (λ i. failed-step side h k id (id == k) openings.NotConnected refl) (λ i. by-row P (is_refused h id (left s)) _ [] _ (λ j. failed-step side h k id (id == k) openings.Refused refl)
+    (λ s q. by-row P _ _ [] _ (λ i. failed-step side h k id (id == k) openings.NotConnected refl)
+    (λ i. by-row P (is_refused h id (left s)) _ [] _ (λ j. failed-step side h k id (id == k) openings.Refused refl)
     (λ j. by-row P (lacks_credit h id (left s)) replies.Pending (send h id (left s)) _ (λ m. Other refl refl (none k))
     (λ m. by-row P true _ _ [] (λ t. ready-step side h k id (id == k) (is_bidirectional id) refl) (λ t. no-row P (Other refl refl (none k)))))))
   where
@@ -213,7 +214,8 @@ next-new side h kind l = by (exists side h (next_id side h kind)) refl
     by false e = refl
     by true e =
         let n = nth-of (stream_count side h kind) kind l in
-        let a : stream_count side h kind < stream_count side h kind = rw (n.0, n.1) at (ltb-true (next_id side h kind / 4) (stream_count side h (next_id side h kind % 4)) e) in absurd (omega (arith, a))
+        let a : stream_count side h kind < stream_count side h kind = rw (n.0, n.1) at (ltb-true (next_id side h kind / 4) (stream_count side h (next_id side h kind % 4)) e) in
+        absurd (omega (arith, a))
 
 -- a call that begins an opening of the kind
 module _ (side : Side) (h : History) (k kind : ℕ) (l : kind < 4) (c : Call) (name : Option ℕ) (mine : call_session h c ≡ unwrap_or (named h name) 0)
@@ -255,7 +257,8 @@ bi-is : (r : Reply) → is_bi r ≡ true → (id : ℕ) × (r ≡ replies.Bi id)
 bi-is (replies.Bi id) u = (id, refl)
 bi-is r u = absurd (cc u)
 
-given-step : (side : Side) (h : History) (c : Call) (k id : ℕ) (r : Reply) → record_of side h c r ≡ StreamAccepted id (call_session h c) → opened_by k (turns.Call c) r ≡ None → opening_ends k (turns.Call c) r ≡ false
+given-step : (side : Side) (h : History) (c : Call) (k id : ℕ) (r : Reply) → record_of side h c r ≡ StreamAccepted id (call_session h c) → opened_by k (turns.Call c) r ≡ None
+    → opening_ends k (turns.Call c) r ≡ false
     → is_peers side id ≡ true → OpeningStep side h c k r
 given-step side h c k id r is o e p = by (id == k) refl
   where
@@ -269,21 +272,27 @@ unis-peers side id e = ap (λ (b : Bool). b || (id % 4 == peer_bi side)) e
 bis-peers : (side : Side) (id : ℕ) → (id % 4 == peer_bi side) ≡ true → is_peers side id ≡ true
 bis-peers side id e = ap (λ (b : Bool). (id % 4 == peer_uni side) || b) e ∙ or-true (id % 4 == peer_uni side)
 
-uni-step : (side : Side) (h : History) (k : ℕ) (name : Option ℕ) (r : Reply) → (next side h (turns.Call (calls.AcceptUni name))).reply ≡ r → suits (calls.AcceptUni name) r ≡ true → OpeningStep side h (calls.AcceptUni name) k r
+uni-step : (side : Side) (h : History) (k : ℕ) (name : Option ℕ) (r : Reply) → (next side h (turns.Call (calls.AcceptUni name))).reply ≡ r → suits (calls.AcceptUni name) r ≡ true
+    → OpeningStep side h (calls.AcceptUni name) k r
 uni-step side h k name r e s = by (is_usual r) refl s
   where
     by : (u : Bool) → is_usual r ≡ u → (u || is_uni r) ≡ true → OpeningStep side h (calls.AcceptUni name) k r
-    by true q i = Other (opens-none k (calls.AcceptUni name) r (usual-silent r q)) refl (quiet-one k (record_of side h (calls.AcceptUni name) r) (silent-tells-not side h (calls.AcceptUni name) r (usual-silent r q)))
+    by true q i =
+        Other (opens-none k (calls.AcceptUni name) r (usual-silent r q)) refl
+        (quiet-one k (record_of side h (calls.AcceptUni name) r) (silent-tells-not side h (calls.AcceptUni name) r (usual-silent r q)))
     by false q i =
         let g = uni-is r i in
         subst (OpeningStep side h (calls.AcceptUni name) k) (sym g.1)
         (given-step side h (calls.AcceptUni name) k g.0 (replies.Uni g.0) refl refl refl (unis-peers side g.0 (uni-accepted side h name g.0 (e ∙ g.1)).2.peers))
 
-bi-step : (side : Side) (h : History) (k : ℕ) (name : Option ℕ) (r : Reply) → (next side h (turns.Call (calls.AcceptBi name))).reply ≡ r → suits (calls.AcceptBi name) r ≡ true → OpeningStep side h (calls.AcceptBi name) k r
+bi-step : (side : Side) (h : History) (k : ℕ) (name : Option ℕ) (r : Reply) → (next side h (turns.Call (calls.AcceptBi name))).reply ≡ r → suits (calls.AcceptBi name) r ≡ true
+    → OpeningStep side h (calls.AcceptBi name) k r
 bi-step side h k name r e s = by (is_usual r) refl s
   where
     by : (u : Bool) → is_usual r ≡ u → (u || is_bi r) ≡ true → OpeningStep side h (calls.AcceptBi name) k r
-    by true q i = Other (opens-none k (calls.AcceptBi name) r (usual-silent r q)) refl (quiet-one k (record_of side h (calls.AcceptBi name) r) (silent-tells-not side h (calls.AcceptBi name) r (usual-silent r q)))
+    by true q i =
+        Other (opens-none k (calls.AcceptBi name) r (usual-silent r q)) refl
+        (quiet-one k (record_of side h (calls.AcceptBi name) r) (silent-tells-not side h (calls.AcceptBi name) r (usual-silent r q)))
     by false q i =
         let g = bi-is r i in
         subst (OpeningStep side h (calls.AcceptBi name) k) (sym g.1)
@@ -297,14 +306,17 @@ pub opening-step : (side : Side) (h : History) (k : ℕ) (c : Call) → OpeningS
 opening-step side h k (calls.PollOpening id) =
     (by-session (λ (a : Answer). OpeningStep side h (calls.PollOpening id) k a.reply) (named h None) (λ (s : ℕ). opening_for side h id (being_opened h id)) (Other refl refl (none k))
     (λ s q. poll-step side h k id (being_opened h id))).first
-opening-step side h k (calls.OpenUni name) = open-step side h k (local_uni side) (local-uni-small side) (calls.OpenUni name) name refl (λ id. refl) (λ r. refl) (λ r u. opens-none k (calls.OpenUni name) r u)
-opening-step side h k (calls.OpenBi name) = open-step side h k (local_bi side) (local-bi-small side) (calls.OpenBi name) name refl (λ id. refl) (λ r. refl) (λ r u. opens-none k (calls.OpenBi name) r u)
+opening-step side h k (calls.OpenUni name) =
+    open-step side h k (local_uni side) (local-uni-small side) (calls.OpenUni name) name refl (λ id. refl) (λ r. refl) (λ r u. opens-none k (calls.OpenUni name) r u)
+opening-step side h k (calls.OpenBi name) =
+    open-step side h k (local_bi side) (local-bi-small side) (calls.OpenBi name) name refl (λ id. refl) (λ r. refl) (λ r u. opens-none k (calls.OpenBi name) r u)
 opening-step side h k (calls.AcceptUni name) = uni-step side h k name (first_row (rows_of side h (calls.AcceptUni name))).reply refl (suits-own side h (calls.AcceptUni name))
 opening-step side h k (calls.AcceptBi name) = bi-step side h k name (first_row (rows_of side h (calls.AcceptBi name))).reply refl (suits-own side h (calls.AcceptBi name))
 opening-step side h k (calls.Read id size) =
     silent-step side h k (calls.Read id size) _ refl (either-silent _ (gives_bytes (first_row (rows_of side h (calls.Read id size))).reply) (suits-own side h (calls.Read id size)) (bytes-silent _))
 opening-step side h k (calls.ReadExact id size) =
-    silent-step side h k (calls.ReadExact id size) _ refl (either-silent _ (gives_exact (first_row (rows_of side h (calls.ReadExact id size))).reply) (suits-own side h (calls.ReadExact id size)) (exact-silent _))
+    silent-step side h k (calls.ReadExact id size) _ refl
+    (either-silent _ (gives_exact (first_row (rows_of side h (calls.ReadExact id size))).reply) (suits-own side h (calls.ReadExact id size)) (exact-silent _))
 opening-step side h k c = silent-step side h k c (first_row (rows_of side h c)).reply refl (usual-silent (first_row (rows_of side h c)).reply (suits-own side h c))
 
 -- ---- a stream that isn't there
@@ -416,7 +428,8 @@ module _ (side : Side) (h : History) (hist : IsHistory side h) (log : Log) (c : 
       kept (IsOpening name s b n o) x y q =
           IsOpening name s (same-history x y ∙ b) (named-stays (record { turn = turns.Call c; answer = next side h (turns.Call c) }) h name s n) (same ∙ same-records q ∙ o)
 
-      given : OpeningAgrees h log k → opened_by k (turns.Call c) reply ≡ None → opening_ends k (turns.Call c) reply ≡ false → ends_opening k left ≡ true → is_peers side k ≡ true → OpeningAgrees after log2 k
+      given : OpeningAgrees h log k → opened_by k (turns.Call c) reply ≡ None → opening_ends k (turns.Call c) reply ≡ false → ends_opening k left ≡ true → is_peers side k ≡ true
+          → OpeningAgrees after log2 k
       given (NotOpening b o) x y e p = NotOpening (same-history x y ∙ b) (same ∙ ended e)
       given (IsOpening name s b n o) x y e p = absurd (clash (is_peers side k) p (opened-local side h hist k (being-begun h k (ap is_some b))))
 

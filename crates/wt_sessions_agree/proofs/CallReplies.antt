@@ -84,9 +84,11 @@ half-passes test has rows n s = passes test (not has) replies.NoStream [] rows n
 last : (test : Reply → Bool) → test replies.Pending ≡ true → OfRows (Says test) []
 last test p = no-row (Says test) p
 
-stopped-passes : (h : History) (k : ℕ) (failed : StreamWriteError → Reply) (done : Reply) → ((e : StreamWriteError) → is_usual (failed e) ≡ true) → is_usual done ≡ true → OfRows (Says is_usual) (stopped_rows h k failed done)
+stopped-passes : (h : History) (k : ℕ) (failed : StreamWriteError → Reply) (done : Reply) → ((e : StreamWriteError) → is_usual (failed e) ≡ true) → is_usual done ≡ true
+    → OfRows (Says is_usual) (stopped_rows h k failed done)
 stopped-passes h k failed done f d =
-    value-passes is_usual (stop_of (events h) k) _ [] _ (λ y. f _) (passes is_usual (is_done h k) done [] _ d (passes is_usual (not (is_open h)) (failed writes.NotConnected) [] [] (f _) (last is_usual refl)))
+    value-passes is_usual (stop_of (events h) k) _ [] _ (λ y. f _)
+    (passes is_usual (is_done h k) done [] _ d (passes is_usual (not (is_open h)) (failed writes.NotConnected) [] [] (f _) (last is_usual refl)))
 
 write-passes : (h : History) (k : ℕ) (rows : List Row) → OfRows (Says is_usual) rows → OfRows (Says is_usual) (write_rows h k rows)
 write-passes h k rows s =
@@ -95,7 +97,8 @@ write-passes h k rows s =
 opening-passes : (side : Side) (h : History) (id : ℕ) (x : Option (Option ℕ)) → OfRows (Says (suits (calls.PollOpening id))) (opening_for side h id x)
 opening-passes side h id None = record { first = refl }
 opening-passes side h id (Some name) =
-    session-passes test (named h name) _ refl (λ s. passes test _ _ [] _ refl (passes test _ _ [] _ refl (passes test _ _ _ _ refl (passes test true _ _ [] (ready (is_bidirectional id)) (last test refl)))))
+    session-passes test (named h name) _ refl (λ s. passes test _ _ [] _ refl
+    (passes test _ _ [] _ refl (passes test _ _ _ _ refl (passes test true _ _ [] (ready (is_bidirectional id)) (last test refl)))))
   where
     test : Reply → Bool
     test = suits (calls.PollOpening id)
@@ -129,29 +132,36 @@ suits-rows side h calls.Handshake = polls-pass side h (last_begun h)
 suits-rows side h (calls.EndpointClose code reason) = record { first = refl }
 suits-rows side h (calls.AcceptUni name) =
     session-passes (suits (calls.AcceptUni name)) (named h name) _ refl
-    (λ s. value-passes (suits (calls.AcceptUni name)) (first_waiting side h (peer_uni side) s) _ [] _ (λ y. refl) (passes (suits (calls.AcceptUni name)) _ _ [] [] refl (last (suits (calls.AcceptUni name)) refl)))
+    (λ s. value-passes (suits (calls.AcceptUni name)) (first_waiting side h (peer_uni side) s) _ [] _ (λ y. refl)
+    (passes (suits (calls.AcceptUni name)) _ _ [] [] refl (last (suits (calls.AcceptUni name)) refl)))
 suits-rows side h (calls.AcceptBi name) =
     session-passes (suits (calls.AcceptBi name)) (named h name) _ refl
-    (λ s. value-passes (suits (calls.AcceptBi name)) (first_waiting side h (peer_bi side) s) _ [] _ (λ y. refl) (passes (suits (calls.AcceptBi name)) _ _ [] [] refl (last (suits (calls.AcceptBi name)) refl)))
+    (λ s. value-passes (suits (calls.AcceptBi name)) (first_waiting side h (peer_bi side) s) _ [] _ (λ y. refl)
+    (passes (suits (calls.AcceptBi name)) _ _ [] [] refl (last (suits (calls.AcceptBi name)) refl)))
 suits-rows side h (calls.ReceiveDatagram name) =
     session-passes is_usual (named h name) _ refl (λ s. value-passes is_usual (first_datagram side h s) _ [] _ (λ y. refl) (passes is_usual _ _ [] [] refl (last is_usual refl)))
 suits-rows side h (calls.OpenUni name) =
     session-passes (suits (calls.OpenUni name)) (named h name) _ refl
-    (λ s. passes (suits (calls.OpenUni name)) _ _ [] _ refl (passes (suits (calls.OpenUni name)) _ _ [] _ refl (passes (suits (calls.OpenUni name)) _ _ _ [] refl (last (suits (calls.OpenUni name)) refl))))
+    (λ s. passes (suits (calls.OpenUni name)) _ _ [] _ refl
+    (passes (suits (calls.OpenUni name)) _ _ [] _ refl (passes (suits (calls.OpenUni name)) _ _ _ [] refl (last (suits (calls.OpenUni name)) refl))))
 suits-rows side h (calls.OpenBi name) =
     session-passes (suits (calls.OpenBi name)) (named h name) _ refl
-    (λ s. passes (suits (calls.OpenBi name)) _ _ [] _ refl (passes (suits (calls.OpenBi name)) _ _ [] _ refl (passes (suits (calls.OpenBi name)) _ _ _ [] refl (last (suits (calls.OpenBi name)) refl))))
+    (λ s. passes (suits (calls.OpenBi name)) _ _ [] _ refl
+    (passes (suits (calls.OpenBi name)) _ _ [] _ refl (passes (suits (calls.OpenBi name)) _ _ _ [] refl (last (suits (calls.OpenBi name)) refl))))
 suits-rows side h (calls.PollOpening id) = session-passes (suits (calls.PollOpening id)) (named h None) _ refl (λ s. opening-passes side h id (being_opened h id))
 suits-rows side h (calls.SendDatagram payload name) =
     session-passes is_usual (named h name) _ refl
-    (λ s. passes is_usual _ _ [] _ refl (value-passes is_usual (refused_by (length (datagram_bytes (s / 4) payload)) (datagram_fact (events h))) _ [] _ (λ e. refl) (passes is_usual true _ _ [] refl (last is_usual refl))))
+    (λ s. passes is_usual _ _ [] _ refl (value-passes is_usual (refused_by (length (datagram_bytes (s / 4) payload)) (datagram_fact (events h))) _ [] _ (λ e. refl)
+    (passes is_usual true _ _ [] refl (last is_usual refl))))
 suits-rows side h (calls.EndSession name) = session-passes is_usual (named h name) _ refl (λ s. record { first = refl })
 suits-rows side h (calls.MaxDatagramSize name) = session-passes is_usual (named h name) _ refl (λ s. record { first = refl })
 suits-rows side h (calls.SessionId name) = session-passes is_usual (named h name) _ refl (λ s. record { first = refl })
 suits-rows side h (calls.Close code reason) = session-passes is_usual (named h None) _ refl (λ s. record { first = refl })
 suits-rows side h calls.Closed = session-passes is_usual (named h None) _ refl (λ s. passes is_usual _ _ [] [] refl (last is_usual refl))
-suits-rows side h (calls.Write id bytes) = half-passes is_usual (has_sending side h id) _ refl (write-passes h id _ (passes is_usual _ _ [] _ refl (passes is_usual _ _ _ [] refl (last is_usual refl))))
-suits-rows side h (calls.WriteAll id bytes) = half-passes is_usual (has_sending side h id) _ refl (write-passes h id _ (passes is_usual _ _ _ _ refl (passes is_usual true _ _ [] refl (last is_usual refl))))
+suits-rows side h (calls.Write id bytes) =
+    half-passes is_usual (has_sending side h id) _ refl (write-passes h id _ (passes is_usual _ _ [] _ refl (passes is_usual _ _ _ [] refl (last is_usual refl))))
+suits-rows side h (calls.WriteAll id bytes) =
+    half-passes is_usual (has_sending side h id) _ refl (write-passes h id _ (passes is_usual _ _ _ _ refl (passes is_usual true _ _ [] refl (last is_usual refl))))
 suits-rows side h (calls.Finish id) =
     half-passes is_usual (has_sending side h id) _ refl (passes is_usual _ replies.Pending _ _ refl (stopped-passes h id (λ e. replies.WriteFailed e) replies.Finished (λ e. refl) refl))
 suits-rows side h (calls.Stopped id) =
@@ -161,7 +171,8 @@ suits-rows side h (calls.SetPriority id p) = half-passes is_usual (has_sending s
 suits-rows side h (calls.ResetSend id code) = half-passes is_usual (has_sending side h id) _ refl (passes is_usual _ _ [] _ refl (passes is_usual true _ _ [] refl (last is_usual refl)))
 suits-rows side h (calls.Read id size) =
     half-passes test (has_receiving side h id) _ refl
-    (passes test _ _ [] _ refl (passes test _ _ [] _ refl (passes test _ _ [] _ refl (value-passes test (reset_code (end_of (events h) id)) _ [] _ (λ c. refl) (passes test _ _ [] [] refl (last test refl))))))
+    (passes test _ _ [] _ refl (passes test _ _ [] _ refl
+    (passes test _ _ [] _ refl (value-passes test (reset_code (end_of (events h) id)) _ [] _ (λ c. refl) (passes test _ _ [] [] refl (last test refl))))))
   where
     test : Reply → Bool
     test = suits (calls.Read id size)

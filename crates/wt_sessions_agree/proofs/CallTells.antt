@@ -236,7 +236,8 @@ if-empty : (b : Bool) → length (if b then nil else nil) ≡ 0
 if-empty true = refl
 if-empty false = refl
 
-read-tells : (side : Side) (h : History) (k id size : ℕ) (r : Reply) → suits (calls.Read id size) r ≡ true → length (read_by k (turns.Call (calls.Read id size)) r) ≡ bytes_read k (record_of side h (calls.Read id size) r)
+read-tells : (side : Side) (h : History) (k id size : ℕ) (r : Reply) → suits (calls.Read id size) r ≡ true
+    → length (read_by k (turns.Call (calls.Read id size)) r) ≡ bytes_read k (record_of side h (calls.Read id size) r)
 read-tells side h k id size (replies.Read (Some (b ∷ bytes))) s = if-length (id == k) (b ∷ bytes)
 read-tells side h k id size (replies.Read (Some [])) s = if-empty (id == k)
 read-tells side h k id size (replies.Exact piece) s = absurd (cc s)
@@ -300,7 +301,8 @@ spared r = not (is_rejected r)
 rejects-some : (side : Side) (h : History) (o : Option Call) → (first_row (poll_rows side h o)).reply ≡ replies.Rejected → (d : Call) × (o ≡ Some d) × (is_response d ≡ true)
 rejects-some side h None e = absurd (cc e)
 rejects-some side h (Some (calls.Connect options lookup outcome)) e =
-    absurd (let q = (connect-passes spared refl (λ e. refl) (λ n. refl) side h (target_of (parse_url None options.0) options.1 lookup outcome)).first in let r : false ≡ true = ap spared (sym e) ∙ q in cc r)
+    absurd (let q = (connect-passes spared refl (λ e. refl) (λ n. refl) side h (target_of (parse_url None options.0) options.1 lookup outcome)).first in let r : false ≡ true = ap spared (sym e) ∙ q in
+        cc r)
 rejects-some side h (Some (calls.Accept headers)) e = (calls.Accept headers, refl, refl)
 rejects-some side h (Some calls.Forbidden) e = (calls.Forbidden, refl, refl)
 rejects-some side h (Some calls.NotFound) e = (calls.NotFound, refl, refl)
@@ -315,7 +317,8 @@ response-polls calls.NotFound r = (refl, refl, refl)
 response-polls calls.TooManyRequests r = (refl, refl, refl)
 response-polls c r = absurd (cc r)
 
-pub rejected-request : (side : Side) (h : History) (c : Call) → IsHistory side h → is_lawful side h (turns.Call c) ≡ true → (first_row (rows_of side h c)).reply ≡ replies.Rejected → (s : ℕ) × (last_request h ≡ Some s)
+pub rejected-request : (side : Side) (h : History) (c : Call) → IsHistory side h → is_lawful side h (turns.Call c) ≡ true → (first_row (rows_of side h c)).reply ≡ replies.Rejected
+    → (s : ℕ) × (last_request h ≡ Some s)
 rejected-request side h c hist l e = by (rejecting c (ap (fits c) (sym e) ∙ fits-own side h c))
   where
     by : Rejecting c → (s : ℕ) × (last_request h ≡ Some s)
@@ -332,7 +335,8 @@ ended-by side h c hist l s = by c refl
   where
     -- the session that is named is ended, while the connection is open
     named-ends : (name x : Option ℕ) → named h name ≡ x → (o : Bool) → is_open h ≡ o
-        → ends_session s (record_of side h (calls.EndSession name) (first_row (rows_of side h (calls.EndSession name))).reply) ≡ is_number s (gone_in h (turns.Call (calls.EndSession name)) (first_row (rows_of side h (calls.EndSession name))).reply)
+        → ends_session s (record_of side h (calls.EndSession name) (first_row (rows_of side h (calls.EndSession name))).reply)
+        ≡ is_number s (gone_in h (turns.Call (calls.EndSession name)) (first_row (rows_of side h (calls.EndSession name))).reply)
     named-ends name None e true f = rw (e, f, e) refl
     named-ends name None e false f = rw (e, f) refl
     named-ends name (Some t) e true f = rw (e, f, e) refl

@@ -35,7 +35,8 @@ use Rattle.wt_wire.specs.declared.side.Side.{Side}
 use Rattle.wt_turn.specs.declared.turn.Turn.TheVariants as turns
 
 -- what the newest pair's moment finds: a second one, of a reply that establishes a session, finds nothing
-pub found-one : (side : Side) (p : Pair) (h : History) → Known side (p ∷ h) (findings side h) → is_open h ≡ true → findings side (p ∷ h) ≡ after_checks side (p ∷ h) (checks side (p ∷ h)) (findings side h)
+pub found-one : (side : Side) (p : Pair) (h : History) → Known side (p ∷ h) (findings side h) → is_open h ≡ true
+    → findings side (p ∷ h) ≡ after_checks side (p ∷ h) (checks side (p ∷ h)) (findings side h)
 unfolding findings
 found-one side p h known o =
     ap (λ (b : Bool). if b then after_moments side (p ∷ h) p.answer.reply (findings side h) else findings side h) o
@@ -44,7 +45,8 @@ found-one side p h known o =
 -- ---- both end alike
 
 -- what went out ends the connection in both
-pub ends-alike : (h : History) (log : Log) (c : Call) (reply : Reply) (xs : List Action) (log2 : Log) → is_open h ≡ logs.is_open log → list_any logs.ends_by log2 ≡ (list_any closes xs || list_any logs.ends_by log)
+pub ends-alike : (h : History) (log : Log) (c : Call) (reply : Reply) (xs : List Action) (log2 : Log) → is_open h ≡ logs.is_open log
+    → list_any logs.ends_by log2 ≡ (list_any closes xs || list_any logs.ends_by log)
     → is_open (with_pair h (turns.Call c) (record { reply = reply; actions = join_all [] xs })) ≡ logs.is_open log2
 ends-alike h log c reply xs log2 o e =
     ap (λ (b : Bool). not ((false || b) || list_any ends_by h)) (any-join_all closes (λ i p q. refl) [] xs)

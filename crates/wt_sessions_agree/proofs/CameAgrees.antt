@@ -75,7 +75,8 @@ event-agrees side h log turn a e g t w o = record {
 
 -- a byte of a stream
 byte-agrees : (side : Side) (h : History) (log : Log) (id b : ℕ) (a : Answer) → Agrees h log
-    → is_open (with_pair h (turns.Bytes id (b ∷ [])) a) ≡ logs.is_open (log_after side log (turns.Bytes id (b ∷ []))) → Agrees (with_pair h (turns.Bytes id (b ∷ [])) a) (log_after side log (turns.Bytes id (b ∷ [])))
+    → is_open (with_pair h (turns.Bytes id (b ∷ [])) a) ≡ logs.is_open (log_after side log (turns.Bytes id (b ∷ [])))
+    → Agrees (with_pair h (turns.Bytes id (b ∷ [])) a) (log_after side log (turns.Bytes id (b ∷ [])))
 byte-agrees side h log id b a g o = record {
   events = told (is_open h) (logs.is_open log) g.openness;
   all_events = all (logs.is_open log);
@@ -93,7 +94,8 @@ byte-agrees side h log id b a g o = record {
     all true = g.all_events ∙ sym (flushed all_events_of acted-all side (Received id b) log)
     all false = g.all_events
 
-    came : (k : ℕ) (x y : Bool) → x ≡ y → (if x then (if id == k then contents h k ++ b ∷ [] else contents h k) else contents h k) ≡ streams.contents (if y then log_and_flush side log (Received id b) else log) k
+    came : (k : ℕ) (x y : Bool) → x ≡ y → (if x then (if id == k then contents h k ++ b ∷ [] else contents h k) else contents h k)
+        ≡ streams.contents (if y then log_and_flush side log (Received id b) else log) k
     came k true true e = one k (id == k) ∙ sym (flushed (λ l. streams.contents l k) (λ own l. acted-contents own l k) side (Received id b) log)
       where
         one : (k : ℕ) (c : Bool) → (if c then contents h k ++ b ∷ [] else contents h k) ≡ (if c then streams.contents log k ++ b ∷ [] else streams.contents log k)

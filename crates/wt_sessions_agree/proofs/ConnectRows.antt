@@ -64,7 +64,8 @@ module _ (offset : ℕ → ℕ) (h : History) (log : Log) (x : Stands Client off
       start : part_start Client h 0 ≡ at
       start = rw (facts.unknown, e) refl
 
-  response-agrees : (own : List Action) → ladders.await_response Client log 0 own ≡ effect_of Client h log calls.Handshake (first_row (response_rows Client h own (response_walk_of (contents h 0) (end_of (events h) 0))))
+  response-agrees : (own : List Action) → ladders.await_response Client log 0 own
+      ≡ effect_of Client h log calls.Handshake (first_row (response_rows Client h own (response_walk_of (contents h 0) (end_of (events h) 0))))
   response-agrees own =
       ap (ladders.read_response Client log 0 own) (sym walk-is)
       ∙ response-by own (response_walk_of (contents h 0) (end_of (events h) 0)) refl (logs.is_open log) refl (is_success (response_walk_of (contents h 0) (end_of (events h) 0))) refl
@@ -80,19 +81,23 @@ module _ (offset : ℕ → ℕ) (h : History) (log : Log) (x : Stands Client off
       let sent : send h 0 [] ≡ [] = ap (send_of 0) (take-none (credit_left h 0)) in
       rw (and-false (is_some (stop_of (events h) 0)), lacks, sent, append-nil own) (response-agrees own)
 
-  request-some : (own : List Action) (b : ℕ) (bytes : List ℕ) → ((code : ℕ) → stop_of (events_of log) 0 ≡ Some code → own ≡ []) → (logs.is_open log ≡ false → own ≡ []) → (o : Bool) → logs.is_open log ≡ o → (s : Option ℕ) → stop_of (events_of log) 0 ≡ s → (v : Bool) → is_covered log 0 (b ∷ bytes) ≡ v
+  request-some : (own : List Action) (b : ℕ) (bytes : List ℕ) → ((code : ℕ) → stop_of (events_of log) 0 ≡ Some code → own ≡ []) → (logs.is_open log ≡ false → own ≡ []) → (o : Bool)
+      → logs.is_open log ≡ o → (s : Option ℕ) → stop_of (events_of log) 0 ≡ s → (v : Bool) → is_covered log 0 (b ∷ bytes) ≡ v
       → ladders.send_request Client log 0 own (b ∷ bytes) ≡ effect_of Client h log calls.Handshake (first_row (request_rows Client h own (b ∷ bytes)))
   request-some own b bytes free shut false f s g v k = let n : own ≡ [] = shut f in rw (x.came.openness, f, transport-is Client offset h log x, n) refl
   request-some own b bytes free shut true f (Some code) g v k = let n : own ≡ [] = free code g in rw (x.came.openness, f, x.came.events, g, n) refl
-  request-some own b bytes free shut true f None g false k = rw (lacks-is Client offset h log x 0 (b ∷ bytes) f, k, send-is Client offset h log x 0 (b ∷ bytes) f, x.came.openness, f, x.came.events, g) refl
+  request-some own b bytes free shut true f None g false k =
+      rw (lacks-is Client offset h log x 0 (b ∷ bytes) f, k, send-is Client offset h log x 0 (b ∷ bytes) f, x.came.openness, f, x.came.events, g) refl
   request-some own b bytes free shut true f None g true k =
       let e : ladders.send_request Client log 0 own (b ∷ bytes) ≡ ladders.await_response Client log 0 (own ++ send_of 0 (b ∷ bytes)) = rw (f, g, k) refl in
       let r : first_row (request_rows Client h own (b ∷ bytes)) ≡ first_row (response_rows Client h (own ++ send h 0 (b ∷ bytes)) (response_walk_of (contents h 0) (end_of (events h) 0)))
             = rw (lacks-is Client offset h log x 0 (b ∷ bytes) f, k, x.came.openness, f, x.came.events, g) refl in
       let q : send h 0 (b ∷ bytes) ≡ send_of 0 (b ∷ bytes) = send-is Client offset h log x 0 (b ∷ bytes) f ∙ ap (send_of 0) (covered-out Client offset h log x 0 (b ∷ bytes) k) in
-      e ∙ ap (λ (as_ : List Action). ladders.await_response Client log 0 (own ++ as_)) (sym q) ∙ response-agrees (own ++ send h 0 (b ∷ bytes)) ∙ ap (λ a. effect_of Client h log calls.Handshake a) (sym r)
+      e ∙ ap (λ (as_ : List Action). ladders.await_response Client log 0 (own ++ as_)) (sym q) ∙ response-agrees (own ++ send h 0 (b ∷ bytes))
+      ∙ ap (λ a. effect_of Client h log calls.Handshake a) (sym r)
 
-  request-agrees : (own : List Action) (left : List ℕ) → ((code : ℕ) → stop_of (events_of log) 0 ≡ Some code → own ≡ []) → (logs.is_open log ≡ false → own ≡ []) → ladders.send_request Client log 0 own left ≡ effect_of Client h log calls.Handshake (first_row (request_rows Client h own left))
+  request-agrees : (own : List Action) (left : List ℕ) → ((code : ℕ) → stop_of (events_of log) 0 ≡ Some code → own ≡ []) → (logs.is_open log ≡ false → own ≡ [])
+      → ladders.send_request Client log 0 own left ≡ effect_of Client h log calls.Handshake (first_row (request_rows Client h own left))
   request-agrees own [] free shut = request-none own
   request-agrees own (b ∷ bytes) free shut = request-some own b bytes free shut (logs.is_open log) refl (stop_of (events_of log) 0) refl (is_covered log 0 (b ∷ bytes)) refl
 
@@ -103,12 +108,14 @@ module _ (offset : ℕ → ℕ) (h : History) (log : Log) (x : Stands Client off
   zero-is : (n : ℕ) → (n == 0) ≡ true → n ≡ 0
   zero-is n e = eqb-true n 0 e
 
-  open-by : (t : Target) → is_connected (events_of log) ≡ true → drivers.settings_came Client log ≡ true → t.reserved ≡ None → (z : Bool) → (local_count (actions_of log) 0 == 0) ≡ z → (o : Bool) → logs.is_open log ≡ o → (m : Bool) → outgoing.may_open Client log 0 ≡ m
+  open-by : (t : Target) → is_connected (events_of log) ≡ true → drivers.settings_came Client log ≡ true → t.reserved ≡ None → (z : Bool) → (local_count (actions_of log) 0 == 0) ≡ z → (o : Bool)
+      → logs.is_open log ≡ o → (m : Bool) → outgoing.may_open Client log 0 ≡ m
       → ladders.open_request Client log t.frame ≡ effect_of Client h log calls.Handshake (first_row (connect_rows Client h t))
   open-by t c s r false z o f m k =
       let q : settings_came (findings Client h) ≡ true = x.table.settings ∙ s in
       let e : ladders.open_request Client log t.frame ≡ ladders.send_request Client log 0 [] (effects.head_left log 0 t.frame) = rw z refl in
-      let w : first_row (connect_rows Client h t) ≡ first_row (request_rows Client h [] (effects.head_left log 0 t.frame)) = rw (q, r, x.out.opened 0, z, x.came.events, c, head-is Client offset h log x 0 t.frame) refl in
+      let w : first_row (connect_rows Client h t) ≡ first_row (request_rows Client h [] (effects.head_left log 0 t.frame)) = rw
+      (q, r, x.out.opened 0, z, x.came.events, c, head-is Client offset h log x 0 t.frame) refl in
       e ∙ request-agrees [] (effects.head_left log 0 t.frame) (λ code g. refl) (λ g. refl) ∙ ap (λ a. effect_of Client h log calls.Handshake a) (sym w)
   open-by t c s r true z false f m k =
       let q : settings_came (findings Client h) ≡ true = x.table.settings ∙ s in rw (q, r, x.out.opened 0, z, x.came.openness, f, transport-is Client offset h log x, x.came.events, c) refl
@@ -120,14 +127,17 @@ module _ (offset : ℕ → ℕ) (h : History) (log : Log) (x : Stands Client off
       let e : ladders.open_request Client log t.frame ≡ ladders.send_request Client log 0 (actions.Opened 0 ∷ []) (effects.head_left log 0 t.frame) = rw (k, z, f, first-id n) refl in
       let w : first_row (connect_rows Client h t) ≡ first_row (request_rows Client h (actions.Opened 0 ∷ []) (effects.head_left log 0 t.frame))
             = rw (may-open Client offset h log x 0, k, q, r, x.out.opened 0, z, x.came.openness, f, x.came.events, c, head-is Client offset h log x 0 t.frame) refl in
-      e ∙ request-agrees (actions.Opened 0 ∷ []) (effects.head_left log 0 t.frame) (λ code g. absurd (let u = facts.unstopped n in cc (sym g ∙ u))) (λ g. absurd (cc (sym f ∙ g))) ∙ ap (λ a. effect_of Client h log calls.Handshake a) (sym w)
+      e ∙ request-agrees (actions.Opened 0 ∷ []) (effects.head_left log 0 t.frame) (λ code g. absurd (let u = facts.unstopped n in cc (sym g ∙ u))) (λ g. absurd (cc (sym f ∙ g)))
+      ∙ ap (λ a. effect_of Client h log calls.Handshake a) (sym w)
 
-  connect-by : (t : Target) → (c : Bool) → is_connected (events_of log) ≡ c → (s : Bool) → drivers.settings_came Client log ≡ s → (o : Bool) → logs.is_open log ≡ o → (r : Option (List ℕ)) → t.reserved ≡ r
+  connect-by : (t : Target) → (c : Bool) → is_connected (events_of log) ≡ c → (s : Bool) → drivers.settings_came Client log ≡ s → (o : Bool) → logs.is_open log ≡ o → (r : Option (List ℕ))
+      → t.reserved ≡ r
       → ladders.continue_connect Client log t.reserved t.frame ≡ effect_of Client h log calls.Handshake (first_row (connect_rows Client h t))
   connect-by t false c s q true f r k = rw (x.came.openness, f, x.came.events, c) refl
   connect-by t false c s q false f r k = rw (x.came.openness, f, transport-is Client offset h log x, x.came.events, c) refl
   connect-by t true c false q true f r k = let n : settings_came (findings Client h) ≡ false = x.table.settings ∙ q in rw (n, q, x.came.openness, f, x.came.events, c) refl
-  connect-by t true c false q false f r k = let n : settings_came (findings Client h) ≡ false = x.table.settings ∙ q in rw (n, q, x.came.openness, f, driver-is Client offset h log x, x.came.events, c) refl
+  connect-by t true c false q false f r k =
+      let n : settings_came (findings Client h) ≡ false = x.table.settings ∙ q in rw (n, q, x.came.openness, f, driver-is Client offset h log x, x.came.events, c) refl
   connect-by t true c true q o f (Some name) k = let n : settings_came (findings Client h) ≡ true = x.table.settings ∙ q in rw (n, q, k, x.came.openness, x.came.events, c) refl
   connect-by t true c true q o f None k =
       let e : ladders.continue_connect Client log t.reserved t.frame ≡ ladders.open_request Client log t.frame = rw (c, q, k) refl in

@@ -49,7 +49,8 @@ named-is side offset h log None x = x.named
 named-is side offset h log (Some s) x = ap (λ (b : Bool). if b then Some s else None) (sym (x.calls.established s))
 
 -- a call on it, or no session
-pub on-session : (side : Side) (h : History) (log : Log) (c : Call) (call : ℕ → Effect) (rows : ℕ → List Row) (o p : Option ℕ) → o ≡ p → ((s : ℕ) → o ≡ Some s → call s ≡ effect_of side h log c (first_row (rows s)))
+pub on-session : (side : Side) (h : History) (log : Log) (c : Call) (call : ℕ → Effect) (rows : ℕ → List Row) (o p : Option ℕ) → o ≡ p
+    → ((s : ℕ) → o ≡ Some s → call s ≡ effect_of side h log c (first_row (rows s)))
     → answers.in_session side log call p ≡ effect_of side h log c (first_row (in_session o rows))
 on-session side h log c call rows None None e f = refl
 on-session side h log c call rows (Some s) (Some t) e f = let q : t ≡ s = cc e in rw q (f s refl)
@@ -64,7 +65,8 @@ module _ (side : Side) (offset : ℕ → ℕ) (h : History) (log : Log) (x : Sta
       → poll_only side log (pending_or_failed side log s) ≡ effect_of side h log c (first_row (ended_row side h s ∷ []))
   ended-is s c f p = by (drivers.is_living side log s) refl (logs.is_open log) refl
     where
-      by : (l : Bool) → drivers.is_living side log s ≡ l → (o : Bool) → logs.is_open log ≡ o → poll_only side log (pending_or_failed side log s) ≡ effect_of side h log c (first_row (ended_row side h s ∷ []))
+      by : (l : Bool) → drivers.is_living side log s ≡ l → (o : Bool) → logs.is_open log ≡ o
+          → poll_only side log (pending_or_failed side log s) ≡ effect_of side h log c (first_row (ended_row side h s ∷ []))
       by true e true q = rw (living-is side offset h log s x, x.came.openness, e, q, p) refl
       by true e false q = rw (living-is side offset h log s x, x.came.openness, e, q, error-is side offset h log s x, f) refl
       by false e true q = rw (living-is side offset h log s x, x.came.openness, e, q, error-is side offset h log s x, f) refl
@@ -80,15 +82,19 @@ module _ (side : Side) (offset : ℕ → ℕ) (h : History) (log : Log) (x : Sta
   accept-bi name kind s n (Some w) e = rw (next-stream side offset h log kind s x, e, n) refl
   accept-bi name kind s n None e = rw (next-stream side offset h log kind s x, e) (ended-is s (calls.AcceptBi name) refl refl)
 
-  pub accept_uni-agrees : (name : Option ℕ) (kind s : ℕ) → named h name ≡ Some s → ladders.accept_stream side replies.Uni kind log s ≡ effect_of side h log (calls.AcceptUni name) (first_row (accept side h kind replies.Uni s))
+  pub accept_uni-agrees : (name : Option ℕ) (kind s : ℕ) → named h name ≡ Some s
+      → ladders.accept_stream side replies.Uni kind log s ≡ effect_of side h log (calls.AcceptUni name) (first_row (accept side h kind replies.Uni s))
   accept_uni-agrees name kind s n = accept-uni name kind s n (next_stream side log kind s) refl
 
-  pub accept_bi-agrees : (name : Option ℕ) (kind s : ℕ) → named h name ≡ Some s → ladders.accept_stream side replies.Bi kind log s ≡ effect_of side h log (calls.AcceptBi name) (first_row (accept side h kind replies.Bi s))
+  pub accept_bi-agrees : (name : Option ℕ) (kind s : ℕ) → named h name ≡ Some s
+      → ladders.accept_stream side replies.Bi kind log s ≡ effect_of side h log (calls.AcceptBi name) (first_row (accept side h kind replies.Bi s))
   accept_bi-agrees name kind s n = accept-bi name kind s n (next_stream side log kind s) refl
 
   receive-by : (name : Option ℕ) (s : ℕ) → named h name ≡ Some s → (o : Option Admitted) → next_datagram side log s ≡ o → (g : Bool) → is_session_gone side log s ≡ g
       → ladders.give_datagram side log s o ≡ effect_of side h log (calls.ReceiveDatagram name) (first_row (receive side h s))
-  receive-by name s n (Some d) e true g = absurd (let q : first_datagram side h s ≡ None = rw (gone-is side offset h log s x, g) refl in let r : first_datagram side h s ≡ Some d.payload = next-datagram side offset h log s x ∙ ap payload-of e in cc (sym q ∙ r))
+  receive-by name s n (Some d) e true g =
+      absurd (let q : first_datagram side h s ≡ None = rw (gone-is side offset h log s x, g) refl in let r : first_datagram side h s ≡ Some d.payload = next-datagram side offset h log s x
+      ∙ ap payload-of e in cc (sym q ∙ r))
   receive-by name s n (Some d) e false g = rw (next-datagram side offset h log s x, e, n, next-index side offset h log s d x g e) refl
   receive-by name s n None e b g = rw (next-datagram side offset h log s x, e) (ended-is s (calls.ReceiveDatagram name) refl refl)
 
@@ -108,21 +114,24 @@ module _ (side : Side) (offset : ℕ → ℕ) (h : History) (log : Log) (x : Sta
       by false e = rw (x.came.openness, e) refl
       by true e = rw (x.came.openness, e, count-is kind, open-events h (x.came.openness ∙ e), x.came.all_events, eqb-sym kind (local_uni side)) refl
 
-  may-by : (kind : ℕ) → logs.is_open log ≡ true → nat_lt (stream_count side h kind) (allowed side (events h) kind) ≡ nat_lt (streams.stream_count side log kind) (outgoing.streams_allowed side log kind)
+  may-by : (kind : ℕ) → logs.is_open log ≡ true → nat_lt (stream_count side h kind) (allowed side (events h) kind)
+      ≡ nat_lt (streams.stream_count side log kind) (outgoing.streams_allowed side log kind)
   may-by kind e = rw (count-is kind, open-events h (x.came.openness ∙ e), x.came.all_events, eqb-sym kind (local_uni side)) refl
 
   pub next-id : (kind : ℕ) → next_id side h kind ≡ outgoing.next_id side log kind
   next-id kind = ap (λ (n : ℕ). 4 * n + kind) (count-is kind)
 
   module _ (kind s : ℕ) where
-    open-uni : (name : Option ℕ) → named h name ≡ Some s → (g o m : Bool) → is_session_gone side log s ≡ g → logs.is_open log ≡ o → nat_lt (streams.stream_count side log kind) (outgoing.streams_allowed side log kind) ≡ m
+    open-uni : (name : Option ℕ) → named h name ≡ Some s → (g o m : Bool) → is_session_gone side log s ≡ g → logs.is_open log ≡ o
+        → nat_lt (streams.stream_count side log kind) (outgoing.streams_allowed side log kind) ≡ m
         → ladders.open_stream side log kind s ≡ effect_of side h log (calls.OpenUni name) (first_row (open_stream side h kind s))
     open-uni name n true o m e f q = rw (gone-is side offset h log s x, e, error-is side offset h log s x, e) refl
     open-uni name n false false m e f q = rw (gone-is side offset h log s x, e, x.came.openness, f, transport-is side offset h log x) refl
     open-uni name n false true true e f q = rw (gone-is side offset h log s x, e, x.came.openness, f, may-by kind f, q, next-id kind, n) refl
     open-uni name n false true false e f q = rw (gone-is side offset h log s x, e, x.came.openness, f, may-by kind f, q) refl
 
-    open-bi : (name : Option ℕ) → named h name ≡ Some s → (g o m : Bool) → is_session_gone side log s ≡ g → logs.is_open log ≡ o → nat_lt (streams.stream_count side log kind) (outgoing.streams_allowed side log kind) ≡ m
+    open-bi : (name : Option ℕ) → named h name ≡ Some s → (g o m : Bool) → is_session_gone side log s ≡ g → logs.is_open log ≡ o
+        → nat_lt (streams.stream_count side log kind) (outgoing.streams_allowed side log kind) ≡ m
         → ladders.open_stream side log kind s ≡ effect_of side h log (calls.OpenBi name) (first_row (open_stream side h kind s))
     open-bi name n true o m e f q = rw (gone-is side offset h log s x, e, error-is side offset h log s x, e) refl
     open-bi name n false false m e f q = rw (gone-is side offset h log s x, e, x.came.openness, f, transport-is side offset h log x) refl
@@ -189,7 +198,8 @@ module _ (side : Side) (offset : ℕ → ℕ) (h : History) (log : Log) (x : Sta
       by true = refl
       by false = refl
 
-  opening-by : (k s : ℕ) (left : List ℕ) (name : Option ℕ) → being_opened h k ≡ Some name → named h name ≡ Some s → (d : Bool) → (logs.is_open log && drivers.is_living side log s) ≡ d → (r : Bool) → handshakes.is_refused log k left ≡ r → (c : Bool) → is_covered log k left ≡ c
+  opening-by : (k s : ℕ) (left : List ℕ) (name : Option ℕ) → being_opened h k ≡ Some name → named h name ≡ Some s → (d : Bool) → (logs.is_open log && drivers.is_living side log s) ≡ d → (r : Bool)
+      → handshakes.is_refused log k left ≡ r → (c : Bool) → is_covered log k left ≡ c
       → (w : Bool) → is_bidirectional k ≡ w → ladders.continue_opening side log k s left ≡ effect_of side h log (calls.PollOpening k) (first_row (opening_rows side h k s left))
   opening-by k s left name b n false e r q c f w u = rw (x.came.openness, living-is side offset h log s x, e) refl
   opening-by k s left name b n true e true q c f w u = rw (x.came.openness, living-is side offset h log s x, e, refused-is k left, q) refl
@@ -211,7 +221,8 @@ module _ (side : Side) (offset : ℕ → ℕ) (h : History) (log : Log) (x : Sta
       let r : opening_for side h k (being_opened h k) ≡ opening_rows side h k s (effects.head_left log k (ladders.stream_header k s))
             = rw (b, n) (ap (opening_rows side h k s) (head-is k (stream_header k s) ∙ ap (effects.head_left log k) (header-is k s))) in
       e ∙ opening-by k s (effects.head_left log k (ladders.stream_header k s)) name b n (logs.is_open log && drivers.is_living side log s) refl
-          (handshakes.is_refused log k (effects.head_left log k (ladders.stream_header k s))) refl (is_covered log k (effects.head_left log k (ladders.stream_header k s))) refl (is_bidirectional k) refl
+          (handshakes.is_refused log k (effects.head_left log k (ladders.stream_header k s))) refl (is_covered log k (effects.head_left log k (ladders.stream_header k s))) refl
+          (is_bidirectional k) refl
       ∙ ap (λ (rows : List Row). effect_of side h log (calls.PollOpening k) (first_row rows)) (sym r)
 
   pub opening-agrees : (k : ℕ) → ladders.poll_opening side log k ≡ effect_of side h log (calls.PollOpening k) (first_row (opening_for side h k (being_opened h k)))
@@ -219,7 +230,8 @@ module _ (side : Side) (offset : ℕ → ℕ) (h : History) (log : Log) (x : Sta
 
   -- ---- datagrams
 
-  pub send_datagram-agrees : (payload : List ℕ) (name : Option ℕ) (s : ℕ) → ladders.send_datagram side log payload s ≡ effect_of side h log (calls.SendDatagram payload name) (first_row (send_datagram side h payload s))
+  pub send_datagram-agrees : (payload : List ℕ) (name : Option ℕ) (s : ℕ)
+      → ladders.send_datagram side log payload s ≡ effect_of side h log (calls.SendDatagram payload name) (first_row (send_datagram side h payload s))
   send_datagram-agrees payload name s = by (logs.is_open log && drivers.is_living side log s) refl (datagram_fact (events_of log)) refl
     where
       by : (d : Bool) → (logs.is_open log && drivers.is_living side log s) ≡ d → (o : Option DatagramFact) → datagram_fact (events_of log) ≡ o
@@ -246,16 +258,20 @@ module _ (side : Side) (offset : ℕ → ℕ) (h : History) (log : Log) (x : Sta
 
   -- ---- closes
 
-  pub close-agrees : (code : ℕ) (reason : List ℕ) → ladders.close_connection side log code reason ≡ effect_of side h log (calls.Close code reason) (first_row (row true replies.Done (action_if (is_open h) (actions.Close code reason)) ∷ []))
+  pub close-agrees : (code : ℕ) (reason : List ℕ) → ladders.close_connection side log code reason
+      ≡ effect_of side h log (calls.Close code reason) (first_row (row true replies.Done (action_if (is_open h) (actions.Close code reason)) ∷ []))
   close-agrees code reason = rw x.came.openness refl
 
-  pub endpoint_close-agrees : (code : ℕ) (reason : List ℕ) → ladders.close_connection side log code reason ≡ effect_of side h log (calls.EndpointClose code reason) (first_row (row true replies.Done (action_if (is_open h) (actions.Close code reason)) ∷ []))
+  pub endpoint_close-agrees : (code : ℕ) (reason : List ℕ)
+      → ladders.close_connection side log code reason ≡ effect_of side h log (calls.EndpointClose code reason)
+      (first_row (row true replies.Done (action_if (is_open h) (actions.Close code reason)) ∷ []))
   endpoint_close-agrees code reason = rw x.came.openness refl
 
   pub closed-agrees : poll_only side log (ladders.closed_reply log) ≡ effect_of side h log calls.Closed (first_row (row (not (is_open h)) (replies.Closed (transport_error h)) [] ∷ []))
   closed-agrees = by (logs.is_open log) refl
     where
-      by : (o : Bool) → logs.is_open log ≡ o → poll_only side log (ladders.closed_reply log) ≡ effect_of side h log calls.Closed (first_row (row (not (is_open h)) (replies.Closed (transport_error h)) [] ∷ []))
+      by : (o : Bool) → logs.is_open log ≡ o → poll_only side log (ladders.closed_reply log)
+          ≡ effect_of side h log calls.Closed (first_row (row (not (is_open h)) (replies.Closed (transport_error h)) [] ∷ []))
       by true e = rw (x.came.openness, e) refl
       by false e = rw (x.came.openness, e, transport-is side offset h log x) refl
 
@@ -263,7 +279,8 @@ module _ (side : Side) (offset : ℕ → ℕ) (h : History) (log : Log) (x : Sta
 
   pub end-agrees : (name : Option ℕ) (s : ℕ) → named h name ≡ Some s → (drivers.is_living side log s ≡ true → session_gone_actions side h (findings side h) s ≡ drivers.ending_actions side log s)
       → ladders.end_session side log s
-      ≡ effect_of side h log (calls.EndSession name) (first_row (row true replies.Done (if is_open h && is_living side h s then session_finish h s ++ session_gone_actions side h (findings side h) s else []) ∷ []))
+      ≡ effect_of side h log (calls.EndSession name) (first_row
+      (row true replies.Done (if is_open h && is_living side h s then session_finish h s ++ session_gone_actions side h (findings side h) s else []) ∷ []))
   end-agrees name s n g = by (logs.is_open log) refl (drivers.is_living side log s) refl
     where
       finishes : (b : Bool) → action_if b (actions.Finish s) ≡ tables.action_if b (actions.Finish s)
@@ -271,7 +288,8 @@ module _ (side : Side) (offset : ℕ → ℕ) (h : History) (log : Log) (x : Sta
       finishes false = refl
 
       by : (o : Bool) → logs.is_open log ≡ o → (l : Bool) → drivers.is_living side log s ≡ l → ladders.end_session side log s
-          ≡ effect_of side h log (calls.EndSession name) (first_row (row true replies.Done (if is_open h && is_living side h s then session_finish h s ++ session_gone_actions side h (findings side h) s else []) ∷ []))
+          ≡ effect_of side h log (calls.EndSession name) (first_row
+          (row true replies.Done (if is_open h && is_living side h s then session_finish h s ++ session_gone_actions side h (findings side h) s else []) ∷ []))
       by true e true l = rw (x.came.openness, living-is side offset h log s x, e, l, n, g l, x.came.events, finishes (not (is_some (stop_of (events_of log) s)))) refl
       by true e false l = rw (x.came.openness, living-is side offset h log s x, e, l, n) refl
       by false e l q = rw (x.came.openness, e) refl

@@ -39,15 +39,19 @@ pub step-keeps : (side : Side) (h : History) (Keeps : List Finding → StreamTab
 step-keeps side h Keeps holds ls step found table does t = by (fault_of found) refl
   where
     by : (o : Option ErrorCode) → fault_of found ≡ o → Keeps (after_checks side h ls found) (unless_ended table.progress.fault step table)
-    by (Some c) e = let q : table.progress.fault ≡ Some c = sym (holds found table t).fault ∙ e in rw (checks-faulty side h ls found c e) (subst (λ (o : Option ErrorCode). Keeps found (unless_ended o step table)) (sym q) t)
-    by None e = let q : table.progress.fault ≡ None = sym (holds found table t).fault ∙ e in subst (λ (o : Option ErrorCode). Keeps (after_checks side h ls found) (unless_ended o step table)) (sym q) (does e)
+    by (Some c) e =
+        let q : table.progress.fault ≡ Some c = sym (holds found table t).fault ∙ e in
+        rw (checks-faulty side h ls found c e) (subst (λ (o : Option ErrorCode). Keeps found (unless_ended o step table)) (sym q) t)
+    by None e =
+        let q : table.progress.fault ≡ None = sym (holds found table t).fault ∙ e in subst (λ (o : Option ErrorCode). Keeps (after_checks side h ls found) (unless_ended o step table)) (sym q) (does e)
 
 pub step-agrees : (side : Side) (h : History) (ls : List Check) (step : StreamTable → StreamTable) (found : List Finding) (table : StreamTable)
     → (fault_of found ≡ None → IsTable (after_checks side h ls found) (step table)) → IsTable found table → IsTable (after_checks side h ls found) (unless_ended table.progress.fault step table)
 step-agrees side h = step-keeps side h IsTable (λ found table holds. holds)
 
 -- a fault where the test holds
-critical-table : (found : List Finding) (table : StreamTable) (b : Bool) → fault_of found ≡ None → IsTable found table → IsTable (found ++ fault_if b h3.ClosedCriticalStream) (on_progress (critical_if b) table)
+critical-table : (found : List Finding) (table : StreamTable) (b : Bool) → fault_of found ≡ None → IsTable found table
+    → IsTable (found ++ fault_if b h3.ClosedCriticalStream) (on_progress (critical_if b) table)
 critical-table found table true f t = fault-fields found table h3.ClosedCriticalStream f t
 critical-table found table false f t = subst (λ (l : List Finding). IsTable l table) (sym (append-nil found)) t
 
@@ -71,13 +75,20 @@ read-settings : (found : List Finding) (table : StreamTable) (s : Bool) → IsTa
     → IsTable (found ++ (if not (settings_came found) && s then SettingsRead ∷ [] else [])) (record table { progress = record table.progress { settings = table.progress.settings || s } })
 read-settings found table s t = by (settings_came found) s refl
   where
-    by : (x s : Bool) → settings_came found ≡ x → IsTable (found ++ (if not (settings_came found) && s then SettingsRead ∷ [] else [])) (record table { progress = record table.progress { settings = table.progress.settings || s } })
+    by : (x s : Bool) → settings_came found ≡ x → IsTable (found ++ (if not (settings_came found) && s then SettingsRead ∷ [] else []))
+        (record table { progress = record table.progress { settings = table.progress.settings || s } })
     by false true e = let q : table.progress.settings ≡ false = sym t.settings ∙ e in rw (e, q) (settings-fields found table t)
-    by true true e = let q : table.progress.settings ≡ true = sym t.settings ∙ e in rw (e, q) (subst (λ (l : List Finding). IsTable l (record table { progress = record table.progress { settings = true } })) (sym (append-nil found))
+    by true true e =
+        let q : table.progress.settings ≡ true = sym t.settings ∙ e in
+        rw (e, q) (subst (λ (l : List Finding). IsTable l (record table { progress = record table.progress { settings = true } })) (sym (append-nil found))
         (record { classified = t.classified; datagrams = t.datagrams; closed = t.closed; looked_at = t.looked_at; settings = e; fault = t.fault }))
-    by false false e = let q : table.progress.settings ≡ false = sym t.settings ∙ e in rw (e, q) (subst (λ (l : List Finding). IsTable l (record table { progress = record table.progress { settings = false } })) (sym (append-nil found))
+    by false false e =
+        let q : table.progress.settings ≡ false = sym t.settings ∙ e in
+        rw (e, q) (subst (λ (l : List Finding). IsTable l (record table { progress = record table.progress { settings = false } })) (sym (append-nil found))
         (record { classified = t.classified; datagrams = t.datagrams; closed = t.closed; looked_at = t.looked_at; settings = e; fault = t.fault }))
-    by true false e = let q : table.progress.settings ≡ true = sym t.settings ∙ e in rw (e, q) (subst (λ (l : List Finding). IsTable l (record table { progress = record table.progress { settings = true } })) (sym (append-nil found))
+    by true false e =
+        let q : table.progress.settings ≡ true = sym t.settings ∙ e in
+        rw (e, q) (subst (λ (l : List Finding). IsTable l (record table { progress = record table.progress { settings = true } })) (sym (append-nil found))
         (record { classified = t.classified; datagrams = t.datagrams; closed = t.closed; looked_at = t.looked_at; settings = e; fault = t.fault }))
 
 -- what the control walk read, and its fault
@@ -94,7 +105,9 @@ control-table found table w f t = by w.fault
 
     by : (o : Option ErrorCode) → IsTable ((found ++ (if not (settings_came found) && is_some w.settings then SettingsRead ∷ [] else [])) ++ faults_of o)
         (on_progress (λ (p : DriverProgress). with_fault o (record p { settings = p.settings || is_some w.settings })) table)
-    by None = subst (λ (l : List Finding). IsTable l (record table { progress = record table.progress { settings = table.progress.settings || is_some w.settings } })) (sym (append-nil _)) (read-settings found table (is_some w.settings) t)
+    by None =
+        subst (λ (l : List Finding). IsTable l (record table { progress = record table.progress { settings = table.progress.settings || is_some w.settings } })) (sym (append-nil _))
+        (read-settings found table (is_some w.settings) t)
     by (Some c) = fault-fields _ _ c (none (not (settings_came found) && is_some w.settings)) (read-settings found table (is_some w.settings) t)
 
 -- ---- the last four steps
@@ -102,7 +115,8 @@ control-table found table w f t = by w.fault
 own-stop-agrees : (side : Side) (h : History) (v : TransportView) (found : List Finding) (table : StreamTable) → ViewsAgree side h v → IsTable found table → fault_of found ≡ None
     → IsTable (after_checks side h (LocalStop ∷ []) found) (on_progress (critical_if (v.is_stopped (local_uni v.side))) table)
 own-stop-agrees side h v found table g t f =
-    rw (check-step side h LocalStop [] found (fault_if (is_some (stop_of (events h) (local_uni side))) h3.ClosedCriticalStream) f refl, g.own, g.stopped (local_uni side)) (critical-table found table (is_some (stop_of (events h) (local_uni side))) f t)
+    rw (check-step side h LocalStop [] found (fault_if (is_some (stop_of (events h) (local_uni side))) h3.ClosedCriticalStream) f refl, g.own, g.stopped (local_uni side))
+        (critical-table found table (is_some (stop_of (events h) (local_uni side))) f t)
 
 encoder-end-agrees : (side : Side) (h : History) (v : TransportView) (found : List Finding) (table : StreamTable) → ViewsAgree side h v → IsTable found table → fault_of found ≡ None
     → IsTable (after_checks side h (EncoderEnd ∷ []) found) (on_progress (check_qpack v (first_at encoder_start table.classified)) table)
@@ -137,14 +151,17 @@ control-agrees side h v found table g t f = by (first_of control_in found) (firs
     looked : (w : ControlWalk) → control_walk h (first_of control_in found) ≡ w → after_checks side h (ReadSettings ∷ ControlFault ∷ []) found ≡ read w ++ faults_of w.fault
     looked w e =
         check-step side h ReadSettings (ControlFault ∷ []) found (if not (settings_came found) && is_some w.settings then SettingsRead ∷ [] else []) f (rw e refl)
-        ∙ check-step side h ControlFault [] (read w) (faults_of w.fault) (none (not (settings_came found) && is_some w.settings)) (walk-faults (control_walk h (first_of control_in (read w))).fault ∙ ap (λ (c : Option (ℕ × ℕ)). faults_of (control_walk h c).fault) (same (not (settings_came found) && is_some w.settings)) ∙ ap (λ (x : ControlWalk). faults_of x.fault) e)
+        ∙ check-step side h ControlFault [] (read w) (faults_of w.fault) (none (not (settings_came found) && is_some w.settings))
+        (walk-faults (control_walk h (first_of control_in (read w))).fault ∙ ap (λ (c : Option (ℕ × ℕ)). faults_of (control_walk h c).fault) (same (not (settings_came found) && is_some w.settings))
+        ∙ ap (λ (x : ControlWalk). faults_of x.fault) e)
 
     by : (x y : Option (ℕ × ℕ)) → x ≡ y → first_of control_in found ≡ x → IsTable (after_checks side h (ReadSettings ∷ ControlFault ∷ []) found) (on_progress (check_control v y) table)
     by x None e q =
         let w : ControlWalk = record { settings = None; fault = None } in
         rw (looked w (ap (control_walk h) (q ∙ e))) (idle (control-table found table w f t))
       where
-        idle : IsTable (read (record { settings = None; fault = None }) ++ []) (on_progress (control_read (record { settings = None; fault = None })) table) → IsTable (read (record { settings = None; fault = None }) ++ []) table
+        idle : IsTable (read (record { settings = None; fault = None }) ++ []) (on_progress (control_read (record { settings = None; fault = None })) table)
+            → IsTable (read (record { settings = None; fault = None }) ++ []) table
         idle t = record { classified = t.classified; datagrams = t.datagrams; closed = t.closed; looked_at = t.looked_at; settings = t.settings ∙ or-false table.progress.settings; fault = t.fault }
     by x (Some c) e q =
         let w : ControlWalk = control_walk_of (drop c.1 (contents h c.0)) (end_of (events h) c.0) in
@@ -163,8 +180,10 @@ pub critical-agrees : (side : Side) (h : History) (v : TransportView) (found : L
     → IsTable (after_checks side h (LocalStop ∷ ReadSettings ∷ ControlFault ∷ EncoderEnd ∷ DecoderEnd ∷ []) found) (in_order (critical_steps v) table)
 critical-agrees side h v found table g t =
     let a = step-agrees side h (LocalStop ∷ []) (on_progress (critical_if (v.is_stopped (local_uni v.side)))) found table (own-stop-agrees side h v found table g t) t in
-    let b = step-agrees side h (ReadSettings ∷ ControlFault ∷ []) (λ (table : StreamTable). on_progress (check_control v (first_at control_start table.classified)) table) _ _ (control-agrees side h v _ _ g a) a in
+    let b = step-agrees side h (ReadSettings ∷ ControlFault ∷ []) (λ (table : StreamTable). on_progress (check_control v (first_at control_start table.classified)) table) _ _
+    (control-agrees side h v _ _ g a) a in
     let c = step-agrees side h (EncoderEnd ∷ []) (λ (table : StreamTable). on_progress (check_qpack v (first_at encoder_start table.classified)) table) _ _ (encoder-end-agrees side h v _ _ g b) b in
     let d = step-agrees side h (DecoderEnd ∷ []) (λ (table : StreamTable). on_progress (check_qpack v (first_at decoder_start table.classified)) table) _ _ (decoder-end-agrees side h v _ _ g c) c in
-    rw (checks-append side h (LocalStop ∷ []) (ReadSettings ∷ ControlFault ∷ EncoderEnd ∷ DecoderEnd ∷ []) found, checks-append side h (ReadSettings ∷ ControlFault ∷ []) (EncoderEnd ∷ DecoderEnd ∷ []) (after_checks side h (LocalStop ∷ []) found),
+    rw (checks-append side h (LocalStop ∷ []) (ReadSettings ∷ ControlFault ∷ EncoderEnd ∷ DecoderEnd ∷ []) found, checks-append side h (ReadSettings ∷ ControlFault ∷ []) (EncoderEnd ∷ DecoderEnd ∷ [])
+        (after_checks side h (LocalStop ∷ []) found),
         checks-append side h (EncoderEnd ∷ []) (DecoderEnd ∷ []) (after_checks side h (ReadSettings ∷ ControlFault ∷ []) (after_checks side h (LocalStop ∷ []) found))) d

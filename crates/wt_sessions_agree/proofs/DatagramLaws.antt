@@ -42,7 +42,8 @@ filter-pairs p [] = refl
 filter-pairs p (d ∷ ds) = by (p d.session) (filter-pairs p ds)
   where
     by : (b : Bool) → filter (λ (d : ℕ × List ℕ). p d.0) (map pair-of ds) ≡ map pair-of (filter (λ (d : Admitted). p d.session) ds)
-        → cond b (pair-of d ∷ filter (λ (d : ℕ × List ℕ). p d.0) (map pair-of ds)) (filter (λ (d : ℕ × List ℕ). p d.0) (map pair-of ds)) ≡ map pair-of (cond b (d ∷ filter (λ (d : Admitted). p d.session) ds) (filter (λ (d : Admitted). p d.session) ds))
+        → cond b (pair-of d ∷ filter (λ (d : ℕ × List ℕ). p d.0) (map pair-of ds)) (filter (λ (d : ℕ × List ℕ). p d.0) (map pair-of ds))
+        ≡ map pair-of (cond b (d ∷ filter (λ (d : Admitted). p d.session) ds) (filter (λ (d : Admitted). p d.session) ds))
     by true e = ap (λ (l : List (ℕ × List ℕ)). pair-of d ∷ l) e
     by false e = e
 
@@ -62,7 +63,8 @@ module _ (h : History) (calls : CallView) where
       }
 
   -- one more datagram was read, as the n-th
-  pub received-more : (found : List Finding) (n s : ℕ) (payload : List ℕ) (b : Bool) → length (filter is_datagram found) ≡ n → Received h calls found → Received h calls (found ++ DatagramRead n s payload b ∷ [])
+  pub received-more : (found : List Finding) (n s : ℕ) (payload : List ℕ) (b : Bool) → length (filter is_datagram found) ≡ n → Received h calls found
+      → Received h calls (found ++ DatagramRead n s payload b ∷ [])
   received-more found n s payload b e r = by b refl
     where
       more : (b : Bool) → length (filter is_datagram (found ++ DatagramRead n s payload b ∷ [])) ≡ suc n
@@ -94,7 +96,8 @@ module _ (h : History) (calls : CallView) where
           split : (k : ℕ) → filter (is_of k) (filter_map admitted_in (found ++ DatagramRead n s payload true ∷ [])) ≡ filter (is_of k) (filter_map admitted_in found) ++ cond (s == k) (x ∷ []) []
           split k = ap (filter (is_of k)) (adds admitted_in (DatagramRead n s payload true) x refl found) ∙ filter-append (is_of k) (filter_map admitted_in found) (x ∷ [])
 
-          appended : (k : ℕ) (c : Bool) → filter (is_left calls) (filter (is_of k) (filter_map admitted_in found) ++ cond c (x ∷ []) []) ≡ drop (received_count h k) (filter (is_of k) (filter_map admitted_in found) ++ cond c (x ∷ []) [])
+          appended : (k : ℕ) (c : Bool) → filter (is_left calls) (filter (is_of k) (filter_map admitted_in found) ++ cond c (x ∷ []) [])
+              ≡ drop (received_count h k) (filter (is_of k) (filter_map admitted_in found) ++ cond c (x ∷ []) [])
           appended k true =
               filter-append (is_left calls) (filter (is_of k) (filter_map admitted_in found)) (x ∷ [])
               ∙ ap (λ (o : Bool). filter (is_left calls) (filter (is_of k) (filter_map admitted_in found)) ++ cond (not o) (x ∷ []) []) unread
@@ -106,13 +109,16 @@ module _ (h : History) (calls : CallView) where
 
   -- of the datagrams that wait, so many are of a session that isn't gone
   count-own : (g : ℕ → Bool) (s : ℕ) → g s ≡ false → (ds : List Admitted)
-      → length (filter (λ (o : ℕ). o == s) (map (λ (d : Admitted). d.session) (filter (λ (d : Admitted). is_left calls d && not (g d.session)) ds))) ≡ length (filter (is_left calls) (filter (is_of s) ds))
+      → length (filter (λ (o : ℕ). o == s) (map (λ (d : Admitted). d.session) (filter (λ (d : Admitted). is_left calls d && not (g d.session)) ds)))
+      ≡ length (filter (is_left calls) (filter (is_of s) ds))
   count-own g s e [] = refl
   count-own g s e (d ∷ ds) = by (d.session == s) refl (calls.received d.index) refl (g d.session) refl (count-own g s e ds)
     where
       by : (b : Bool) → (d.session == s) ≡ b → (x : Bool) → calls.received d.index ≡ x → (y : Bool) → g d.session ≡ y
-          → length (filter (λ (o : ℕ). o == s) (map (λ (d : Admitted). d.session) (filter (λ (d : Admitted). is_left calls d && not (g d.session)) ds))) ≡ length (filter (is_left calls) (filter (is_of s) ds))
-          → length (filter (λ (o : ℕ). o == s) (map (λ (d : Admitted). d.session) (filter (λ (d : Admitted). is_left calls d && not (g d.session)) (d ∷ ds)))) ≡ length (filter (is_left calls) (filter (is_of s) (d ∷ ds)))
+          → length (filter (λ (o : ℕ). o == s) (map (λ (d : Admitted). d.session) (filter (λ (d : Admitted). is_left calls d && not (g d.session)) ds)))
+          ≡ length (filter (is_left calls) (filter (is_of s) ds))
+          → length (filter (λ (o : ℕ). o == s) (map (λ (d : Admitted). d.session) (filter (λ (d : Admitted). is_left calls d && not (g d.session)) (d ∷ ds))))
+          ≡ length (filter (is_left calls) (filter (is_of s) (d ∷ ds)))
       by true p true q y r again = rw (p, q) again
       by true p false q true r again = absurd (cc (sym r ∙ ap g (eqb-true d.session s p) ∙ e))
       by true p false q false r again = rw (q, r, p, q) (ap suc again)
@@ -126,14 +132,17 @@ module _ (h : History) (calls : CallView) where
       ≡ length (filter (λ (d : Admitted). not (is_established h d.session) && not (g2 d.session)) xs)
 
   -- so many are of sessions that weren't established
-  count-early : (g g2 w : ℕ → Bool) → ((s : ℕ) → g s ≡ g2 s) → ((s : ℕ) → w s ≡ is_established h s) → (ds : List Admitted) → list_all (λ (d : Admitted). is_left calls d || is_established h d.session) ds ≡ true
+  count-early : (g g2 w : ℕ → Bool) → ((s : ℕ) → g s ≡ g2 s) → ((s : ℕ) → w s ≡ is_established h s) → (ds : List Admitted)
+      → list_all (λ (d : Admitted). is_left calls d || is_established h d.session) ds ≡ true
       → length (filter (λ (o : ℕ). not (w o)) (map (λ (d : Admitted). d.session) (filter (λ (d : Admitted). is_left calls d && not (g d.session)) ds)))
       ≡ length (filter (λ (d : Admitted). not (is_established h d.session) && not (g2 d.session)) ds)
   count-early g g2 w gs ws [] all = refl
-  count-early g g2 w gs ws (d ∷ ds) all = by (is_established h d.session) refl (calls.received d.index) refl (g2 d.session) refl (count-early g g2 w gs ws ds (and-right (is_left calls d || is_established h d.session) _ all))
+  count-early g g2 w gs ws (d ∷ ds) all =
+      by (is_established h d.session) refl (calls.received d.index) refl (g2 d.session) refl (count-early g g2 w gs ws ds (and-right (is_left calls d || is_established h d.session) _ all))
     where
       by : (b : Bool) → is_established h d.session ≡ b → (x : Bool) → calls.received d.index ≡ x → (y : Bool) → g2 d.session ≡ y → EarlySame g g2 w ds → EarlySame g g2 w (d ∷ ds)
-      by false p true q y r again = absurd (let f : (is_left calls d || is_established h d.session) ≡ false = rw (p, q) refl in cc (sym f ∙ and-left (is_left calls d || is_established h d.session) _ all))
+      by false p true q y r again =
+          absurd (let f : (is_left calls d || is_established h d.session) ≡ false = rw (p, q) refl in cc (sym f ∙ and-left (is_left calls d || is_established h d.session) _ all))
       by false p false q true r again = rw (q, gs d.session, r, p) again
       by false p false q false r again = rw (q, gs d.session, r, p, ws d.session, p) (ap suc again)
       by true p true q y r again = rw (q, p) again
@@ -155,28 +164,33 @@ module _ (h : History) (calls : CallView) where
           ∙ length-drop (received_count h s) (filter (is_of s) (filter_map admitted_in found))
           ∙ ap (λ (n : ℕ). n - received_count h s) (sym (length-map (filter (is_of s) (filter_map admitted_in found)) pair-of))
           ∙ sym (length-drop (received_count h s) (map pair-of (filter (is_of s) (filter_map admitted_in found))))
-          ∙ ap (λ (ds : List (ℕ × List ℕ)). length (drop (received_count h s) ds)) (sym (filter-pairs (λ (k : ℕ). k == s) (filter_map admitted_in found)) ∙ ap (filter (λ (d : ℕ × List ℕ). d.0 == s)) (sym (admitted-pairs found)))
+          ∙ ap (λ (ds : List (ℕ × List ℕ)). length (drop (received_count h s) ds))
+          (sym (filter-pairs (λ (k : ℕ). k == s) (filter_map admitted_in found)) ∙ ap (filter (λ (d : ℕ × List ℕ). d.0 == s)) (sym (admitted-pairs found)))
 
       early-left : length (filter (λ (d : Admitted). not (is_established h d.session) && not (is_gone h found d.session)) table.datagrams)
           ≡ length (filter (λ (d : ℕ × List ℕ). not (is_established h d.0) && not (is_gone h found d.0)) (filter_map admitted_datagram found))
       early-left =
           ap (λ (ds : List Admitted). length (filter (λ (d : Admitted). not (is_established h d.session) && not (is_gone h found d.session)) ds)) (sym t.datagrams)
           ∙ sym (length-map (filter (λ (d : Admitted). not (is_established h d.session) && not (is_gone h found d.session)) (filter_map admitted_in found)) pair-of)
-          ∙ ap length (sym (filter-pairs (λ (k : ℕ). not (is_established h k) && not (is_gone h found k)) (filter_map admitted_in found)) ∙ ap (filter (λ (d : ℕ × List ℕ). not (is_established h d.0) && not (is_gone h found d.0))) (sym (admitted-pairs found)))
+          ∙ ap length (sym (filter-pairs (λ (k : ℕ). not (is_established h k) && not (is_gone h found k)) (filter_map admitted_in found))
+          ∙ ap (filter (λ (d : ℕ × List ℕ). not (is_established h d.0) && not (is_gone h found d.0))) (sym (admitted-pairs found)))
 
       windows : (e : Bool) → is_established h s ≡ e → is_gone h found s ≡ false
           → length (filter (tables.shares_window (dispatched_streams calls table) s) (map (λ (d : Admitted). d.session) (tables.waiting_datagrams calls table))) ≡ datagrams_in_window h found s
       windows true e g =
-          ap (λ (b : Bool). length (filter (λ (o : ℕ). if b then o == s else not (was_established calls o)) (map (λ (d : Admitted). d.session) (tables.waiting_datagrams calls table)))) (c.established s ∙ e)
+          ap (λ (b : Bool). length (filter (λ (o : ℕ). if b then o == s else not (was_established calls o)) (map (λ (d : Admitted). d.session) (tables.waiting_datagrams calls table))))
+              (c.established s ∙ e)
           ∙ count-own (tables.is_gone calls table) s (gone s ∙ g) table.datagrams ∙ own-left
           ∙ sym (ap (λ (b : Bool). if b then length (waiting_datagrams h found s) else length (filter (λ (d : ℕ × List ℕ). shares_window h found s d.0) (filter_map admitted_datagram found))) e)
       windows false e g =
           let q : datagrams_in_window h found s ≡ length (filter (λ (d : ℕ × List ℕ). not (is_established h d.0) && not (is_gone h found d.0)) (filter_map admitted_datagram found)) = rw e refl in
-          ap (λ (b : Bool). length (filter (λ (o : ℕ). if b then o == s else not (was_established calls o)) (map (λ (d : Admitted). d.session) (tables.waiting_datagrams calls table)))) (c.established s ∙ e)
+          ap (λ (b : Bool). length (filter (λ (o : ℕ). if b then o == s else not (was_established calls o)) (map (λ (d : Admitted). d.session) (tables.waiting_datagrams calls table))))
+              (c.established s ∙ e)
           ∙ count-early (tables.is_gone calls table) (is_gone h found) (was_established calls) gone c.established table.datagrams
           (ap (list_all (λ (d : Admitted). is_left calls d || is_established h d.session)) (sym t.datagrams) ∙ r.early) ∙ early-left ∙ sym q
 
-      by : (b : Bool) → is_gone h found s ≡ b → (not b && has_room (dispatched_streams calls table) s (map (λ (d : Admitted). d.session) (tables.waiting_datagrams calls table))) ≡ (not b && nat_lt (datagrams_in_window h found s) 16)
+      by : (b : Bool) → is_gone h found s ≡ b → (not b && has_room (dispatched_streams calls table) s (map (λ (d : Admitted). d.session) (tables.waiting_datagrams calls table)))
+          ≡ (not b && nat_lt (datagrams_in_window h found s) 16)
       by true g = refl
       by false g = ap (λ (n : ℕ). nat_lt n 16) (windows (is_established h s) refl g)
 
@@ -227,7 +241,8 @@ module _ (h : History) (calls : CallView) where
         → IsTable (after_checks side h (datagram_checks n ds) found) (take_each calls (drop (table.progress.datagrams - n) ds) table)
 
     -- one that was read before
-    passed : (ds : List (List ℕ)) (piece : List ℕ) (n m : ℕ) (found : List Finding) (table : StreamTable) → table.progress.datagrams ≡ m → n < m → fault_of found ≡ None → Reads ds → Received h calls found → IsTable found table
+    passed : (ds : List (List ℕ)) (piece : List ℕ) (n m : ℕ) (found : List Finding) (table : StreamTable) → table.progress.datagrams ≡ m → n < m → fault_of found ≡ None → Reads ds
+        → Received h calls found → IsTable found table
         → IsTable (after_checks side h (datagram_checks n (piece ∷ ds)) found) (take_each calls (drop (m - n) (piece ∷ ds)) table)
     passed ds piece n m found table e lt f again r t =
         let k : m - n ≡ suc (m - suc n) = omega (arith, lt) in
@@ -239,7 +254,8 @@ module _ (h : History) (calls : CallView) where
         other i q = not-same i n (λ s b. absurd (omega (arith, s, q, lt)))
 
     -- one that is read now
-    reads : (ds : List (List ℕ)) (piece : List ℕ) (n : ℕ) (found : List Finding) (table : StreamTable) → table.progress.datagrams ≡ n → fault_of found ≡ None → Reads ds → Received h calls found → IsTable found table
+    reads : (ds : List (List ℕ)) (piece : List ℕ) (n : ℕ) (found : List Finding) (table : StreamTable) → table.progress.datagrams ≡ n → fault_of found ≡ None → Reads ds → Received h calls found
+        → IsTable found table
         → IsTable (after_checks side h (datagram_checks n (piece ∷ ds)) found) (take_each calls (piece ∷ ds) table)
     reads ds piece n found table e f again r t = by (datagram_of piece) refl
       where
@@ -259,7 +275,8 @@ module _ (h : History) (calls : CallView) where
         by : (d : Result (ℕ × List ℕ) ErrorCode) → datagram_of piece ≡ d → IsTable (after_checks side h (datagram_checks n (piece ∷ ds)) found) (take_each calls (piece ∷ ds) table)
         by (Err code) q =
             let g : fault_of (found ++ Faulted code ∷ []) ≡ Some code = first-append fault_in found (Faulted code) ∙ ap (λ (o : Option ErrorCode). option_or o (Some code)) f in
-            rw (stepped (Err code) q, taken (Err code) q, checks-faulty side h (datagram_checks (suc n) ds) (found ++ Faulted code ∷ []) code g, take-faulty ds (take_parsed calls (Err code) table) code refl)
+            rw (stepped (Err code) q, taken (Err code) q, checks-faulty side h (datagram_checks (suc n) ds) (found ++ Faulted code ∷ []) code g, take-faulty ds
+                (take_parsed calls (Err code) table) code refl)
             (fault-fields found table code f t)
         by (Ok d) q =
             let b : Bool = is_admitted (dispatched_streams calls table) (4 * d.0) in
@@ -267,8 +284,10 @@ module _ (h : History) (calls : CallView) where
             let m : length (filter is_datagram found) ≡ n = t.looked_at ∙ e in
             let p : (admit_datagram b (4 * d.0) d.1 table).progress.datagrams ≡ suc n = counted b (4 * d.0) d.1 ∙ ap suc e in
             let z : (admit_datagram b (4 * d.0) d.1 table).progress.datagrams - suc n ≡ 0 = omega (arith, p) in
-            let u = again (suc n) (found ++ DatagramRead n (4 * d.0) d.1 b ∷ []) (admit_datagram b (4 * d.0) d.1 table) (omega (arith, p)) (received-more found n (4 * d.0) d.1 b m r) (read-table found table n (4 * d.0) d.1 b m t) in
-            rw (stepped (Ok d) q, taken (Ok d) q, k) (subst (λ (i : ℕ). IsTable (after_checks side h (datagram_checks (suc n) ds) (found ++ DatagramRead n (4 * d.0) d.1 b ∷ [])) (take_each calls (drop i ds) (admit_datagram b (4 * d.0) d.1 table))) z u)
+            let u = again (suc n) (found ++ DatagramRead n (4 * d.0) d.1 b ∷ []) (admit_datagram b (4 * d.0) d.1 table) (omega (arith, p)) (received-more found n (4 * d.0) d.1 b m r)
+            (read-table found table n (4 * d.0) d.1 b m t) in
+            rw (stepped (Ok d) q, taken (Ok d) q, k) (subst (λ (i : ℕ). IsTable (after_checks side h (datagram_checks (suc n) ds) (found ++ DatagramRead n (4 * d.0) d.1 b ∷ []))
+                (take_each calls (drop i ds) (admit_datagram b (4 * d.0) d.1 table))) z u)
           where
             counted : (b : Bool) (s : ℕ) (payload : List ℕ) → (admit_datagram b s payload table).progress.datagrams ≡ suc table.progress.datagrams
             counted true s payload = refl
@@ -280,7 +299,8 @@ module _ (h : History) (calls : CallView) where
       where
         by : (o : Option ErrorCode) → fault_of found ≡ o → (b : Bool) → nat_lt n table.progress.datagrams ≡ b → Reads ds
             → IsTable (after_checks side h (datagram_checks n (piece ∷ ds)) found) (take_each calls (drop (table.progress.datagrams - n) (piece ∷ ds)) table)
-        by (Some code) f b l again = rw (checks-faulty side h (datagram_checks n (piece ∷ ds)) found code f, take-faulty (drop (table.progress.datagrams - n) (piece ∷ ds)) table code (sym t.fault ∙ f)) t
+        by (Some code) f b l again =
+            rw (checks-faulty side h (datagram_checks n (piece ∷ ds)) found code f, take-faulty (drop (table.progress.datagrams - n) (piece ∷ ds)) table code (sym t.fault ∙ f)) t
         by None f true l again = passed ds piece n table.progress.datagrams found table refl (grind (arith, l)) f again r t
         by None f false l again =
             let q : table.progress.datagrams ≡ n = grind (arith, l, le) in
@@ -298,7 +318,8 @@ idle side h (piece ∷ ds) n found e = by (fault_of found) refl (idle side h ds 
         check-step side h (ReadDatagram n piece) (datagram_checks (suc n) ds) found [] f x ∙ ap (after_checks side h (datagram_checks (suc n) ds)) (append-nil found) ∙ again
 
 -- the datagrams of a moment
-pub datagrams-agree : (side : Side) (h : History) (t : TransportView) (calls : CallView) (ds : List (List ℕ)) (found : List Finding) (table : StreamTable) → t.ready ≡ is_ready side h → t.datagrams ≡ ds → CallsAgree h calls
+pub datagrams-agree : (side : Side) (h : History) (t : TransportView) (calls : CallView) (ds : List (List ℕ)) (found : List Finding) (table : StreamTable) → t.ready ≡ is_ready side h
+    → t.datagrams ≡ ds → CallsAgree h calls
     → Received h calls found → IsTable found table → IsTable (after_checks side h (datagram_checks 0 ds) found) (take_datagrams t calls table)
 datagrams-agree side h t calls ds found table same all c r holds = by (is_ready side h) refl
   where
@@ -307,4 +328,5 @@ datagrams-agree side h t calls ds found table same all c r holds = by (is_ready 
     by true e =
         let q : t.ready ≡ true = same ∙ e in
         let z : table.progress.datagrams - 0 ≡ table.progress.datagrams = omega arith in
-        rw (q, all) (subst (λ (i : ℕ). IsTable (after_checks side h (datagram_checks 0 ds) found) (take_each calls (drop i ds) table)) z (take-agrees h calls side e c ds 0 found table (omega arith) r holds))
+        rw (q, all) (subst (λ (i : ℕ). IsTable (after_checks side h (datagram_checks 0 ds) found) (take_each calls (drop i ds) table)) z
+            (take-agrees h calls side e c ds 0 found table (omega arith) r holds))

@@ -129,7 +129,8 @@ due-is offset h log x d = by (handshake_state (calls_of log)) x.handshake.waitin
 
 -- ---- the whole
 
-module _ (offset : ℕ → ℕ) (h : History) (log : Log) (i : IsHistory Server h) (x : Stands Server offset h log) (gone : GoneAlike Server h log) (d : is_due Server (handshake_state (calls_of log)) ≡ true) where
+module _ (offset : ℕ → ℕ) (h : History) (log : Log) (i : IsHistory Server h) (x : Stands Server offset h log) (gone : GoneAlike Server h log)
+    (d : is_due Server (handshake_state (calls_of log)) ≡ true) where
   due-gone : session_gone_actions Server h (findings Server h) (requested_stream (calls_of log)) ≡ ending_actions Server log (requested_stream (calls_of log))
   due-gone = gone (requested_stream (calls_of log)) (ap (is_gone h (findings Server h)) (sym x.request) ∙ due-not-gone h i (due-is offset h log x d))
 
@@ -165,7 +166,8 @@ ends-agree Server offset h log i x gone = record {
 
 pub gone-stands : (side : Side) (offset : ℕ → ℕ) (h : History) (log : Log) → Stands side offset h log → MembersIn side h (call_view log) (findings side h) → GoneAlike side h log
 gone-stands side offset h log x m =
-    gone-alike side h (findings side h) (transport_view side log) (call_view log) (stream_table side log) x.table x.calls (halves-seen side h log x.came.events x.came.all_events x.out x.halves.given_up x.halves.reset) m
+    gone-alike side h (findings side h) (transport_view side log) (call_view log) (stream_table side log) x.table x.calls
+    (halves-seen side h log x.came.events x.came.all_events x.out x.halves.given_up x.halves.reset) m
 
 -- all that calls rest on
 pub ends-hold : (side : Side) (offset : ℕ → ℕ) (h : History) (log : Log) → IsHistory side h → Stands side offset h log → MembersIn side h (call_view log) (findings side h) → EndsAgree side h log

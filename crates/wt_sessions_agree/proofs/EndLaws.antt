@@ -67,4 +67,5 @@ none-agrees side offset h log x =
   where
     same : (ids : List ℕ) → list_any (λ (s : ℕ). not (is_gone h (findings side h) s)) ids ≡ list_any (λ (s : ℕ). not (is_session_gone side log s)) ids
     same [] = refl
-    same (k ∷ ids) = ap (λ (b : Bool). not b || list_any (λ (s : ℕ). not (is_gone h (findings side h) s)) ids) (gone-is side offset h log k x) ∙ ap (λ (b : Bool). not (is_session_gone side log k) || b) (same ids)
+    same (k ∷ ids) =
+        ap (λ (b : Bool). not b || list_any (λ (s : ℕ). not (is_gone h (findings side h) s)) ids) (gone-is side offset h log k x) ∙ ap (λ (b : Bool). not (is_session_gone side log k) || b) (same ids)

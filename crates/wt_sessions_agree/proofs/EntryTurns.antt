@@ -76,7 +76,8 @@ open-after h log turn e xs l o =
     by false true q c m s = absurd (cc q)
 
 -- where nothing but a close in what goes out ends the connection, both end alike
-pub closes-alike : (h : History) (log : Log) (xs : List Action) → is_open h ≡ logs.is_open log → not ((false || list_any closes xs) || list_any ends_by h) ≡ not (list_any closes xs || list_any logs.ends_by log)
+pub closes-alike : (h : History) (log : Log) (xs : List Action) → is_open h ≡ logs.is_open log
+    → not ((false || list_any closes xs) || list_any ends_by h) ≡ not (list_any closes xs || list_any logs.ends_by log)
 closes-alike h log xs o = by (list_any ends_by h) (list_any logs.ends_by log) o (list_any closes xs)
   where
     by : (a c : Bool) → not a ≡ not c → (s : Bool) → not ((false || s) || a) ≡ not (s || c)
@@ -104,7 +105,8 @@ none-now side h turn o = rw o refl
 
 -- ---- the turn
 
-module _ (side : Side) (offset : ℕ → ℕ) (h : History) (log : Log) (x : Stands side offset h log) (hist : IsHistory side h) (turn : Turn) (single : is_single turn ≡ true) (lawful : is_lawful side h turn ≡ true) where
+module _ (side : Side) (offset : ℕ → ℕ) (h : History) (log : Log) (x : Stands side offset h log) (hist : IsHistory side h) (turn : Turn) (single : is_single turn ≡ true)
+    (lawful : is_lawful side h turn ≡ true) where
   abbrev pair : Pair
   pair = record { turn = turn; answer = answer replies.Done (join_all [] (sends-now side h turn)) }
 
@@ -134,14 +136,16 @@ module _ (side : Side) (offset : ℕ → ℕ) (h : History) (log : Log) (x : Sta
   -- an entry is left, which is no call's, and what is sent at its moment
   module _ (entry : Entry) (after-is : log_after side log turn ≡ log_and_flush side log entry) (called : calls_of (entry ∷ log) ≡ calls_of log) (told : actions_of (entry ∷ log) ≡ actions_of log)
       (sends : sent-entry side log entry ≡ sends-now side h turn) (ends : is_open (pair ∷ h) ≡ logs.is_open (with_actions (sends-now side h turn) (entry ∷ log)))
-      (orderly : Orderly side (pair ∷ h) (call_view (entry ∷ log)) offset (findings side h)) (members : MembersIn side (step side h turn) (call_view (log_after side log turn)) (findings side (step side h turn))) where
+      (orderly : Orderly side (pair ∷ h) (call_view (entry ∷ log)) offset (findings side h))
+      (members : MembersIn side (step side h turn) (call_view (log_after side log turn)) (findings side (step side h turn))) where
     same-log : log_after side log turn ≡ with_actions (sends-now side h turn) (entry ∷ log)
     same-log = after-is ∙ flush-as side log entry ∙ ap (λ (as_ : List Action). with_actions as_ (entry ∷ log)) sends
 
     opened : is_open (pair ∷ h) ≡ logs.is_open (log_after side log turn)
     opened = ends ∙ ap logs.is_open (sym same-log)
 
-    entry-agrees : IsTable (findings side (pair ∷ h)) (stream_table side (log_and_flush side log entry)) → Orderly side (pair ∷ h) (call_view (entry ∷ log)) offset (findings side (pair ∷ h)) → TurnAgrees side h log turn
+    entry-agrees : IsTable (findings side (pair ∷ h)) (stream_table side (log_and_flush side log entry)) → Orderly side (pair ∷ h) (call_view (entry ∷ log)) offset (findings side (pair ∷ h))
+        → TurnAgrees side h log turn
     entry-agrees table found =
         agrees-by (ap actions_of same-log ∙ acted (sends-now side h turn) (entry ∷ log) ∙ ap (newest_first (sends-now side h turn)) told) opened
         (subst (λ (l : Log). IsTable (findings side (pair ∷ h)) (stream_table side l)) (sym after-is) table)
@@ -171,4 +175,5 @@ module _ (side : Side) (offset : ℕ → ℕ) (h : History) (log : Log) (x : Sta
 
         alike : SeesAlike side (pair ∷ h) (transport_view side (entry ∷ log)) (call_view (entry ∷ log)) offset
         alike = sees-alike side offset (pair ∷ h) (entry ∷ log) at bytes calls
-            (sessions-after side offset h log x turn (single-plain turn single) (sends-now side h turn) (entry ∷ log) called (count-after side offset h log x turn (single-plain turn single) (sends-now side h turn)))
+            (sessions-after side offset h log x turn (single-plain turn single) (sends-now side h turn) (entry ∷ log) called
+            (count-after side offset h log x turn (single-plain turn single) (sends-now side h turn)))

@@ -58,7 +58,8 @@ unclassified-before found f j e = by (is_classified found j) refl
 few-plain : (kind : ℕ) (found : List Finding) (f : Finding) → dequeues-none f ≡ true → Few kind found → Few kind (found ++ f ∷ [])
 few-plain kind found f n few i x y =
     lt-less _ (unclassified found kind i) (fewer kind found f i)
-    (few i (sym (dequeued-append found f (4 * i + kind) ∙ ap (λ (b : Bool). is_dequeued found (4 * i + kind) || b) (none-dequeued f n (4 * i + kind)) ∙ or-false (is_dequeued found (4 * i + kind))) ∙ x)
+    (few i (sym (dequeued-append found f (4 * i + kind) ∙ ap (λ (b : Bool). is_dequeued found (4 * i + kind) || b) (none-dequeued f n (4 * i + kind)) ∙ or-false (is_dequeued found (4 * i + kind)))
+    ∙ x)
     (unclassified-before found f (4 * i + kind) y))
 
 few-list : (kind : ℕ) (new found : List Finding) → list_all dequeues-none new ≡ true → Few kind found → Few kind (found ++ new)
@@ -168,7 +169,8 @@ plain-check side h found DecoderEnd e = plain-other side h found DecoderEnd refl
 -- so do checks, one after another
 pub few-checks : (side : Side) (h : History) (kind : ℕ) → kind < 4 → (cs : List Check) (found : List Finding) → Few kind found → Few kind (after_checks side h cs found)
 few-checks side h kind small [] found few = few
-few-checks side h kind small (c ∷ cs) found few = by (is_some (fault_of found)) (few-checks side h kind small cs (found ++ found_by side h found c) (few-check side h kind small c found (is-other c) refl few))
+few-checks side h kind small (c ∷ cs) found few =
+    by (is_some (fault_of found)) (few-checks side h kind small cs (found ++ found_by side h found c) (few-check side h kind small c found (is-other c) refl few))
   where
     by : (b : Bool) → Few kind (after_checks side h cs (found ++ found_by side h found c)) → Few kind (if b then found else after_checks side h cs (found ++ found_by side h found c))
     by true again = few

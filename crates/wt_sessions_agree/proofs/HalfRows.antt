@@ -68,7 +68,9 @@ half-agrees side offset h log k s = record {
   finished = s.out.finished k;
   reset = s.halves.reset k;
   events = s.came.events;
-  credit = λ o. ap (λ (es : List Event). credit es k - length (out h k)) (open-events h (s.came.openness ∙ o) ∙ s.came.all_events) ∙ ap (λ (bytes : List ℕ). credit (all_events_of log) k - length bytes) (s.out.sent k);
+  credit =
+      λ o. ap (λ (es : List Event). credit es k - length (out h k)) (open-events h (s.came.openness ∙ o) ∙ s.came.all_events)
+      ∙ ap (λ (bytes : List ℕ). credit (all_events_of log) k - length bytes) (s.out.sent k);
 }
 
 -- credit is left
@@ -93,7 +95,8 @@ module _ (side : Side) (h : History) (log : Log) (k : ℕ) (a : HalfAgrees h log
   pub write-agrees : (bytes : List ℕ) → ladders.write side log k bytes ≡ effect_of side h log (calls.Write k bytes) (first_row (write h k bytes))
   write-agrees bytes = by (logs.is_open log) refl (sends.is_finished (actions_of log) k || sends.is_reset log k) refl (stop_of (events_of log) k) refl bytes (outgoing.credit_left log k) refl
     where
-      by : (x : Bool) → logs.is_open log ≡ x → (y : Bool) → (sends.is_finished (actions_of log) k || sends.is_reset log k) ≡ y → (o : Option ℕ) → stop_of (events_of log) k ≡ o → (bytes : List ℕ) → (c : ℕ) → outgoing.credit_left log k ≡ c
+      by : (x : Bool) → logs.is_open log ≡ x → (y : Bool) → (sends.is_finished (actions_of log) k || sends.is_reset log k) ≡ y → (o : Option ℕ) → stop_of (events_of log) k ≡ o → (bytes : List ℕ)
+          → (c : ℕ) → outgoing.credit_left log k ≡ c
           → ladders.write side log k bytes ≡ effect_of side h log (calls.Write k bytes) (first_row (write h k bytes))
       by false e y f o g bytes c q = rw (a.openness, e) refl
       by true e true f o g bytes c q = rw (a.openness, e, a.finished, a.reset, f) refl
@@ -103,9 +106,11 @@ module _ (side : Side) (h : History) (log : Log) (k : ℕ) (a : HalfAgrees h log
       by true e false f None g (b ∷ bytes) (suc c) q = let m = a.credit e ∙ q in rw (a.openness, e, a.finished, a.reset, f, m, more c, a.events, g, q) refl
 
   pub write_all-agrees : (bytes : List ℕ) → ladders.write_all side log k bytes ≡ effect_of side h log (calls.WriteAll k bytes) (first_row (write_all h k bytes))
-  write_all-agrees bytes = by (logs.is_open log) refl (sends.is_finished (actions_of log) k || sends.is_reset log k) refl (stop_of (events_of log) k) refl (length (bytes_within_credit log k bytes) == length bytes) refl
+  write_all-agrees bytes =
+      by (logs.is_open log) refl (sends.is_finished (actions_of log) k || sends.is_reset log k) refl (stop_of (events_of log) k) refl (length (bytes_within_credit log k bytes) == length bytes) refl
     where
-      by : (x : Bool) → logs.is_open log ≡ x → (y : Bool) → (sends.is_finished (actions_of log) k || sends.is_reset log k) ≡ y → (o : Option ℕ) → stop_of (events_of log) k ≡ o → (z : Bool) → (length (bytes_within_credit log k bytes) == length bytes) ≡ z
+      by : (x : Bool) → logs.is_open log ≡ x → (y : Bool) → (sends.is_finished (actions_of log) k || sends.is_reset log k) ≡ y → (o : Option ℕ) → stop_of (events_of log) k ≡ o → (z : Bool)
+          → (length (bytes_within_credit log k bytes) == length bytes) ≡ z
           → ladders.write_all side log k bytes ≡ effect_of side h log (calls.WriteAll k bytes) (first_row (write_all h k bytes))
       by false e y f o g z q = rw (a.openness, e) refl
       by true e true f o g z q = rw (a.openness, e, a.finished, a.reset, f) refl
@@ -132,7 +137,8 @@ module _ (side : Side) (h : History) (log : Log) (k : ℕ) (a : HalfAgrees h log
   pub finish-agrees : ladders.finish side log k ≡ effect_of side h log (calls.Finish k) (first_row (finish h k))
   finish-agrees = by (logs.is_open log) refl (sends.is_finished (actions_of log) k) refl (sends.is_reset log k) refl (stop_of (events_of log) k) refl (is_acknowledged (events_of log) k) refl
     where
-      by : (x : Bool) → logs.is_open log ≡ x → (f : Bool) → sends.is_finished (actions_of log) k ≡ f → (r : Bool) → sends.is_reset log k ≡ r → (o : Option ℕ) → stop_of (events_of log) k ≡ o → (d : Bool) → is_acknowledged (events_of log) k ≡ d
+      by : (x : Bool) → logs.is_open log ≡ x → (f : Bool) → sends.is_finished (actions_of log) k ≡ f → (r : Bool) → sends.is_reset log k ≡ r → (o : Option ℕ) → stop_of (events_of log) k ≡ o
+          → (d : Bool) → is_acknowledged (events_of log) k ≡ d
           → ladders.finish side log k ≡ effect_of side h log (calls.Finish k) (first_row (finish h k))
       by true e true i r j (Some code) g d q = rw (a.events, g, a.openness, e, a.finished, i) refl
       by true e false i true j (Some code) g d q = rw (a.events, g, a.openness, e, a.finished, i, a.reset, j) refl
@@ -173,13 +179,15 @@ module _ (side : Side) (h : History) (log : Log) (k : ℕ) (a : HalfAgrees h log
 
   -- ---- reading
 
-  pub read-agrees : (size : ℕ) (left : List ℕ) → (if size == 0 then poll_only side log (replies.Read (Some [])) else ladders.read_reply side log k size left) ≡ effect_of side h log (calls.Read k size) (first_row (read h k size left))
+  pub read-agrees : (size : ℕ) (left : List ℕ) → (if size == 0 then poll_only side log (replies.Read (Some [])) else ladders.read_reply side log k size left)
+      ≡ effect_of side h log (calls.Read k size) (first_row (read h k size left))
   read-agrees zero left = refl
   read-agrees (suc n) (b ∷ bytes) = rw (more n) refl
   read-agrees (suc n) [] = by (end_of (events_of log) k) refl (logs.is_open log) refl
     where
       by : (e : StreamEnd) → end_of (events_of log) k ≡ e → (x : Bool) → logs.is_open log ≡ x
-          → (if suc n == 0 then poll_only side log (replies.Read (Some [])) else ladders.read_reply side log k (suc n) []) ≡ effect_of side h log (calls.Read k (suc n)) (first_row (read h k (suc n) []))
+          → (if suc n == 0 then poll_only side log (replies.Read (Some [])) else ladders.read_reply side log k (suc n) [])
+          ≡ effect_of side h log (calls.Read k (suc n)) (first_row (read h k (suc n) []))
       by ends.Fin g x e = rw (more n, a.events, g) refl
       by (ends.Reset code) g x e = rw (more n, a.events, g) refl
       by ends.Running g true e = rw (more n, a.events, g, a.openness, e) refl
@@ -203,7 +211,8 @@ module _ (side : Side) (h : History) (log : Log) (k : ℕ) (a : HalfAgrees h log
       by true l ends.Running g true q = rw (le-not (length left) size true l, l, a.events, g, a.openness, q) refl
       by true l ends.Running g false q = rw (le-not (length left) size true l, l, a.events, g, a.openness, q) refl
 
-  pub stop-agrees : (code : ℕ) → ladders.stop_receiving side log k code ≡ effect_of side h log (calls.StopRecv k code) (first_row (row true replies.Done (action_if (is_open h) (actions.StopOut k code)) ∷ []))
+  pub stop-agrees : (code : ℕ) → ladders.stop_receiving side log k code
+      ≡ effect_of side h log (calls.StopRecv k code) (first_row (row true replies.Done (action_if (is_open h) (actions.StopOut k code)) ∷ []))
   stop-agrees code = rw a.openness refl
 
 -- ---- what is unread
@@ -215,6 +224,7 @@ body-agrees (Some _) = refl
 
 pub unread-agrees : (side : Side) (offset : ℕ → ℕ) (h : History) (log : Log) (k : ℕ) → Stands side offset h log → unread side h k ≡ ladders.unread_body side log k
 unread-agrees side offset h log k s =
-    ap (λ (n : ℕ). drop (n + length (was_read h k)) (contents h k)) (body-agrees (verdict_of (findings side h) k) ∙ ap ladders.body_start (verdicts-agree k (findings side h) (stream_table side log) s.table))
+    ap (λ (n : ℕ). drop (n + length (was_read h k)) (contents h k))
+        (body-agrees (verdict_of (findings side h) k) ∙ ap ladders.body_start (verdicts-agree k (findings side h) (stream_table side log) s.table))
     ∙ ap (λ (n : ℕ). drop (ladders.body_start (tables.verdict_of k (stream_table side log).classified) + n) (contents h k)) (s.halves.read k)
     ∙ ap (drop (ladders.body_start (tables.verdict_of k (stream_table side log).classified) + ladders.total_read k (calls_of log))) (s.came.contents k)

@@ -70,7 +70,8 @@ module _ (side : Side) (offset : ℕ → ℕ) (h : History) (log : Log) (x : Sta
           rw (q, e) (first-request (was_given h) (λ k. list_any (delivers k) (calls_of log)) x.delivered (findings side h)
           ∙ ap (λ (cs : List Classified). request-of (filter (λ (c : Classified). is_queued c && not (list_any (delivers c.id) (calls_of log))) cs)) x.table.classified)
 
-  incoming-by : (cs : List Classified) → ladders.queued_requests side log ≡ cs → (o : Bool) → logs.is_open log ≡ o → deliver side log cs ≡ effect_of side h log calls.Incoming (first_row (incoming_rows side h))
+  incoming-by : (cs : List Classified) → ladders.queued_requests side log ≡ cs → (o : Bool) → logs.is_open log ≡ o
+      → deliver side log cs ≡ effect_of side h log calls.Incoming (first_row (incoming_rows side h))
   incoming-by (c ∷ cs) e o f = rw (next-request, e) refl
   incoming-by [] e true f = rw (next-request, e, x.came.openness, f) refl
   incoming-by [] e false f = rw (next-request, e, x.came.openness, f, driver-is side offset h log x) refl
@@ -80,26 +81,31 @@ module _ (side : Side) (offset : ℕ → ℕ) (h : History) (log : Log) (x : Sta
 
   -- ---- a server's response
 
-  pub accept-agrees : (c : Call) (waiting : CallRecord) (s : ℕ) (left : List ℕ) → pending_record c ≡ waiting → failure_record c ≡ AcceptanceFailed → part_start side h s ≡ request_end (tables.verdict_of s (stream_table side log).classified)
+  pub accept-agrees : (c : Call) (waiting : CallRecord) (s : ℕ) (left : List ℕ) → pending_record c ≡ waiting → failure_record c ≡ AcceptanceFailed
+      → part_start side h s ≡ request_end (tables.verdict_of s (stream_table side log).classified)
       → accept_response side log s left waiting ≡ effect_of side h log c (first_row (acceptance_rows h s left))
   accept-agrees c waiting s left p f starts = by (logs.is_open log) refl (ladders.is_refused log s left) refl (is_covered log s left) refl
     where
-      by : (o : Bool) → logs.is_open log ≡ o → (r : Bool) → ladders.is_refused log s left ≡ r → (v : Bool) → is_covered log s left ≡ v → accept_response side log s left waiting ≡ effect_of side h log c (first_row (acceptance_rows h s left))
+      by : (o : Bool) → logs.is_open log ≡ o → (r : Bool) → ladders.is_refused log s left ≡ r → (v : Bool) → is_covered log s left ≡ v
+          → accept_response side log s left waiting ≡ effect_of side h log c (first_row (acceptance_rows h s left))
       by false o r g v k = rw (x.came.openness, o, transport-is side offset h log x, f) refl
       by true o true g v k = rw (x.came.openness, o, refused-is side offset h log x s left, g, f) refl
       by true o false g false k = rw (x.came.openness, o, refused-is side offset h log x s left, g, lacks-is side offset h log x s left o, k, send-is side offset h log x s left o, p) refl
       by true o false g true k =
-          rw (x.came.openness, o, refused-is side offset h log x s left, g, lacks-is side offset h log x s left o, k, send-is side offset h log x s left o, covered-out side offset h log x s left k, starts) refl
+          rw (x.came.openness, o, refused-is side offset h log x s left, g, lacks-is side offset h log x s left o,
+          k, send-is side offset h log x s left o, covered-out side offset h log x s left k, starts) refl
 
   pub reject-agrees : (c : Call) (waiting : CallRecord) (s : ℕ) (left : List ℕ) → pending_record c ≡ waiting → unwrap_or (last_request h) 0 ≡ s
       → session_gone_actions side h (findings side h) s ≡ ending_actions side log s → none_lives side h ≡ has_no_session side log
       → reject_response side log s left waiting ≡ effect_of side h log c (first_row (rejection_rows side h s left))
   reject-agrees c waiting s left p last gone none = by (logs.is_open log) refl (ladders.is_refused log s left) refl (is_covered log s left) refl
     where
-      out : logs.is_open log ≡ true → ladders.is_refused log s left ≡ false → is_covered log s left ≡ true → (b : Bool) → is_finished (actions_of log) s ≡ b → (d : Bool) → (is_some (stop_of (events_of log) s) || is_acknowledged (events_of log) s) ≡ d
+      out : logs.is_open log ≡ true → ladders.is_refused log s left ≡ false → is_covered log s left ≡ true → (b : Bool) → is_finished (actions_of log) s ≡ b → (d : Bool)
+          → (is_some (stop_of (events_of log) s) || is_acknowledged (events_of log) s) ≡ d
           → (a : Bool) → has_no_session side log ≡ a → reject_response side log s left waiting ≡ effect_of side h log c (first_row (rejection_rows side h s left))
       out o g k false b d e a n =
-          rw (x.came.openness, o, refused-is side offset h log x s left, g, lacks-is side offset h log x s left o, k, x.out.finished s, b, send-is side offset h log x s left o, covered-out side offset h log x s left k, p) refl
+          rw (x.came.openness, o, refused-is side offset h log x s left, g, lacks-is side offset h log x s left o,
+          k, x.out.finished s, b, send-is side offset h log x s left o, covered-out side offset h log x s left k, p) refl
       out o g k true b true e true n =
           rw (x.came.openness, o, refused-is side offset h log x s left, g, lacks-is side offset h log x s left o, k, x.out.finished s, b, x.came.events, e, gone, none, n, last) refl
       out o g k true b true e false n =
@@ -107,7 +113,8 @@ module _ (side : Side) (offset : ℕ → ℕ) (h : History) (log : Log) (x : Sta
       out o g k true b false e a n =
           rw (x.came.openness, o, refused-is side offset h log x s left, g, lacks-is side offset h log x s left o, k, x.out.finished s, b, x.came.events, e, p) refl
 
-      by : (o : Bool) → logs.is_open log ≡ o → (r : Bool) → ladders.is_refused log s left ≡ r → (v : Bool) → is_covered log s left ≡ v → reject_response side log s left waiting ≡ effect_of side h log c (first_row (rejection_rows side h s left))
+      by : (o : Bool) → logs.is_open log ≡ o → (r : Bool) → ladders.is_refused log s left ≡ r → (v : Bool) → is_covered log s left ≡ v
+          → reject_response side log s left waiting ≡ effect_of side h log c (first_row (rejection_rows side h s left))
       by false o r g v k = rw (x.came.openness, o, last) refl
       by true o true g v k = rw (x.came.openness, o, refused-is side offset h log x s left, g, gone, last) refl
       by true o false g false k = rw (x.came.openness, o, refused-is side offset h log x s left, g, lacks-is side offset h log x s left o, k, send-is side offset h log x s left o, p) refl
@@ -116,10 +123,12 @@ module _ (side : Side) (offset : ℕ → ℕ) (h : History) (log : Log) (x : Sta
 -- ---- a client's connect begins
 
 pub begin-agrees : (side : Side) (h : History) (log : Log) (options : List ℕ × Fields) (lookup : Lookup) (outcome : ConnectOutcome)
-    → dial side log (target_of (parse_url None options.0) options.1 lookup outcome) ≡ effect_of side h log (calls.Connect options lookup outcome) (first_row (begin_rows (target_of (parse_url None options.0) options.1 lookup outcome)))
+    → dial side log (target_of (parse_url None options.0) options.1 lookup outcome)
+    ≡ effect_of side h log (calls.Connect options lookup outcome) (first_row (begin_rows (target_of (parse_url None options.0) options.1 lookup outcome)))
 begin-agrees side h log options lookup outcome = by (target_of (parse_url None options.0) options.1 lookup outcome) refl
   where
     by : (t : Result Target ConnectingError) → target_of (parse_url None options.0) options.1 lookup outcome ≡ t
-        → dial side log (target_of (parse_url None options.0) options.1 lookup outcome) ≡ effect_of side h log (calls.Connect options lookup outcome) (first_row (begin_rows (target_of (parse_url None options.0) options.1 lookup outcome)))
+        → dial side log (target_of (parse_url None options.0) options.1 lookup outcome)
+        ≡ effect_of side h log (calls.Connect options lookup outcome) (first_row (begin_rows (target_of (parse_url None options.0) options.1 lookup outcome)))
     by (Err e) q = rw q refl
     by (Ok t) q = rw (q, q) refl

@@ -162,7 +162,8 @@ is_polling side _ = false
 
 poll-replies : (side : Side) (h : History) → IsHistory side h → (o : Option Call) → last_begun h ≡ o → is_polling side (first_row (poll_rows side h o)).reply ≡ true
 poll-replies side h i None e = refl
-poll-replies Client h i (Some (calls.Connect options lookup outcome)) e = (connect-passes (is_polling Client) refl (λ x. refl) (λ s. refl) Client h (target_of (parse_url None options.0) options.1 lookup outcome)).first
+poll-replies Client h i (Some (calls.Connect options lookup outcome)) e =
+    (connect-passes (is_polling Client) refl (λ x. refl) (λ s. refl) Client h (target_of (parse_url None options.0) options.1 lookup outcome)).first
 poll-replies Server h i (Some (calls.Connect options lookup outcome)) e = absurd (let r = server-begun h i (calls.Connect options lookup outcome) e in cc r)
 poll-replies side h i (Some (calls.Accept headers)) e = (accepts-pass (is_polling side) refl (λ x. refl) (λ s. refl) side h headers).first
 poll-replies side h i (Some calls.Forbidden) e = (rejects-pass (is_polling side) refl refl side h (codes "403")).first
@@ -171,7 +172,8 @@ poll-replies side h i (Some calls.TooManyRequests) e = (rejects-pass (is_polling
 poll-replies side h i (Some c) e = refl
 
 -- where the session of the request that was given last is established, no response is due and no connect goes on
-established-idle : (side : Side) (h : History) → IsHistory side h → (s : ℕ) → is_established h s ≡ true → s ≡ unwrap_or (last_request h) 0 → (is_waiting h ≡ false) × (side ≡ Server → has_request h ≡ false)
+established-idle : (side : Side) (h : History) → IsHistory side h → (s : ℕ) → is_established h s ≡ true → s ≡ unwrap_or (last_request h) 0
+    → (is_waiting h ≡ false) × (side ≡ Server → has_request h ≡ false)
 established-idle Client h i s a q = (by (is_waiting h) refl, λ e. absurd (cc e))
   where
     by : (b : Bool) → is_waiting h ≡ b → b ≡ false
@@ -217,7 +219,8 @@ module _ (side : Side) (offset : ℕ → ℕ) (h : History) (log : Log) (st : St
   other : (c : Call) → polls (turns.Call c) ≡ false → is_of_request (turns.Call c) ≡ false → is_end c ≡ false → ShakenBy c (first_row (rows_of side h c)).reply
   other c p q e =
       let x : Reply = (first_row (rows_of side h c)).reply in
-      subst (λ (s : HandshakeState). Shaken side h s c x) (sym (same-state (calls_of log) (record_of side h c x) (other-passes side h (requested_stream (calls_of log)) c x p q e (other-replies side h c p q)))) (quiet c x p q)
+      subst (λ (s : HandshakeState). Shaken side h s c x)
+          (sym (same-state (calls_of log) (record_of side h c x) (other-passes side h (requested_stream (calls_of log)) c x p q e (other-replies side h c p q)))) (quiet c x p q)
 
   -- ---- a request
 
@@ -229,7 +232,8 @@ module _ (side : Side) (offset : ℕ → ℕ) (h : History) (log : Log) (st : St
       parts false true a l = l
       parts true g a l = absurd (cc l)
 
-      by : (s : Side) → side ≡ s → (is_client side ≡ false → (not (has_failed h) && all_answered h) ≡ awaits_request now) → may_call s h calls.Incoming ≡ true → (side ≡ Server) × (awaits_request now ≡ true)
+      by : (s : Side) → side ≡ s → (is_client side ≡ false → (not (has_failed h) && all_answered h) ≡ awaits_request now) → may_call s h calls.Incoming ≡ true
+          → (side ≡ Server) × (awaits_request now ≡ true)
       by Client e w l = absurd (cc l)
       by Server e w l = (e, sym (w (ap is_client e)) ∙ parts (is_first h) (has_failed h) (all_answered h) l)
 
@@ -266,7 +270,8 @@ module _ (side : Side) (offset : ℕ → ℕ) (h : History) (log : Log) (st : St
   accept headers q x t = absurd (cc t)
 
   -- a rejection that is over
-  rejected : (c : Call) → polls (turns.Call c) ≡ true → (side ≡ Server → (if is_of_request (turns.Call c) then false else has_request h) ≡ false) → fails_incoming (turns.Call c) replies.Rejected ≡ false → (side ≡ Server → has_failed h ≡ false)
+  rejected : (c : Call) → polls (turns.Call c) ≡ true → (side ≡ Server → (if is_of_request (turns.Call c) then false else has_request h) ≡ false)
+      → fails_incoming (turns.Call c) replies.Rejected ≡ false → (side ≡ Server → has_failed h ≡ false)
       → ShakenBy c replies.Rejected
   rejected c p q f g = subst (λ (s : HandshakeState). Shaken side h s c replies.Rejected) (sym (rejected-state (calls_of log) (unwrap_or (last_request h) 0) st.request)) (record {
     waiting = rw p refl;
@@ -330,7 +335,8 @@ module _ (side : Side) (offset : ℕ → ℕ) (h : History) (log : Log) (st : St
 
   -- ---- a session that the application ends
 
-  ended-by : (name : Option ℕ) (s : ℕ) → named h name ≡ Some s → (b : Bool) → is_open h ≡ b → Shaken side h (new_state (calls_of log) (if b then RequestRejected s else Polled)) (calls.EndSession name) replies.Done
+  ended-by : (name : Option ℕ) (s : ℕ) → named h name ≡ Some s → (b : Bool) → is_open h ≡ b
+      → Shaken side h (new_state (calls_of log) (if b then RequestRejected s else Polled)) (calls.EndSession name) replies.Done
   ended-by name s n false o = quiet (calls.EndSession name) replies.Done refl refl
   ended-by name s n true o = by (s == requested_stream (calls_of log)) refl
     where
@@ -343,12 +349,14 @@ module _ (side : Side) (offset : ℕ → ℕ) (h : History) (log : Log) (st : St
 
       by : (b : Bool) → (s == requested_stream (calls_of log)) ≡ b → Shaken side h (new_state (calls_of log) (RequestRejected s)) (calls.EndSession name) replies.Done
       by false e =
-          subst (λ (x : HandshakeState). Shaken side h x (calls.EndSession name) replies.Done) (sym (same-state (calls_of log) (RequestRejected s) (ap (λ (b : Bool). if b then Some handshakes.Answered else None) e)))
+          subst (λ (x : HandshakeState). Shaken side h x (calls.EndSession name) replies.Done)
+              (sym (same-state (calls_of log) (RequestRejected s) (ap (λ (b : Bool). if b then Some handshakes.Answered else None) e)))
           (quiet (calls.EndSession name) replies.Done refl refl)
       by true e =
           let q : s ≡ requested_stream (calls_of log) = eqb-true s (requested_stream (calls_of log)) e in
           let k = established-idle side h i s (named-established h name s n) (q ∙ sym st.request) in
-          subst (λ (x : HandshakeState). Shaken side h x (calls.EndSession name) replies.Done) (sym (rejected-state (calls_of log) s q)) (record { waiting = k.0; requested = k.1; failed = λ e. none; begun = tt })
+          subst (λ (x : HandshakeState). Shaken side h x (calls.EndSession name) replies.Done) (sym (rejected-state (calls_of log) s q))
+              (record { waiting = k.0; requested = k.1; failed = λ e. none; begun = tt })
 
   ended : (name : Option ℕ) → ShakenBy (calls.EndSession name) (first_row (rows_of side h (calls.EndSession name))).reply
   ended name = by (named h name) refl

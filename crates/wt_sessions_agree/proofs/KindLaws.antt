@@ -31,7 +31,8 @@ idle side h (k ∷ ids) found r u = by (fault_of found) refl (idle side h ids fo
         check-step side h (Dequeue k) (Classify k ∷ stream_checks ids) found [] e t ∙ ap (after_checks side h (Classify k ∷ stream_checks ids)) (append-nil found)
         ∙ check-step side h (Classify k) (stream_checks ids) found [] e p ∙ ap (after_checks side h (stream_checks ids)) (append-nil found) ∙ again
 
-pub kind-keeps : (side : Side) (h : History) (t : TransportView) (calls : CallView) (v : ℕ → Verdict) (kind count : ℕ) → kind < 4 → t.ready ≡ is_ready side h → ((m : ℕ) → verdict h (4 * m + kind) ≡ v (4 * m + kind)) → Admits h t calls
+pub kind-keeps : (side : Side) (h : History) (t : TransportView) (calls : CallView) (v : ℕ → Verdict) (kind count : ℕ) → kind < 4 → t.ready ≡ is_ready side h
+    → ((m : ℕ) → verdict h (4 * m + kind) ≡ v (4 * m + kind)) → Admits h t calls
     → (Keeps : List Finding → StreamTable → Type 0) → ScanKeeps h t calls kind Keeps → (found : List Finding) (table : StreamTable) → (is_ready side h ≡ false → (k : ℕ) → is_dequeued found k ≡ false)
     → ((i : ℕ) → is_dequeued found (4 * i + kind) ≡ true → is_classified found (4 * i + kind) ≡ false → nat_lt (length (filter (λ (j : ℕ). not (is_classified found j)) (ids_from kind 0 i))) 4 ≡ true)
     → Keeps found table → Keeps (after_checks side h (stream_checks (ids_from kind 0 count)) found) (scan_kind t calls v (stream_ids kind 0 count) table)

@@ -139,22 +139,32 @@ module _ (side : Side) (offset : ℕ → ℕ) (h : History) (log : Log) (x : Sta
   lawful-agrees (turns.Call c) = call-lawful c
   lawful-agrees (turns.Connected uni bi total fact) =
       rw (begun-by side, x.came.all_events, le-lt uni (2 ^ 60), le-lt bi (2 ^ 60))
-      (begun-moved (may_begin side log) (not (is_connected (all_events_of log))) (not (is_some (loss_of (all_events_of log)))) (not (nat_lt (2 ^ 60) uni)) (not (nat_lt (2 ^ 60) bi)) (nat_lt total (2 ^ 62)))
+      (begun-moved (may_begin side log) (not (is_connected (all_events_of log))) (not (is_some (loss_of (all_events_of log)))) (not (nat_lt (2 ^ 60) uni)) (not (nat_lt (2 ^ 60) bi))
+      (nat_lt total (2 ^ 62)))
   lawful-agrees (turns.Loss reason) = lost-by side refl
   lawful-agrees turns.PeerUni = coming _ _ (ap (λ (n : ℕ). nat_lt n (2 ^ 60)) (count-is side offset h log x (peer_uni side)))
   lawful-agrees turns.PeerBi = coming _ _ (ap (λ (n : ℕ). nat_lt n (2 ^ 60)) (count-is side offset h log x (peer_bi side)))
   lawful-agrees (turns.Bytes id piece) = rw (receiving id) (coming _ _ refl ∙ grouped id)
     where
-      grouped : (k : ℕ) → ((is_connected (all_events_of log) && (streams.can_receive side log k && is_running (end_of (all_events_of log) k))) && not (is_some (loss_of (all_events_of log)))) ≡ (arrivals.may_receive side log k && not (is_some (loss_of (all_events_of log))))
-      grouped k = ap (λ (b : Bool). b && not (is_some (loss_of (all_events_of log)))) (and-three (is_connected (all_events_of log)) (streams.can_receive side log k) (is_running (end_of (all_events_of log) k)))
+      grouped : (k : ℕ) → ((is_connected (all_events_of log) && (streams.can_receive side log k && is_running (end_of (all_events_of log) k))) && not (is_some (loss_of (all_events_of log))))
+          ≡ (arrivals.may_receive side log k && not (is_some (loss_of (all_events_of log))))
+      grouped k =
+          ap (λ (b : Bool). b && not (is_some (loss_of (all_events_of log))))
+          (and-three (is_connected (all_events_of log)) (streams.can_receive side log k) (is_running (end_of (all_events_of log) k)))
   lawful-agrees (turns.End id) = rw (receiving id) (coming _ _ refl ∙ grouped id)
     where
-      grouped : (k : ℕ) → ((is_connected (all_events_of log) && (streams.can_receive side log k && is_running (end_of (all_events_of log) k))) && not (is_some (loss_of (all_events_of log)))) ≡ (arrivals.may_receive side log k && not (is_some (loss_of (all_events_of log))))
-      grouped k = ap (λ (b : Bool). b && not (is_some (loss_of (all_events_of log)))) (and-three (is_connected (all_events_of log)) (streams.can_receive side log k) (is_running (end_of (all_events_of log) k)))
+      grouped : (k : ℕ) → ((is_connected (all_events_of log) && (streams.can_receive side log k && is_running (end_of (all_events_of log) k))) && not (is_some (loss_of (all_events_of log))))
+          ≡ (arrivals.may_receive side log k && not (is_some (loss_of (all_events_of log))))
+      grouped k =
+          ap (λ (b : Bool). b && not (is_some (loss_of (all_events_of log))))
+          (and-three (is_connected (all_events_of log)) (streams.can_receive side log k) (is_running (end_of (all_events_of log) k)))
   lawful-agrees (turns.Reset id code) = rw (receiving id) (coming _ _ refl ∙ grouped id)
     where
-      grouped : (k : ℕ) → ((is_connected (all_events_of log) && (streams.can_receive side log k && is_running (end_of (all_events_of log) k))) && not (is_some (loss_of (all_events_of log)))) ≡ (arrivals.may_receive side log k && not (is_some (loss_of (all_events_of log))))
-      grouped k = ap (λ (b : Bool). b && not (is_some (loss_of (all_events_of log)))) (and-three (is_connected (all_events_of log)) (streams.can_receive side log k) (is_running (end_of (all_events_of log) k)))
+      grouped : (k : ℕ) → ((is_connected (all_events_of log) && (streams.can_receive side log k && is_running (end_of (all_events_of log) k))) && not (is_some (loss_of (all_events_of log))))
+          ≡ (arrivals.may_receive side log k && not (is_some (loss_of (all_events_of log))))
+      grouped k =
+          ap (λ (b : Bool). b && not (is_some (loss_of (all_events_of log))))
+          (and-three (is_connected (all_events_of log)) (streams.can_receive side log k) (is_running (end_of (all_events_of log) k)))
   lawful-agrees (turns.Stop id code) = rw (sends-is id, awaiting id) (coming _ _ refl ∙ by (is_connected (all_events_of log)) (streams.can_send side log id))
     where
       by : (a b : Bool) → ((a && (b && (not (is_some (stop_of (all_events_of log) id)) && not (is_acknowledged (all_events_of log) id)))) && not (is_some (loss_of (all_events_of log))))
@@ -162,7 +172,8 @@ module _ (side : Side) (offset : ℕ → ℕ) (h : History) (log : Log) (x : Sta
       by true true = refl
       by true false = refl
       by false b = refl
-  lawful-agrees (turns.Acked id) = rw (x.out.finished id, x.halves.reset id, awaiting id) (coming _ _ refl ∙ by (is_connected (all_events_of log)) (is_finished (actions_of log) id) (not (sends.is_reset log id)))
+  lawful-agrees (turns.Acked id) =
+      rw (x.out.finished id, x.halves.reset id, awaiting id) (coming _ _ refl ∙ by (is_connected (all_events_of log)) (is_finished (actions_of log) id) (not (sends.is_reset log id)))
     where
       by : (a b r : Bool) → ((a && ((b && r) && (not (is_some (stop_of (all_events_of log) id)) && not (is_acknowledged (all_events_of log) id)))) && not (is_some (loss_of (all_events_of log))))
           ≡ ((a && b && r && not (is_some (stop_of (all_events_of log) id)) && not (is_acknowledged (all_events_of log) id)) && not (is_some (loss_of (all_events_of log))))
@@ -173,17 +184,20 @@ module _ (side : Side) (offset : ℕ → ℕ) (h : History) (log : Log) (x : Sta
   lawful-agrees (turns.Datagram piece) = coming true true refl ∙ ap (λ (b : Bool). b && not (is_some (loss_of (all_events_of log)))) (and-true (is_connected (all_events_of log)))
   lawful-agrees (turns.DatagramLimit fact) = coming true true refl ∙ ap (λ (b : Bool). b && not (is_some (loss_of (all_events_of log)))) (and-true (is_connected (all_events_of log)))
   lawful-agrees (turns.MaxUni total) =
-      rw (le-lt (unis_allowed (all_events h)) total, le-lt total (2 ^ 60), x.came.all_events) (most (is_connected (all_events_of log)) (not (nat_lt total (unis_allowed (all_events_of log)))) (not (nat_lt (2 ^ 60) total)))
+      rw (le-lt (unis_allowed (all_events h)) total, le-lt total (2 ^ 60), x.came.all_events)
+          (most (is_connected (all_events_of log)) (not (nat_lt total (unis_allowed (all_events_of log)))) (not (nat_lt (2 ^ 60) total)))
     where
       most : (a b c : Bool) → (a && not (is_some (loss_of (all_events_of log))) && (b && c)) ≡ ((a && b && c) && not (is_some (loss_of (all_events_of log))))
       most a b c = last-moved a (not (is_some (loss_of (all_events_of log)))) (b && c) ∙ ap (λ (y : Bool). y && not (is_some (loss_of (all_events_of log)))) (and-three a b c)
   lawful-agrees (turns.MaxBi total) =
-      rw (le-lt (bis_allowed (all_events h)) total, le-lt total (2 ^ 60), x.came.all_events) (most (is_connected (all_events_of log)) (not (nat_lt total (bis_allowed (all_events_of log)))) (not (nat_lt (2 ^ 60) total)))
+      rw (le-lt (bis_allowed (all_events h)) total, le-lt total (2 ^ 60), x.came.all_events)
+          (most (is_connected (all_events_of log)) (not (nat_lt total (bis_allowed (all_events_of log)))) (not (nat_lt (2 ^ 60) total)))
     where
       most : (a b c : Bool) → (a && not (is_some (loss_of (all_events_of log))) && (b && c)) ≡ ((a && b && c) && not (is_some (loss_of (all_events_of log))))
       most a b c = last-moved a (not (is_some (loss_of (all_events_of log)))) (b && c) ∙ ap (λ (y : Bool). y && not (is_some (loss_of (all_events_of log)))) (and-three a b c)
   lawful-agrees (turns.MaxData id total) =
-      rw (sends-is id, le-lt (credit (all_events h) id) total, x.came.all_events) (most (is_connected (all_events_of log)) (streams.can_send side log id) (not (nat_lt total (credit (all_events_of log) id))) (nat_lt total (2 ^ 62)))
+      rw (sends-is id, le-lt (credit (all_events h) id) total, x.came.all_events)
+          (most (is_connected (all_events_of log)) (streams.can_send side log id) (not (nat_lt total (credit (all_events_of log) id))) (nat_lt total (2 ^ 62)))
     where
       most : (a b c d : Bool) → (a && not (is_some (loss_of (all_events_of log))) && (b && c && d)) ≡ ((a && b && c && d) && not (is_some (loss_of (all_events_of log))))
       most true true c d = last-moved true (not (is_some (loss_of (all_events_of log)))) (c && d)

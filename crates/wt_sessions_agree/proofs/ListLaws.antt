@@ -35,7 +35,8 @@ byte-sends : (side : Side) (log : Log) (k b : ℕ) → (xs : List Action) × (ac
 unfolding flush
 byte-sends side log k b = by (logs.is_open log) (is_moment (Received k b) && logs.is_open (Received k b ∷ log))
   where
-    by : (o m : Bool) → (xs : List Action) × (actions_of (if o then apply_if m (with_actions (pending_actions side (Received k b ∷ log))) (Received k b ∷ log) else log) ≡ newest_first xs (actions_of log))
+    by : (o m : Bool) → (xs : List Action) × (actions_of (if o then apply_if m (with_actions (pending_actions side (Received k b ∷ log))) (Received k b ∷ log) else log)
+        ≡ newest_first xs (actions_of log))
     by true true = (pending_actions side (Received k b ∷ log), acted (pending_actions side (Received k b ∷ log)) (Received k b ∷ log))
     by true false = ([], refl)
     by false m = ([], refl)
@@ -51,7 +52,8 @@ piece-sends side log k (b ∷ piece) =
 -- what a piece sends is what its first byte sends, then what the others send
 piece-since : (side : Side) (log : Log) (k b : ℕ) (piece : List ℕ)
     → actions_since log (receive side log k (b ∷ piece))
-    ≡ join_all (actions_since log (log_after side log (turns.Bytes k (b ∷ [])))) (actions_since (log_after side log (turns.Bytes k (b ∷ []))) (receive side (log_after side log (turns.Bytes k (b ∷ []))) k piece))
+    ≡ join_all (actions_since log (log_after side log (turns.Bytes k (b ∷ []))))
+    (actions_since (log_after side log (turns.Bytes k (b ∷ []))) (receive side (log_after side log (turns.Bytes k (b ∷ []))) k piece))
 piece-since side log k b piece =
     let one = byte-sends side log k b in
     let more = piece-sends side (log_after side log (turns.Bytes k (b ∷ []))) k piece in
@@ -59,7 +61,8 @@ piece-since side log k b piece =
     ∙ join-append [] one.0 more.0
     ∙ join_all-assoc (join_all [] one.0) [] more.0
     ∙ ap (λ (as_ : List Action). join_all as_ (join_all [] more.0)) (sym (since-is log (log_after side log (turns.Bytes k (b ∷ []))) one.0 one.1))
-    ∙ ap (join_all (actions_since log (log_after side log (turns.Bytes k (b ∷ []))))) (sym (since-is (log_after side log (turns.Bytes k (b ∷ []))) (receive side (log_after side log (turns.Bytes k (b ∷ []))) k piece) more.0 more.1))
+    ∙ ap (join_all (actions_since log (log_after side log (turns.Bytes k (b ∷ [])))))
+    (sym (since-is (log_after side log (turns.Bytes k (b ∷ []))) (receive side (log_after side log (turns.Bytes k (b ∷ []))) k piece) more.0 more.1))
   where
     join-append : (before xs ys : List Action) → join_all before (xs ++ ys) ≡ join_all (join_all before xs) ys
     join-append before [] ys = refl
@@ -71,7 +74,8 @@ still-there : (side : Side) (h : History) (k b : ℕ) → exists side h k ≡ tr
 still-there side h k b e =
     let l = opened-out (k % 4) (next side h (turns.Bytes k (b ∷ []))).actions (actions_out h) in grind (arith, e, l)
 
-lawful-byte : (side : Side) (h : History) (k b c : ℕ) (piece later : List ℕ) → is_lawful side h (turns.Bytes k (b ∷ piece)) ≡ true → is_lawful side (step side h (turns.Bytes k (b ∷ []))) (turns.Bytes k (c ∷ later)) ≡ true
+lawful-byte : (side : Side) (h : History) (k b c : ℕ) (piece later : List ℕ) → is_lawful side h (turns.Bytes k (b ∷ piece)) ≡ true
+    → is_lawful side (step side h (turns.Bytes k (b ∷ []))) (turns.Bytes k (c ∷ later)) ≡ true
 lawful-byte side h k b c piece later e = by (is_connected (all_events h)) (not (is_lost h)) (exists side h k) refl (not (k % 4 == local_uni side)) (is_running (end_of (all_events h) k)) e
   where
     by : (a l x : Bool) → exists side h k ≡ x → (r d : Bool) → (a && l && ((x && r) && d)) ≡ true → (a && l && ((exists side (step side h (turns.Bytes k (b ∷ []))) k && r) && d)) ≡ true
@@ -100,7 +104,9 @@ module _ (side : Side) (each : EachTurnAgrees side) where
       let one = each h log (turns.Bytes k (b ∷ [])) x refl l in
       let more = piece-agrees (c ∷ piece) (step side h (turns.Bytes k (b ∷ []))) (log_after side log (turns.Bytes k (b ∷ []))) k one.after (lawful-byte side h k b c (c ∷ piece) piece l) in
       record {
-        same = piece-since side log k b (c ∷ piece) ∙ ap (λ (a : Answer). join_all a.actions (actions_since (log_after side log (turns.Bytes k (b ∷ []))) (receive side (log_after side log (turns.Bytes k (b ∷ []))) k (c ∷ piece)))) one.same
+        same =
+            piece-since side log k b (c ∷ piece) ∙ ap (λ (a : Answer). join_all a.actions
+            (actions_since (log_after side log (turns.Bytes k (b ∷ []))) (receive side (log_after side log (turns.Bytes k (b ∷ []))) k (c ∷ piece)))) one.same
             ∙ ap (join_all (next side h (turns.Bytes k (b ∷ []))).actions) more.same;
         after = more.after;
       }
@@ -155,7 +161,9 @@ module _ (side : Side) (each : EachTurnAgrees side) where
           let t = any-agrees h log turn x e in
           let later = again (history_after side h turn) (log_after side log turn) t.after in
           record {
-            same = rw e (ap (λ (a : Answer). a ∷ (run_from side (history_after side h turn) all).answers) t.same ∙ ap (λ (as_ : List Answer). answers.answer_to side log turn ∷ as_) later.same ∙ ap (λ (b : Bool). (pick b).answers) (sym f));
+            same =
+                rw e (ap (λ (a : Answer). a ∷ (run_from side (history_after side h turn) all).answers) t.same ∙ ap (λ (as_ : List Answer). answers.answer_to side log turn ∷ as_) later.same
+                ∙ ap (λ (b : Bool). (pick b).answers) (sym f));
             as_far = rw e (later.as_far ∙ ap (λ (b : Bool). is_whole (pick b).stop) (sym f));
           }
 

@@ -90,10 +90,13 @@ closed-more side h found new a g k e = by (list_any (closes_session k) found) re
 -- ---- what is kept
 
 -- the streams stay the same where what is new admits none that was handed out
-members-more : (side : Side) (h : History) (calls : CallView) (found new : List Finding) → ((s k : ℕ) → list_any (admits s k) new ≡ true → (is_handed_out h k ≡ false) × (exists side h k ≡ true)) → MembersIn side h calls found
+members-more : (side : Side) (h : History) (calls : CallView) (found new : List Finding) → ((s k : ℕ) → list_any (admits s k) new ≡ true → (is_handed_out h k ≡ false) × (exists side h k ≡ true))
+    → MembersIn side h calls found
     → MembersIn side h calls (found ++ new)
 members-more side h calls found new fresh x = record {
-  same = λ s k. x.same s k ∙ sym (ap (λ (b : Bool). (is_handed_out h k && b) || is_opened_for h s k) (list_any-append (admits s k) found new) ∙ ap (λ (b : Bool). b || is_opened_for h s k) (kept s k (list_any (admits s k) new) refl));
+  same =
+      λ s k. x.same s k ∙ sym (ap (λ (b : Bool). (is_handed_out h k && b) || is_opened_for h s k) (list_any-append (admits s k) found new)
+      ∙ ap (λ (b : Bool). b || is_opened_for h s k) (kept s k (list_any (admits s k) new) refl));
   ascends = x.ascends;
   there = λ s k e. there s k (list_any (admits s k) new) refl (ap (λ (b : Bool). b || is_opened_for h s k) (sym (list_any-append (admits s k) found new)) ∙ e);
 }
@@ -106,7 +109,8 @@ members-more side h calls found new fresh x = record {
     there s k true e q = (fresh s k e).1
     there s k false e q = x.there s k (ap (λ (b : Bool). b || is_opened_for h s k) (sym (or-false (list_any (admits s k) found))) ∙ q)
 
-not-handed : (side : Side) (h : History) (calls : CallView) (found : List Finding) → Good side h calls found → (k : ℕ) → Admitted side h found k → (is_handed_out h k ≡ false) × (exists side h k ≡ true)
+not-handed : (side : Side) (h : History) (calls : CallView) (found : List Finding) → Good side h calls found → (k : ℕ) → Admitted side h found k
+    → (is_handed_out h k ≡ false) × (exists side h k ≡ true)
 not-handed side h calls found g k a = (by (is_handed_out h k) refl, verdict-there side h g.came k a.some)
   where
     by : (b : Bool) → is_handed_out h k ≡ b → b ≡ false
@@ -126,7 +130,8 @@ good-kept side h calls found new a f g = record {
 
 -- ---- what it is good for
 
-pub good-alike : (side : Side) (h : History) (calls : CallView) (found : List Finding) (t : TransportView) (table : StreamTable) → Good side h calls found → IsTable found table → CallsAgree h calls → HalvesSeen side h t
+pub good-alike : (side : Side) (h : History) (calls : CallView) (found : List Finding) (t : TransportView) (table : StreamTable) → Good side h calls found → IsTable found table → CallsAgree h calls
+    → HalvesSeen side h t
     → (s : ℕ) → is_gone h found s ≡ false → session_gone_actions side h found s ≡ gone_actions t (dispatched_streams calls table) s
 good-alike side h calls found t table g holds agree seen = gone-alike side h found t calls table holds agree seen g.members
 
@@ -142,7 +147,8 @@ gone-why k [] e = absurd (cc e)
 gone-why k (Classified j v b ∷ found) e = by (j == k) (makes_gone k (Classified j v b)) refl refl e (gone-why k found)
   where
     by : (c m : Bool) → (j == k) ≡ c → makes_gone k (Classified j v b) ≡ m → (m || list_any (makes_gone k) found) ≡ true
-        → (list_any (makes_gone k) found ≡ true → (is_classified found k || list_any (closes_session k) found) ≡ true) → (is_classified (Classified j v b ∷ found) k || list_any (closes_session k) found) ≡ true
+        → (list_any (makes_gone k) found ≡ true → (is_classified found k || list_any (closes_session k) found) ≡ true)
+        → (is_classified (Classified j v b ∷ found) k || list_any (closes_session k) found) ≡ true
     by true m i n q again = rw i refl
     by false true i n q again = absurd (let r : true ≡ false = sym (gone-itself k j v b n) ∙ i in cc r)
     by false false i n q again = rw i (again q)
@@ -155,7 +161,8 @@ gone-why k (SessionClosed t code reason by_capsule ∷ found) e = by (t == k) e 
 gone-why k (_ ∷ found) e = gone-why k found e
 
 -- a stream without a verdict is no gone session's
-pub good-fresh : (side : Side) (h : History) (calls : CallView) (found : List Finding) → Good side h calls found → (k : ℕ) → is_peers side k ≡ true → is_classified found k ≡ false → is_gone h found k ≡ false
+pub good-fresh : (side : Side) (h : History) (calls : CallView) (found : List Finding) → Good side h calls found → (k : ℕ) → is_peers side k ≡ true → is_classified found k ≡ false
+    → is_gone h found k ≡ false
 good-fresh side h calls found g k p n = by (is_gone_by_call h k) (list_any (makes_gone k) found) refl refl
   where
     never : is_classified found k ≡ true → ⊥

@@ -39,7 +39,8 @@ has-with j k (x ∷ xs) = by (k == x) (nat_lt k x) refl (has-with j k xs)
 
 pub has-with-ids : (j : ℕ) (ks ids : List ℕ) → has_id j (with_ids ks ids) ≡ (has_id j ks || has_id j ids)
 has-with-ids j [] ids = refl
-has-with-ids j (k ∷ ks) ids = has-with-ids j ks (with_id k ids) ∙ ap (λ (b : Bool). has_id j ks || b) (has-with j k ids) ∙ or-turned (has_id j ks) (k == j) (has_id j ids) ∙ or-assoc (k == j) (has_id j ks) (has_id j ids)
+has-with-ids j (k ∷ ks) ids =
+    has-with-ids j ks (with_id k ids) ∙ ap (λ (b : Bool). has_id j ks || b) (has-with j k ids) ∙ or-turned (has_id j ks) (k == j) (has_id j ids) ∙ or-assoc (k == j) (has_id j ks) (has_id j ids)
 
 -- ---- lists that ascend
 
@@ -182,7 +183,8 @@ of-four f (suc (suc (suc (suc r)))) l = absurd (omega (arith, l))
 in-ids : (side : Side) (h : History) (k : ℕ) → exists side h k ≡ true → has_id k (stream_ids side h) ≡ true
 in-ids side h k e =
     in-numbers k 0 (4 * (stream_count side h 0 + stream_count side h 1 + stream_count side h 2 + stream_count side h 3)) (omega arith)
-    (let a = ltb-true (k / 4) (stream_count side h (k % 4)) e in let r : k % 4 < 4 = omega arith in let b = of-four (stream_count side h) (k % 4) r in let q : k ≡ 4 * (k / 4) + k % 4 = omega arith in omega (arith, a, b, q, r))
+    (let a = ltb-true (k / 4) (stream_count side h (k % 4)) e in let r : k % 4 < 4 = omega arith in let b = of-four (stream_count side h) (k % 4) r in let q : k ≡ 4 * (k / 4) + k % 4 = omega arith in
+    omega (arith, a, b, q, r))
 
 -- ---- the streams that wait for a session that isn't gone
 
@@ -218,7 +220,8 @@ module _ (calls : CallView) (g : ℕ → Bool) (s : ℕ) (stays : g s ≡ false)
 
 -- ---- the same streams
 
-module _ (side : Side) (h : History) (found : List Finding) (calls : CallView) (table : StreamTable) (holds : IsTable found table) (agree : CallsAgree h calls) (members : MembersIn side h calls found) (s : ℕ) (stays : is_gone h found s ≡ false) where
+module _ (side : Side) (h : History) (found : List Finding) (calls : CallView) (table : StreamTable) (holds : IsTable found table) (agree : CallsAgree h calls) (members : MembersIn side h calls found)
+    (s : ℕ) (stays : is_gone h found s ≡ false) where
   streams-has : (k : ℕ) → has_id k (streams_of (dispatched_streams calls table) s) ≡ is_of_session h found s k
   streams-has k =
       has-with-ids k (waiting-ids calls (tables.is_gone calls table) s table.classified) (calls.members s)
@@ -271,7 +274,8 @@ all-alike : (f g : ℕ → List Action) → ((k : ℕ) → f k ≡ g k) → (ids
 all-alike f g e [] = refl
 all-alike f g e (k ∷ ids) = rw (e k, all-alike f g e ids) refl
 
-pub gone-alike : (side : Side) (h : History) (found : List Finding) (t : TransportView) (calls : CallView) (table : StreamTable) → IsTable found table → CallsAgree h calls → HalvesSeen side h t → MembersIn side h calls found
+pub gone-alike : (side : Side) (h : History) (found : List Finding) (t : TransportView) (calls : CallView) (table : StreamTable) → IsTable found table → CallsAgree h calls → HalvesSeen side h t
+    → MembersIn side h calls found
     → (s : ℕ) → is_gone h found s ≡ false → session_gone_actions side h found s ≡ gone_actions t (dispatched_streams calls table) s
 gone-alike side h found t calls table holds agree seen members s stays =
     ap (flat_map (stream_gone_actions side h)) (streams-alike side h found calls table holds agree members s stays)

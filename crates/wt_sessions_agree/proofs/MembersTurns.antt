@@ -83,17 +83,23 @@ OpensThere side p h = (s k : ℕ) → opens_for (p ∷ h) s k p.turn p.answer.re
 
 -- what is among a session's streams after it
 abbrev Then : Side → Pair → History → CallView → Type 0
-Then side p h calls = (s k : ℕ) → has_id k (calls.members s) ≡ (((hands_out k p.answer.reply || is_handed_out h k) && list_any (admits s k) (findings side h)) || (opens_for (p ∷ h) s k p.turn p.answer.reply || is_opened_for h s k))
+Then side p h calls =
+    (s k : ℕ) → has_id k (calls.members s) ≡ (((hands_out k p.answer.reply || is_handed_out h k) && list_any (admits s k) (findings side h)) ||
+    (opens_for (p ∷ h) s k p.turn p.answer.reply || is_opened_for h s k))
 
-members-then : (side : Side) (p : Pair) (h : History) (before after : CallView) → IsHistory side h → MembersIn side h before (findings side h) → Then side p h after → ((s : ℕ) → Ascends (after.members s)) → OpensThere side p h
+members-then : (side : Side) (p : Pair) (h : History) (before after : CallView) → IsHistory side h → MembersIn side h before (findings side h) → Then side p h after
+    → ((s : ℕ) → Ascends (after.members s)) → OpensThere side p h
     → MembersIn side (p ∷ h) after (findings side h)
 members-then side p h before after i x news ascends there = record {
   same = λ s k. news s k ∙ ap (λ (b : Bool). ((hands_out k p.answer.reply || is_handed_out h k) && list_any (admits s k) (findings side h)) || b) (sym (opened-then side p h i s k));
   ascends = ascends;
-  there = λ s k e. by s k (list_any (admits s k) (findings side h)) (opens_for (p ∷ h) s k p.turn p.answer.reply) refl refl (ap (λ (b : Bool). list_any (admits s k) (findings side h) || b) (sym (opened-then side p h i s k)) ∙ e);
+  there =
+      λ s k e. by s k (list_any (admits s k) (findings side h)) (opens_for (p ∷ h) s k p.turn p.answer.reply) refl refl
+      (ap (λ (b : Bool). list_any (admits s k) (findings side h) || b) (sym (opened-then side p h i s k)) ∙ e);
 }
   where
-    by : (s k : ℕ) (a o : Bool) → list_any (admits s k) (findings side h) ≡ a → opens_for (p ∷ h) s k p.turn p.answer.reply ≡ o → (a || (o || is_opened_for h s k)) ≡ true → exists side (p ∷ h) k ≡ true
+    by : (s k : ℕ) (a o : Bool) → list_any (admits s k) (findings side h) ≡ a → opens_for (p ∷ h) s k p.turn p.answer.reply ≡ o → (a || (o || is_opened_for h s k)) ≡ true
+        → exists side (p ∷ h) k ≡ true
     by s k true o e f q = exists-stays side p h k (x.there s k (ap (λ (b : Bool). b || is_opened_for h s k) e))
     by s k false true e f q = there s k f
     by s k false false e f q = exists-stays side p h k (x.there s k (ap (λ (b : Bool). list_any (admits s k) (findings side h) || b) q ∙ or-true (list_any (admits s k) (findings side h))))
@@ -129,7 +135,10 @@ gives (replies.Opening id) = true
 gives _ = false
 
 member-passes : (s : ℕ) → Passes (member_by s) None
-member-passes s = record { aside = record { polled = refl; started = λ r i. refl; response = λ a i. refl; over = refl; failed = refl }; unsent = λ i c. refl; priority = λ i p. refl; given_up = λ i. refl; rejected = λ t. refl }
+member-passes s = record {
+  aside = record { polled = refl; started = λ r i. refl; response = λ a i. refl; over = refl; failed = refl };
+  unsent = λ i c. refl; priority = λ i p. refl; given_up = λ i. refl; rejected = λ t. refl;
+}
 
 no-member : (side : Side) (h : History) (c : Call) (s : ℕ) (r : Reply) → gives r ≡ false → member_by s (record_of side h c r) ≡ None
 no-member side h c s replies.Done e = done-passes (member_by s) None (member-passes s) side h c
@@ -181,7 +190,8 @@ accept-adds side h id t a s k = by (id == k) (t == s) refl refl
     by : (x y : Bool) → (id == k) ≡ x → (t == s) ≡ y → (is_number k (if y then Some id else None) || ((is_handed_out h k && list_any (admits s k) (findings side h)) || is_opened_for h s k))
         ≡ (((x || is_handed_out h k) && list_any (admits s k) (findings side h)) || is_opened_for h s k)
     by true true e f =
-        let mine : list_any (admits s k) (findings side h) ≡ true = ap (λ (j : ℕ). list_any (admits j k) (findings side h)) (sym (eqb-true t s f)) ∙ ap (λ (j : ℕ). list_any (admits t j) (findings side h)) (sym (eqb-true id k e)) ∙ a in
+        let mine : list_any (admits s k) (findings side h) ≡ true = ap (λ (j : ℕ). list_any (admits j k) (findings side h)) (sym (eqb-true t s f))
+        ∙ ap (λ (j : ℕ). list_any (admits t j) (findings side h)) (sym (eqb-true id k e)) ∙ a in
         rw (e, mine) refl
     by true false e f = rw (other (list_any (admits s k) (findings side h)) refl) (ap (λ (b : Bool). b || is_opened_for h s k) (and-false (is_handed_out h k)))
       where
@@ -264,7 +274,8 @@ over-adds side h i id e = by (being_opened h id) refl e
 -- what a poll gives is the stream that it names
 polled : (side : Side) (h : History) (pid id : ℕ) (r : Reply) → (next side h (turns.Call (calls.PollOpening pid))).reply ≡ r → hands_out id r ≡ true → is_some (being_opened h id) ≡ true
 polled side h pid id r q e =
-    let g = (by-session (GivesOpened side h id pid) (named h None) (λ (s : ℕ). opening_for side h pid (being_opened h pid)) (λ x. absurd (cc x)) (λ s x. record { first = gives-opened side h id pid (being_opened h pid) refl })).first (ap (hands_out id) q ∙ e) in
+    let g = (by-session (GivesOpened side h id pid) (named h None) (λ (s : ℕ). opening_for side h pid (being_opened h pid)) (λ x. absurd (cc x))
+    (λ s x. record { first = gives-opened side h id pid (being_opened h pid) refl })).first (ap (hands_out id) q ∙ e) in
     ap (λ (j : ℕ). is_some (being_opened h j)) (sym (eqb-true pid id g.0)) ∙ g.1
 
 -- ---- each reply
@@ -274,8 +285,10 @@ reply-adds side h after i l (calls.AcceptUni name) (replies.Uni id) q f s k = le
 reply-adds side h after i l (calls.AcceptBi name) (replies.Bi id) q f s k = let a = bi-accepted side h name id q in rw a.1 (accept-adds side h id a.0 a.2.header s k)
 reply-adds side h after i l (calls.PollOpening pid) (replies.SendReady id) q f s k = over-adds side h i id (polled side h pid id (replies.SendReady id) q (eq-eqb id id refl)) s k
 reply-adds side h after i l (calls.PollOpening pid) (replies.BiReady id) q f s k = over-adds side h i id (polled side h pid id (replies.BiReady id) q (eq-eqb id id refl)) s k
-reply-adds side h after i l (calls.OpenUni name) (replies.Opening id) q f s k = let o = opens-for side h name (local_uni side) id q in rw (o.of_it, l name o.session o.of_it) (opening-adds side h id o.session s k)
-reply-adds side h after i l (calls.OpenBi name) (replies.Opening id) q f s k = let o = opens-for side h name (local_bi side) id q in rw (o.of_it, l name o.session o.of_it) (opening-adds side h id o.session s k)
+reply-adds side h after i l (calls.OpenUni name) (replies.Opening id) q f s k =
+    let o = opens-for side h name (local_uni side) id q in rw (o.of_it, l name o.session o.of_it) (opening-adds side h id o.session s k)
+reply-adds side h after i l (calls.OpenBi name) (replies.Opening id) q f s k =
+    let o = opens-for side h name (local_bi side) id q in rw (o.of_it, l name o.session o.of_it) (opening-adds side h id o.session s k)
 reply-adds side h after i l c (replies.Uni id) q f s k = absurd (cc)
 reply-adds side h after i l c (replies.Bi id) q f s k = absurd (cc)
 reply-adds side h after i l c (replies.SendReady id) q f s k = absurd (cc)
@@ -285,7 +298,8 @@ reply-adds side h after i l c r q f s k = none-adds side h after c r refl s k
 
 -- ---- the stream that a call begins to open is there
 
-kind-there : (side : Side) (h : History) (turn : Turn) (r : Reply) (xs : List Action) (kind : ℕ) → kind < 4 → 1 ≤ opened kind xs → exists side (with_pair h turn (answer r xs)) (next_id side h kind) ≡ true
+kind-there : (side : Side) (h : History) (turn : Turn) (r : Reply) (xs : List Action) (kind : ℕ) → kind < 4 → 1 ≤ opened kind xs
+    → exists side (with_pair h turn (answer r xs)) (next_id side h kind) ≡ true
 kind-there side h turn r xs kind l one =
     let n = nth-of (stream_count side h kind) kind l in
     let c = peers-stay side (record { turn = turn; answer = answer r xs }) h kind in
@@ -296,21 +310,26 @@ kind-there side h turn r xs kind l one =
 abbrev More : Side → History → Call → List Action → Type 0
 More side h c xs = (kind : ℕ) → opened kind (own_answer side h (turns.Call c)).actions ≤ opened kind xs
 
-opener-there : (side : Side) (h : History) (turn : Turn) (name : Option ℕ) (kind id k : ℕ) (r : Reply) (own xs : List Action) → kind < 4 → (a : Answer) → a.actions ≡ own → OpensFor side h name kind id a → opened kind own ≤ opened kind xs → (id == k) ≡ true
+opener-there : (side : Side) (h : History) (turn : Turn) (name : Option ℕ) (kind id k : ℕ) (r : Reply) (own xs : List Action) → kind < 4 → (a : Answer) → a.actions ≡ own
+    → OpensFor side h name kind id a → opened kind own ≤ opened kind xs → (id == k) ≡ true
     → exists side (with_pair h turn (answer r xs)) k ≡ true
 opener-there side h turn name kind id k r own xs l a same o more e =
     let n = nth-of (stream_count side h kind) kind l in
     let one : opened kind own ≡ 1 = ap (opened kind) (sym same ∙ o.acts) ∙ ap (λ (x : Bool). one_more_if x 0) (eq-eqb ((4 * stream_count side h kind + kind) % 4) kind n.1) in
     ap (exists side (with_pair h turn (answer r xs))) (sym (o.is_next ∙ eqb-true id k e)) ∙ kind-there side h turn r xs kind l (omega (arith, one, more))
 
-opens-there : (side : Side) (h : History) (c : Call) (xs : List Action) → More side h c xs → OpensThere side (record { turn = turns.Call c; answer = answer (own_answer side h (turns.Call c)).reply xs }) h
+opens-there : (side : Side) (h : History) (c : Call) (xs : List Action) → More side h c xs
+    → OpensThere side (record { turn = turns.Call c; answer = answer (own_answer side h (turns.Call c)).reply xs }) h
 opens-there side h c xs more s k e = by c (own_answer side h (turns.Call c)).reply refl more e
   where
-    by : (d : Call) (r : Reply) → (next side h (turns.Call d)).reply ≡ r → More side h d xs → opens_for (with_pair h (turns.Call d) (answer r xs)) s k (turns.Call d) r ≡ true → exists side (with_pair h (turns.Call d) (answer r xs)) k ≡ true
+    by : (d : Call) (r : Reply) → (next side h (turns.Call d)).reply ≡ r → More side h d xs → opens_for (with_pair h (turns.Call d) (answer r xs)) s k (turns.Call d) r ≡ true
+        → exists side (with_pair h (turns.Call d) (answer r xs)) k ≡ true
     by (calls.OpenUni name) (replies.Opening id) q m e =
-        opener-there side h (turns.Call (calls.OpenUni name)) name (local_uni side) id k (replies.Opening id) _ xs (local-uni-small side) (own_answer side h (turns.Call (calls.OpenUni name))) refl (opens-for side h name (local_uni side) id q) (m (local_uni side)) (and-left (id == k) _ e)
+        opener-there side h (turns.Call (calls.OpenUni name)) name (local_uni side) id k (replies.Opening id) _ xs (local-uni-small side) (own_answer side h (turns.Call (calls.OpenUni name))) refl
+        (opens-for side h name (local_uni side) id q) (m (local_uni side)) (and-left (id == k) _ e)
     by (calls.OpenBi name) (replies.Opening id) q m e =
-        opener-there side h (turns.Call (calls.OpenBi name)) name (local_bi side) id k (replies.Opening id) _ xs (local-bi-small side) (own_answer side h (turns.Call (calls.OpenBi name))) refl (opens-for side h name (local_bi side) id q) (m (local_bi side)) (and-left (id == k) _ e)
+        opener-there side h (turns.Call (calls.OpenBi name)) name (local_bi side) id k (replies.Opening id) _ xs (local-bi-small side) (own_answer side h (turns.Call (calls.OpenBi name))) refl
+        (opens-for side h name (local_bi side) id q) (m (local_bi side)) (and-left (id == k) _ e)
     by d r q m e = absurd (cc e)
 
 -- ---- a call
@@ -324,11 +343,13 @@ member-ascends None ids g = g
 member-ascends (Some j) ids g = with-ascends j ids g
 
 -- with its record in the log; of actions the pair has at least those that open streams
-members-pair : (side : Side) (h : History) (log log2 : Log) (c : Call) (xs : List Action) → IsHistory side h → More side h c xs → calls_of log2 ≡ record_of side h c (own_answer side h (turns.Call c)).reply ∷ calls_of log
+members-pair : (side : Side) (h : History) (log log2 : Log) (c : Call) (xs : List Action) → IsHistory side h → More side h c xs
+    → calls_of log2 ≡ record_of side h c (own_answer side h (turns.Call c)).reply ∷ calls_of log
     → MembersIn side h (call_view log) (findings side h) → MembersIn side (with_pair h (turns.Call c) (answer (own_answer side h (turns.Call c)).reply xs)) (call_view log2) (findings side h)
 members-pair side h log log2 c xs i more called x =
     members-then side p h (call_view log) (call_view log2) i x
-    (λ s k. ap (λ (rs : List CallRecord). has_id k (members_of rs s)) called ∙ has-member k (member_by s r) (members_of (calls_of log) s) ∙ ap (λ (b : Bool). is_number k (member_by s r) || b) (x.same s k)
+    (λ s k. ap (λ (rs : List CallRecord). has_id k (members_of rs s)) called ∙ has-member k (member_by s r) (members_of (calls_of log) s)
+    ∙ ap (λ (b : Bool). is_number k (member_by s r) || b) (x.same s k)
     ∙ reply-adds side h (p ∷ h) i (λ name t e. named-stays p h name t e) c (own_answer side h (turns.Call c)).reply refl (fits-own side h c) s k)
     (λ s. subst (λ (rs : List CallRecord). Ascends (members_of rs s)) (sym called) (member-ascends (member_by s r) (members_of (calls_of log) s) (x.ascends s)))
     (opens-there side h c xs more)

@@ -41,7 +41,8 @@ pub record MomentKeeps (side : Side) (h : History) (t : TransportView) (calls : 
   pub critical : (found : List Finding) (table : StreamTable) → IsTable (after_checks side h critical_checks found) (in_order (critical_steps t) table) → Keeps found table
       → Keeps (after_checks side h critical_checks found) (in_order (critical_steps t) table)
 
-module _ (side : Side) (h : History) (t : TransportView) (calls : CallView) (offset : ℕ → ℕ) (s : SeesAlike side h t calls offset) (Keeps : List Finding → StreamTable → Type 0) (kept : MomentKeeps side h t calls Keeps) where
+module _ (side : Side) (h : History) (t : TransportView) (calls : CallView) (offset : ℕ → ℕ) (s : SeesAlike side h t calls offset) (Keeps : List Finding → StreamTable → Type 0)
+    (kept : MomentKeeps side h t calls Keeps) where
   -- what holds before the moment holds at each step of it
   keeps : (cs : List Check) → list_all (asks_peers side) cs ≡ true → (found : List Finding) → Orderly side h calls offset found → Orderly side h calls offset (after_checks side h cs found)
   keeps cs p found o = orderly-checks side h calls offset cs p found o
@@ -75,13 +76,15 @@ module _ (side : Side) (h : History) (t : TransportView) (calls : CallView) (off
   unis-keep : (found : List Finding) (table : StreamTable) → Orderly side h calls offset found → Keeps found table → Keeps (after_checks side h unis found) (scan_unis t calls table)
   unis-keep found table o holds =
       rw (s.views.own, s.unis) (kind-keeps side h t calls (λ (k : ℕ). uni_verdict_of (t.contents k) (t.end k)) (peer_uni side) (peer_count side (events h) (peer_uni side)) (uni-small side) s.ready
-      (λ m. rw (uni-direction side m, s.views.contents (4 * m + peer_uni side), s.views.end (4 * m + peer_uni side)) refl) (admits-agree h t calls s.calls) Keeps (kept.scanned (peer_uni side) (uni-peers side)) found table o.none_early (o.few (peer_uni side) (uni-small side)) holds)
+      (λ m. rw (uni-direction side m, s.views.contents (4 * m + peer_uni side), s.views.end (4 * m + peer_uni side)) refl) (admits-agree h t calls s.calls) Keeps
+      (kept.scanned (peer_uni side) (uni-peers side)) found table o.none_early (o.few (peer_uni side) (uni-small side)) holds)
 
   -- its bidirectional ones
   bis-keep : (found : List Finding) (table : StreamTable) → Orderly side h calls offset found → Keeps found table → Keeps (after_checks side h bis found) (scan_bis t calls table)
   bis-keep found table o holds =
       rw (s.views.own, s.bis) (kind-keeps side h t calls (λ (k : ℕ). bi_verdict_of (t.contents k) (t.end k)) (peer_bi side) (peer_count side (events h) (peer_bi side)) (bi-small side) s.ready
-      (λ m. rw (bi-direction side m, s.views.contents (4 * m + peer_bi side), s.views.end (4 * m + peer_bi side)) refl) (admits-agree h t calls s.calls) Keeps (kept.scanned (peer_bi side) (bi-peers side)) found table o.none_early (o.few (peer_bi side) (bi-small side)) holds)
+      (λ m. rw (bi-direction side m, s.views.contents (4 * m + peer_bi side), s.views.end (4 * m + peer_bi side)) refl) (admits-agree h t calls s.calls) Keeps
+      (kept.scanned (peer_bi side) (bi-peers side)) found table o.none_early (o.few (peer_bi side) (bi-small side)) holds)
 
   -- the established sessions
   sessions-keep : (found : List Finding) (table : StreamTable) → Orderly side h calls offset found → Keeps found table → Keeps (after_checks side h sessions found) (check_sessions t calls table)
@@ -94,7 +97,8 @@ module _ (side : Side) (h : History) (t : TransportView) (calls : CallView) (off
   read-keeps found table o keep = kept.read found table (datagrams-agree side h t calls (datagrams_of (events h)) found table s.ready s.datagrams s.calls o.received (holds found table keep)) keep
 
   -- the order of a moment, part by part
-  pub moment-keeps : (found : List Finding) (table : StreamTable) → Orderly side h calls offset found → Keeps found (on_progress with_no_actions table) → Keeps (after_checks side h (checks side h) found) (scan_order t calls table)
+  pub moment-keeps : (found : List Finding) (table : StreamTable) → Orderly side h calls offset found → Keeps found (on_progress with_no_actions table)
+      → Keeps (after_checks side h (checks side h) found) (scan_order t calls table)
   moment-keeps found table o begun =
       let a = step-keeps side h Keeps holds unis (scan_unis t calls) found (on_progress with_no_actions table) (λ f. unis-keep found (on_progress with_no_actions table) o begun) begun in
       let b = step-keeps side h Keeps holds bis (scan_bis t calls) (after_checks side h unis found) _ (λ f. bis-keep _ _ (keeps unis one found o) a) a in
@@ -111,7 +115,9 @@ module _ (side : Side) (h : History) (t : TransportView) (calls : CallView) (off
       o2 = subst (Orderly side h calls offset) (checks-append side h unis bis found) (keeps (unis ++ bis) two found o)
 
       o3 : Orderly side h calls offset (after_checks side h pieces (after_checks side h bis (after_checks side h unis found)))
-      o3 = subst (Orderly side h calls offset) (checks-append side h (unis ++ bis) pieces found ∙ ap (after_checks side h pieces) (checks-append side h unis bis found)) (keeps ((unis ++ bis) ++ pieces) three found o)
+      o3 =
+          subst (Orderly side h calls offset) (checks-append side h (unis ++ bis) pieces found ∙ ap (after_checks side h pieces) (checks-append side h unis bis found))
+          (keeps ((unis ++ bis) ++ pieces) three found o)
 
 -- that the table holds what was found is kept
 pub moment-agrees : (side : Side) (h : History) (t : TransportView) (calls : CallView) (offset : ℕ → ℕ) → SeesAlike side h t calls offset

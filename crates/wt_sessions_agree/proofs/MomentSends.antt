@@ -47,7 +47,8 @@ use Rattle.wt_wire.specs.declared.error.ErrorCode.TheVariants as h3
 pub all-append : (side : Side) (h : History) (before xs ys : List Finding) → actions_for_all side h before (xs ++ ys) ≡ actions_for_all side h before xs ++ actions_for_all side h (before ++ xs) ys
 all-append side h before [] ys = ap (λ (l : List Finding). actions_for_all side h l ys) (sym (append-nil before))
 all-append side h before (x ∷ xs) ys =
-    ap (λ (l : List Action). actions_for side h before x ++ l) (all-append side h (before ++ x ∷ []) xs ys ∙ ap (λ (l : List Finding). actions_for_all side h (before ++ x ∷ []) xs ++ actions_for_all side h l ys) (sym (cons-append before x xs)))
+    ap (λ (l : List Action). actions_for side h before x ++ l)
+        (all-append side h (before ++ x ∷ []) xs ys ∙ ap (λ (l : List Finding). actions_for_all side h (before ++ x ∷ []) xs ++ actions_for_all side h l ys) (sym (cons-append before x xs)))
     ∙ sym (append_assoc (actions_for side h before x) (actions_for_all side h (before ++ x ∷ []) xs) (actions_for_all side h (before ++ x ∷ xs) ys))
 
 -- a fault alone closes
@@ -102,7 +103,8 @@ quiet-found side h found DecoderEnd q = quiet-end side h (first_of decoder_in fo
 quiet-found side h found c q = absurd (cc q)
 
 -- so do all that such checks find, one after another
-quiet-more : (side : Side) (h : History) (cs : List Check) → list_all is_quiet cs ≡ true → (found : List Finding) → fault_of found ≡ None → actions_for_all side h found (more side h cs found) ≡ close_actions (fault_of (more side h cs found))
+quiet-more : (side : Side) (h : History) (cs : List Check) → list_all is_quiet cs ≡ true → (found : List Finding) → fault_of found ≡ None
+    → actions_for_all side h found (more side h cs found) ≡ close_actions (fault_of (more side h cs found))
 quiet-more side h [] q found f = refl
 quiet-more side h (c ∷ later) q found f = rw f (by (fault_of xs) refl (quiet-more side h later (and-right (is_quiet c) (list_all is_quiet later) q) (found ++ xs)))
   where
@@ -118,7 +120,8 @@ quiet-more side h (c ∷ later) q found f = rw f (by (fault_of xs) refl (quiet-m
     now : (o : Option ErrorCode) → fault_of xs ≡ o → fault_of (found ++ xs) ≡ o
     now o e = first_of-append fault_in found xs ∙ rw (f, e) refl
 
-    by : (o : Option ErrorCode) → fault_of xs ≡ o → (fault_of (found ++ xs) ≡ None → actions_for_all side h (found ++ xs) all ≡ close_actions (fault_of all)) → actions_for_all side h found (xs ++ all) ≡ close_actions (fault_of (xs ++ all))
+    by : (o : Option ErrorCode) → fault_of xs ≡ o → (fault_of (found ++ xs) ≡ None → actions_for_all side h (found ++ xs) all ≡ close_actions (fault_of all))
+        → actions_for_all side h found (xs ++ all) ≡ close_actions (fault_of (xs ++ all))
     by (Some code) e again =
         let none : all ≡ [] = stopped later code (now (Some code) e) in
         ap (λ (l : List Finding). actions_for_all side h found (xs ++ l)) none ∙ ap (actions_for_all side h found) (append-nil xs) ∙ sent
@@ -213,7 +216,8 @@ critical-acts t table = in-order-acts (critical_steps t) (own, (controlled, (enc
 -- ---- the whole moment
 
 module _ (side : Side) (h : History) (t : TransportView) (calls : CallView) (offset : ℕ → ℕ) (s : SeesAlike side h t calls offset) (Good : List Finding → Type 0) (kept : Kept side h Good)
-    (alike : (found : List Finding) (table : StreamTable) → Good found → IsTable found table → (k : ℕ) → is_gone h found k ≡ false → session_gone_actions side h found k ≡ gone_actions t (dispatched_streams calls table) k)
+    (alike : (found : List Finding) (table : StreamTable) → Good found → IsTable found table → (k : ℕ) → is_gone h found k ≡ false
+    → session_gone_actions side h found k ≡ gone_actions t (dispatched_streams calls table) k)
     (fresh : (found : List Finding) → Good found → (k : ℕ) → is_peers side k ≡ true → is_classified found k ≡ false → is_gone h found k ≡ false)
     (base : List Action) where
   -- what was found leads to these, what the steps gathered, and the close
@@ -235,14 +239,16 @@ module _ (side : Side) (h : History) (t : TransportView) (calls : CallView) (off
           (e ∙ ap (λ (o : Option ErrorCode). base ++ (table.progress.actions ++ close_actions o)) n ∙ ap (λ (l : List Action). base ++ l) (append-nil table.progress.actions))
       ∙ ap (λ (l : List Action). (base ++ table.progress.actions) ++ l) q
       ∙ append_assoc base table.progress.actions (own ++ close_actions later.progress.fault)
-      ∙ ap (λ (l : List Action). base ++ l) (sym (append_assoc table.progress.actions own (close_actions later.progress.fault)) ∙ ap (λ (l : List Action). l ++ close_actions later.progress.fault) (sym a))
+      ∙ ap (λ (l : List Action). base ++ l) (sym (append_assoc table.progress.actions own (close_actions later.progress.fault))
+      ∙ ap (λ (l : List Action). l ++ close_actions later.progress.fault) (sym a))
 
   -- ---- a stream that is classified
 
   ripe-acts : (found : List Finding) (table : StreamTable) (k : ℕ) (w : Verdict) → Good found → IsTable found table → is_peers side k ≡ true → is_classified found k ≡ false
       → actions_for side h found (Classified k w (consequence t (dispatched_streams calls table) k w).admitted) ≡ (consequence t (dispatched_streams calls table) k w).actions
   ripe-acts found table k (verdicts.WebTransport session o) g b p r =
-      rw (gone-agrees h calls found table session s.calls b) (by (is_gone h found session) (has_room (dispatched_streams calls table) session (map (λ (w : tables.Waiting). w.session) (tables.waiting_streams calls table))) refl)
+      rw (gone-agrees h calls found table session s.calls b)
+          (by (is_gone h found session) (has_room (dispatched_streams calls table) session (map (λ (w : tables.Waiting). w.session) (tables.waiting_streams calls table))) refl)
     where
       by : (x y : Bool) → is_gone h found session ≡ x → actions_for side h found (Classified k (verdicts.WebTransport session o) (admit_or_stop x y k).admitted) ≡ (admit_or_stop x y k).actions
       by true y e = rw e refl
@@ -274,7 +280,8 @@ module _ (side : Side) (h : History) (t : TransportView) (calls : CallView) (off
   ripe-acts found table k verdicts.Dropped g b p r = refl
   ripe-acts found table k (verdicts.Fault code) g b p r = refl
 
-  ripe-keeps : (found : List Finding) (table : StreamTable) (k : ℕ) (w : Verdict) → fault_of found ≡ None → is_peers side k ≡ true → is_dequeued found k ≡ true → is_classified found k ≡ false → verdict h k ≡ w → Keeps found table
+  ripe-keeps : (found : List Finding) (table : StreamTable) (k : ℕ) (w : Verdict) → fault_of found ≡ None → is_peers side k ≡ true → is_dequeued found k ≡ true → is_classified found k ≡ false
+      → verdict h k ≡ w → Keeps found table
       → let c = consequence t (dispatched_streams calls table) k w in Keeps ((found ++ Classified k w c.admitted ∷ []) ++ faults_of c.fault) (with_classified k w c table)
   ripe-keeps found table k w f p d r v keep = record {
     holds = ripe-table found table k w c.admitted c.actions c.fault f keep.holds;
@@ -309,7 +316,9 @@ module _ (side : Side) (h : History) (t : TransportView) (calls : CallView) (off
       taken : (m : ℕ) (found : List Finding) (table : StreamTable) → fault_of found ≡ None → Keeps found table → Keeps (found ++ Dequeued (4 * m + kind) ∷ []) table
       taken m found table f keep = record {
         holds = table-same found table (Dequeued (4 * m + kind)) refl refl refl refl refl refl keep.holds;
-        sends = let n : table.progress.fault ≡ None = sym keep.holds.fault ∙ f in step-sends found (Dequeued (4 * m + kind) ∷ []) table table [] keep.sends n (sym (append-nil table.progress.actions)) (ap close_actions (sym n));
+        sends =
+            let n : table.progress.fault ≡ None = sym keep.holds.fault ∙ f in
+            step-sends found (Dequeued (4 * m + kind) ∷ []) table table [] keep.sends n (sym (append-nil table.progress.actions)) (ap close_actions (sym n));
         good = kept found (Dequeued (4 * m + kind) ∷ []) (ADequeued (4 * m + kind) (peers m)) f keep.good;
       }
 
@@ -320,13 +329,18 @@ module _ (side : Side) (h : History) (t : TransportView) (calls : CallView) (off
   walked found table k by_capsule walks.Running f l keep = subst (λ (xs : List Finding). Keeps xs table) (sym (append-nil found)) keep
   walked found table k by_capsule (walks.Fault code) f l keep = record {
     holds = walked-table t calls found table k by_capsule (walks.Fault code) f keep.holds;
-    sends = step-sends found (Faulted code ∷ []) table (session_walked t calls k by_capsule (walks.Fault code) table) [] keep.sends (sym keep.holds.fault ∙ f) (sym (append-nil table.progress.actions)) refl;
+    sends =
+        step-sends found (Faulted code ∷ []) table (session_walked t calls k by_capsule (walks.Fault code) table) [] keep.sends (sym keep.holds.fault ∙ f)
+        (sym (append-nil table.progress.actions)) refl;
     good = kept found (Faulted code ∷ []) (AFault code) f keep.good;
   }
   walked found table k by_capsule (walks.Closed code reason) f l keep = record {
     holds = walked-table t calls found table k by_capsule (walks.Closed code reason) f keep.holds;
-    sends = step-sends found (SessionClosed k code reason by_capsule ∷ []) table (session_walked t calls k by_capsule (walks.Closed code reason) table) (session_end t k by_capsule ++ gone_actions t (dispatched_streams calls table) k) keep.sends none refl
-        (append-nil (actions_for side h found (SessionClosed k code reason by_capsule)) ∙ acts by_capsule ∙ sym (append-nil (session_end t k by_capsule ++ gone_actions t (dispatched_streams calls table) k))
+    sends =
+        step-sends found (SessionClosed k code reason by_capsule ∷ []) table (session_walked t calls k by_capsule (walks.Closed code reason) table)
+        (session_end t k by_capsule ++ gone_actions t (dispatched_streams calls table) k) keep.sends none refl
+        (append-nil (actions_for side h found (SessionClosed k code reason by_capsule)) ∙ acts by_capsule
+        ∙ sym (append-nil (session_end t k by_capsule ++ gone_actions t (dispatched_streams calls table) k))
         ∙ ap (λ (o : Option ErrorCode). (session_end t k by_capsule ++ gone_actions t (dispatched_streams calls table) k) ++ close_actions o) (sym none));
     good = kept found (SessionClosed k code reason by_capsule ∷ []) (AClosed k code reason by_capsule l) f keep.good;
   }
@@ -355,7 +369,8 @@ module _ (side : Side) (h : History) (t : TransportView) (calls : CallView) (off
 
   -- ---- datagrams and critical streams
 
-  quiet-keeps : (cs : List Check) → list_all is_quiet cs ≡ true → list_all (asks_peers side) cs ≡ true → (found : List Finding) (table later : StreamTable) → later.progress.actions ≡ table.progress.actions
+  quiet-keeps : (cs : List Check) → list_all is_quiet cs ≡ true → list_all (asks_peers side) cs ≡ true → (found : List Finding) (table later : StreamTable)
+      → later.progress.actions ≡ table.progress.actions
       → IsTable (after_checks side h cs found) later → Keeps found table → Keeps (after_checks side h cs found) later
   quiet-keeps cs q a found table later e holds keep = record { holds = holds; sends = by (fault_of found) refl; good = checks-keep side h Good kept cs found a keep.good }
     where
@@ -367,14 +382,19 @@ module _ (side : Side) (h : History) (t : TransportView) (calls : CallView) (off
           ∙ ap (λ (o : Option ErrorCode). base ++ (table.progress.actions ++ close_actions o)) n ∙ ap (λ (l : List Action). base ++ (l ++ close_actions later.progress.fault)) (sym e)
       by None f =
           let n : later.progress.fault ≡ fault_of (more side h cs found)
-                = sym holds.fault ∙ ap fault_of (checks-add side h cs found) ∙ first_of-append fault_in found (more side h cs found) ∙ ap (λ (o : Option ErrorCode). option_or o (fault_of (more side h cs found))) f in
+                =
+                    sym holds.fault ∙ ap fault_of (checks-add side h cs found) ∙ first_of-append fault_in found (more side h cs found)
+                    ∙ ap (λ (o : Option ErrorCode). option_or o (fault_of (more side h cs found))) f in
           subst (λ (l : List Finding). Sends l later) (sym (checks-add side h cs found))
-          (step-sends found (more side h cs found) table later [] keep.sends (sym keep.holds.fault ∙ f) (e ∙ sym (append-nil table.progress.actions)) (quiet-more side h cs q found f ∙ ap close_actions (sym n)))
+          (step-sends found (more side h cs found) table later [] keep.sends (sym keep.holds.fault ∙ f) (e ∙ sym (append-nil table.progress.actions))
+          (quiet-more side h cs q found f ∙ ap close_actions (sym n)))
 
   moment-kept : MomentKeeps side h t calls Keeps
   moment-kept = record {
     scanned = λ kind peers. scan-kept kind peers;
-    read = λ found table holds keep. quiet-keeps (datagram_checks 0 (datagrams_of (events h))) (reads-quiet 0 (datagrams_of (events h))) (reads-peers side 0 (datagrams_of (events h))) found table _ (datagrams-acts t calls table) holds keep;
+    read =
+        λ found table holds keep. quiet-keeps (datagram_checks 0 (datagrams_of (events h))) (reads-quiet 0 (datagrams_of (events h))) (reads-peers side 0 (datagrams_of (events h))) found table _
+        (datagrams-acts t calls table) holds keep;
     walked = walk-kept;
     critical = λ found table holds keep. quiet-keeps critical_checks refl refl found table _ (critical-acts t table) holds keep;
   }
@@ -383,7 +403,8 @@ module _ (side : Side) (h : History) (t : TransportView) (calls : CallView) (off
 
 -- what goes out for all that a moment finds
 pub moment-sends : (side : Side) (h : History) (t : TransportView) (calls : CallView) (offset : ℕ → ℕ) → SeesAlike side h t calls offset → (Good : List Finding → Type 0) → Kept side h Good
-    → ((found : List Finding) (table : StreamTable) → Good found → IsTable found table → (k : ℕ) → is_gone h found k ≡ false → session_gone_actions side h found k ≡ gone_actions t (dispatched_streams calls table) k)
+    → ((found : List Finding) (table : StreamTable) → Good found → IsTable found table → (k : ℕ) → is_gone h found k ≡ false
+    → session_gone_actions side h found k ≡ gone_actions t (dispatched_streams calls table) k)
     → ((found : List Finding) → Good found → (k : ℕ) → is_peers side k ≡ true → is_classified found k ≡ false → is_gone h found k ≡ false)
     → (found : List Finding) (table : StreamTable) → Orderly side h calls offset found → Good found → IsTable found table → fault_of found ≡ None
     → actions_for_all side h found (more side h (checks side h) found) ≡ (scan_order t calls table).progress.actions ++ close_actions (scan_order t calls table).progress.fault

@@ -80,7 +80,8 @@ open-connect : (side : Side) (h : History) (frame : List ℕ) (s : ℕ) (a : Ans
 open-connect side h frame s a g = record {
   opened = g.open_then;
   closes-none = ap (list_any closes) g.acts
-      ∙ none-append closes (action_if (not (is_opened h)) (actions.Opened 0)) (send h 0 (head_left h 0 frame)) (none-if closes (not (is_opened h)) (actions.Opened 0) refl) (sent-none h 0 (head_left h 0 frame));
+      ∙ none-append closes (action_if (not (is_opened h)) (actions.Opened 0)) (send h 0 (head_left h 0 frame)) (none-if closes (not (is_opened h)) (actions.Opened 0) refl)
+      (sent-none h 0 (head_left h 0 frame));
 }
 
 open-poll : (side : Side) (h : History) (s : ℕ) (a : Answer) (o : Option Call) → PollGives side h s a o → GivesOpen h a
@@ -181,7 +182,8 @@ module _ (side : Side) (offset : ℕ → ℕ) (h : History) (log : Log) (x : Sta
   same-count : stream_count side after 0 ≡ stream_count side (pair ∷ h) 0
   same-count = ap (λ (n : ℕ). streams.peer_count side (all_events after) 0 + n) (opened-next side h (turns.Call c))
 
-  alike-by : (at : ℕ → ℕ) → (call_view now).sessions ≡ filter_map (session_at after at) (ids_from 0 0 (stream_count side after 0)) → SeesAlike side (pair ∷ h) (transport_view side now) (call_view now) at
+  alike-by : (at : ℕ → ℕ) → (call_view now).sessions ≡ filter_map (session_at after at) (ids_from 0 0 (stream_count side after 0))
+      → SeesAlike side (pair ∷ h) (transport_view side now) (call_view now) at
   alike-by at s = sees-alike side at (pair ∷ h) now events-now bytes-now calls-now (s ∙ ap (λ (n : ℕ). filter_map (session_at after at) (ids_from 0 0 n)) same-count)
 
   moment-now : is_open (pair ∷ h) ≡ true → (is_moment (Called left) && logs.is_open now) ≡ true
@@ -226,7 +228,8 @@ module _ (side : Side) (offset : ℕ → ℕ) (h : History) (log : Log) (x : Sta
   called-later : calls_of later ≡ left ∷ calls_of log
   called-later = flushed calls_of acted-calls side (Called left) front ∙ called-now
 
-  module _ (begins : ℕ → ℕ) (sessions : (log2 : Log) → calls_of log2 ≡ left ∷ calls_of log → (call_view log2).sessions ≡ filter_map (session_at after begins) (ids_from 0 0 (stream_count side after 0)))
+  module _ (begins : ℕ → ℕ) (sessions : (log2 : Log) → calls_of log2 ≡ left ∷ calls_of log
+      → (call_view log2).sessions ≡ filter_map (session_at after begins) (ids_from 0 0 (stream_count side after 0)))
       (before : Orderly side after (call_view now) begins (findings side h))
       (idle : is_open h ≡ true → is_open (pair ∷ h) ≡ false → after_checks side (pair ∷ h) (checks side (pair ∷ h)) (findings side h) ≡ findings side h) where
     alike : SeesAlike side (pair ∷ h) (transport_view side now) (call_view now) begins
@@ -276,5 +279,6 @@ module _ (side : Side) (offset : ℕ → ℕ) (h : History) (log : Log) (x : Sta
           (λ o d. idle-call side h pair hist o e c refl)
       by (Some id) e =
           let r : mine.reply ≡ replies.Session id = session-reply mine.reply id e in
-          agrees (with-offset id (part_start side h id) offset) (λ log2 called. sessions-session side offset h log x hist c lawful log2 called id r) (order-session side offset h log x hist c lawful now called-now id r)
+          agrees (with-offset id (part_start side h id) offset) (λ log2 called. sessions-session side offset h log x hist c lawful log2 called id r)
+              (order-session side offset h log x hist c lawful now called-now id r)
           (λ o d. absurd (let t = gives-idle id e in cc (sym t ∙ d)))

@@ -54,7 +54,8 @@ no-receive : (h : History) (s : ℕ) (turn : Turn) → is_call turn ≡ false �
 no-receive h s (turns.Call c) e = absurd (cc e)
 no-receive h s turn e = refl
 
-pub order-plain : (side : Side) (offset : ℕ → ℕ) (h : History) (log : Log) → IsHistory side h → Stands side offset h log → (turn : Turn) → is_call turn ≡ false → is_lawful side h turn ≡ true → (xs : List Action)
+pub order-plain : (side : Side) (offset : ℕ → ℕ) (h : History) (log : Log) → IsHistory side h → Stands side offset h log → (turn : Turn) → is_call turn ≡ false → is_lawful side h turn ≡ true
+    → (xs : List Action)
     → (log2 : Log) → calls_of log2 ≡ calls_of log → Orderly side (with_pair h turn (answer replies.Done (join_all [] xs))) (call_view log2) offset (findings side h)
 order-plain side offset h log hist x turn plain lawful xs log2 called = record {
   few = x.orderly.few;
@@ -78,7 +79,10 @@ order-plain side offset h log hist x turn plain lawful xs log2 called = record {
 -- ---- a call that receives no datagram
 
 receive-passes : (n : ℕ) → Passes (drivers.receives n) false
-receive-passes n = record { aside = record { polled = refl; started = λ r i. refl; response = λ a i. refl; over = refl; failed = refl }; unsent = λ i c. refl; priority = λ i p. refl; given_up = λ i. refl; rejected = λ s. refl }
+receive-passes n = record {
+  aside = record { polled = refl; started = λ r i. refl; response = λ a i. refl; over = refl; failed = refl };
+  unsent = λ i c. refl; priority = λ i p. refl; given_up = λ i. refl; rejected = λ s. refl;
+}
 
 received-by : (side : Side) (h : History) (c : Call) (n : ℕ) (reply : Reply) → is_payload reply ≡ false → drivers.receives n (record_of side h c reply) ≡ false
 received-by side h c n (replies.Datagram payload) e = absurd (cc e)
@@ -114,7 +118,8 @@ payload-call c payload f = absurd (cc f)
 abbrev Receives : Side → History → Log → Call → Type 0
 Receives side h log c = Received (step side h (turns.Call c)) (view-of (record_of side h c (own_answer side h (turns.Call c)).reply ∷ calls_of log)) (findings side h)
 
-received-of : (side : Side) (offset : ℕ → ℕ) (h : History) (log : Log) → Stands side offset h log → (name : Option ℕ) (payload : List ℕ) → (own_answer side h (turns.Call (calls.ReceiveDatagram name))).reply ≡ replies.Datagram payload
+received-of : (side : Side) (offset : ℕ → ℕ) (h : History) (log : Log) → Stands side offset h log → (name : Option ℕ) (payload : List ℕ)
+    → (own_answer side h (turns.Call (calls.ReceiveDatagram name))).reply ≡ replies.Datagram payload
     → (s : ℕ) → named h name ≡ Some s → first_datagram side h s ≡ Some payload → Receives side h log (calls.ReceiveDatagram name)
 received-of side offset h log x name payload e s named-is first = by (left_datagrams side h s) refl
   where
@@ -125,8 +130,10 @@ received-of side offset h log x name payload e s named-is first = by (left_datag
         none true r = cc r
         none false r = let m = ap (first_of (λ (d : ℕ × List ℕ). Some d.1)) (waiting-pairs side h s ∙ ap (map pair-of) q) in cc (sym m ∙ r)
     by (d ∷ rest) q =
-        received-one h (step side h (turns.Call (calls.ReceiveDatagram name))) (call_view log) (view-of (record_of side h (calls.ReceiveDatagram name) (own_answer side h (turns.Call (calls.ReceiveDatagram name))).reply ∷ calls_of log)) (findings side h) s d rest q
-        (λ n. ap (λ (b : Bool). b || list_any (drivers.receives n) (calls_of log)) (ap (λ (r : Reply). drivers.receives n (record_of side h (calls.ReceiveDatagram name) r)) e ∙ ap (λ (i : ℕ). i == n) index))
+        received-one h (step side h (turns.Call (calls.ReceiveDatagram name))) (call_view log)
+        (view-of (record_of side h (calls.ReceiveDatagram name) (own_answer side h (turns.Call (calls.ReceiveDatagram name))).reply ∷ calls_of log)) (findings side h) s d rest q
+        (λ n. ap (λ (b : Bool). b || list_any (drivers.receives n) (calls_of log))
+        (ap (λ (r : Reply). drivers.receives n (record_of side h (calls.ReceiveDatagram name) r)) e ∙ ap (λ (i : ℕ). i == n) index))
         (counted s ∙ ap (λ (b : Bool). if b then suc (received_count h s) else received_count h s) (eq-eqb s s refl))
         (λ t f. counted t ∙ ap (λ (b : Bool). if b then suc (received_count h t) else received_count h t) (swapped t s f))
         (λ t. same-established (record { turn = turns.Call (calls.ReceiveDatagram name); answer = next side h (turns.Call (calls.ReceiveDatagram name)) }) h t (ap session_in e))
@@ -140,7 +147,8 @@ received-of side offset h log x name payload e s named-is first = by (left_datag
             ap (λ (r : Reply). if receives h t (turns.Call (calls.ReceiveDatagram name)) r then suc (received_count h t) else received_count h t) e
             ∙ ap (λ (o : Option ℕ). if is_number t o then suc (received_count h t) else received_count h t) named-is
 
-received-now : (side : Side) (offset : ℕ → ℕ) (h : History) (log : Log) → Stands side offset h log → (name : Option ℕ) (payload : List ℕ) → (own_answer side h (turns.Call (calls.ReceiveDatagram name))).reply ≡ replies.Datagram payload
+received-now : (side : Side) (offset : ℕ → ℕ) (h : History) (log : Log) → Stands side offset h log → (name : Option ℕ) (payload : List ℕ)
+    → (own_answer side h (turns.Call (calls.ReceiveDatagram name))).reply ≡ replies.Datagram payload
     → Receives side h log (calls.ReceiveDatagram name)
 received-now side offset h log x name payload e = let got = datagram-received side h name payload e in received-of side offset h log x name payload e got.0 got.1 got.2
 
@@ -158,8 +166,10 @@ module _ (side : Side) (offset : ℕ → ℕ) (h : History) (log : Log) (x : Sta
 
   same-begins : (k : ℕ) → begins_at after (findings side h) k ≡ begins_at h (findings side h) k
   same-begins k =
-      ap (λ (es : List Event). unwrap_or (after_request (verdict_of (findings side h) k)) (after_response (response_walk_of (contents after k) (end_of es k)))) (called-events h c (next side h (turns.Call c)))
-      ∙ ap (λ (bytes : List ℕ). unwrap_or (after_request (verdict_of (findings side h) k)) (after_response (response_walk_of bytes (end_of (events h) k)))) (called-contents h c (next side h (turns.Call c)) k)
+      ap (λ (es : List Event). unwrap_or (after_request (verdict_of (findings side h) k)) (after_response (response_walk_of (contents after k) (end_of es k))))
+          (called-events h c (next side h (turns.Call c)))
+      ∙ ap (λ (bytes : List ℕ). unwrap_or (after_request (verdict_of (findings side h) k)) (after_response (response_walk_of bytes (end_of (events h) k))))
+      (called-contents h c (next side h (turns.Call c)) k)
 
   received-call : Receives side h log c
   received-call = by (is_payload own.reply) refl

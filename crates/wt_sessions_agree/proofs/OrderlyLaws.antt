@@ -32,19 +32,22 @@ early-list (f ∷ new) found k e d =
     ∙ early-list new (found ++ f ∷ []) k (and-right (dequeues-none f) (list_all dequeues-none new) e)
     (dequeued-append found f k ∙ rw (d, none-dequeued f (and-left (dequeues-none f) (list_all dequeues-none new) e) k) refl)
 
-early-checks : (side : Side) (h : History) → is_ready side h ≡ false → (cs : List Check) (found : List Finding) → ((k : ℕ) → is_dequeued found k ≡ false) → (k : ℕ) → is_dequeued (after_checks side h cs found) k ≡ false
+early-checks : (side : Side) (h : History) → is_ready side h ≡ false → (cs : List Check) (found : List Finding) → ((k : ℕ) → is_dequeued found k ≡ false) → (k : ℕ)
+    → is_dequeued (after_checks side h cs found) k ≡ false
 early-checks side h e [] found none k = none k
 early-checks side h e (c ∷ cs) found none k =
     by (is_some (fault_of found)) (early-checks side h e cs (found ++ found_by side h found c) (λ j. early-list (found_by side h found c) found j (plain-check side h found c e) (none j)) k)
   where
-    by : (b : Bool) → is_dequeued (after_checks side h cs (found ++ found_by side h found c)) k ≡ false → is_dequeued (if b then found else after_checks side h cs (found ++ found_by side h found c)) k ≡ false
+    by : (b : Bool) → is_dequeued (after_checks side h cs (found ++ found_by side h found c)) k ≡ false
+        → is_dequeued (if b then found else after_checks side h cs (found ++ found_by side h found c)) k ≡ false
     by true again = none k
     by false again = again
 
 -- ---- a fault changes nothing else
 
 -- what is kept by a fault alone is kept by a stream's fault
-pub stream-fault-keeps : (Good : List Finding → Type 0) → ((found : List Finding) (code : ErrorCode) → Good found → Good (found ++ Faulted code ∷ [])) → (found before : List Finding) (v : Verdict) → Good found → Good (found ++ stream_fault before v)
+pub stream-fault-keeps : (Good : List Finding → Type 0) → ((found : List Finding) (code : ErrorCode) → Good found → Good (found ++ Faulted code ∷ [])) → (found before : List Finding) (v : Verdict)
+    → Good found → Good (found ++ stream_fault before v)
 stream-fault-keeps Good kept found before v g = by v
   where
     none : Good (found ++ [])
@@ -68,7 +71,8 @@ received-kept side h calls found _ Nothing f r = subst (Received h calls) (sym (
 received-kept side h calls found _ (ADequeued k p) f r = received-same h calls found (Dequeued k) refl refl r
 received-kept side h calls found _ (AClassified k v more p d c e m) f r =
     subst (Received h calls) (ap (λ (l : List Finding). (found ++ finds.Classified k v (keeps h found v) ∷ []) ++ l) (sym m) ∙ sym (cons-append found (finds.Classified k v (keeps h found v)) more))
-    (stream-fault-keeps (Received h calls) (λ before code g. received-same h calls before (Faulted code) refl refl g) (found ++ finds.Classified k v (keeps h found v) ∷ []) found v (received-same h calls found (finds.Classified k v (keeps h found v)) refl refl r))
+    (stream-fault-keeps (Received h calls) (λ before code g. received-same h calls before (Faulted code) refl refl g) (found ++ finds.Classified k v (keeps h found v) ∷ []) found v
+    (received-same h calls found (finds.Classified k v (keeps h found v)) refl refl r))
 received-kept side h calls found _ (ADatagram n s payload e) f r = received-more h calls found n s payload _ (eqb-true (length (filter is_datagram found)) n e) r
 received-kept side h calls found _ (AClosed s code reason by_capsule e) f r = received-same h calls found (SessionClosed s code reason by_capsule) refl refl r
 received-kept side h calls found _ (ASettings e) f r = received-same h calls found SettingsRead refl refl r
@@ -90,7 +94,8 @@ known-more side h found f kn k e = by (is_of_peer side k) (is_classified found k
     by true true q x = rw (classified-append found f k, q) refl
     by true false q x = absurd (cc x)
 
-parts-same : (side : Side) (h : History) (offset : ℕ → ℕ) (found : List Finding) (f : Finding) → ((k : ℕ) → is_established h k ≡ true → verdict_in k f ≡ None) → Parts side h offset found → Parts side h offset (found ++ f ∷ [])
+parts-same : (side : Side) (h : History) (offset : ℕ → ℕ) (found : List Finding) (f : Finding) → ((k : ℕ) → is_established h k ≡ true → verdict_in k f ≡ None) → Parts side h offset found
+    → Parts side h offset (found ++ f ∷ [])
 parts-same side h offset found f e p = record { begin = begin-same h offset found f e p.begin; known = known-more side h found f p.known }
 
 pub parts-kept : (side : Side) (h : History) (offset : ℕ → ℕ) → Kept side h (Parts side h offset)
@@ -114,7 +119,8 @@ parts-kept side h offset found _ (AFault code) f r = parts-same side h offset fo
 
 -- ---- all of it
 
-pub orderly-checks : (side : Side) (h : History) (calls : CallView) (offset : ℕ → ℕ) (cs : List Check) → list_all (asks_peers side) cs ≡ true → (found : List Finding) → Orderly side h calls offset found → Orderly side h calls offset (after_checks side h cs found)
+pub orderly-checks : (side : Side) (h : History) (calls : CallView) (offset : ℕ → ℕ) (cs : List Check) → list_all (asks_peers side) cs ≡ true → (found : List Finding)
+    → Orderly side h calls offset found → Orderly side h calls offset (after_checks side h cs found)
 orderly-checks side h calls offset cs p found o =
     let parts = checks-keep side h (Parts side h offset) (parts-kept side h offset) cs found p (record { begin = o.begin; known = o.known }) in
     record {

@@ -27,7 +27,8 @@ any-newest test (x ∷ xs) before = any-newest test xs (x ∷ before) ∙ turned
     turned true false c = refl
     turned false b c = refl
 
-any-out : (test : Action → Bool) → AnyPiece test → (xs as_ bs : List Action) → list_any test as_ ≡ list_any test bs → list_any test (newest_first (join_all [] xs) as_) ≡ list_any test (newest_first xs bs)
+any-out : (test : Action → Bool) → AnyPiece test → (xs as_ bs : List Action) → list_any test as_ ≡ list_any test bs
+    → list_any test (newest_first (join_all [] xs) as_) ≡ list_any test (newest_first xs bs)
 any-out test n xs as_ bs e = any-newest test (join_all [] xs) as_ ∙ rw (any-join_all test n [] xs, e) refl ∙ sym (any-newest test xs bs)
 
 -- ---- bytes

@@ -48,7 +48,8 @@ use Rattle.wt_message.specs.StreamTypes.{control_type, decoder_type, encoder_typ
 
 -- ---- a response stays, whatever comes later
 
-response-then : (bytes : List ℕ) (end : StreamEnd) (fields : Fields) (at : ℕ) → response_walk_of bytes end ≡ responses.Response fields at → response_walk_of bytes ends.Running ≡ responses.Response fields at
+response-then : (bytes : List ℕ) (end : StreamEnd) (fields : Fields) (at : ℕ) → response_walk_of bytes end ≡ responses.Response fields at
+    → response_walk_of bytes ends.Running ≡ responses.Response fields at
 unfolding response_walk_of
 response-then bytes end fields at e = by (whole_walk response_decides 0 bytes).stop refl e
   where
@@ -59,11 +60,13 @@ response-then bytes end fields at e = by (whole_walk response_decides 0 bytes).s
 
     by : (o : Option ResponseWalk) → (whole_walk response_decides 0 bytes).stop ≡ o
         → unwrap_or o (response_unfinished end (whole_walk response_decides 0 bytes).state (whole_walk response_decides 0 bytes).between) ≡ responses.Response fields at
-        → unwrap_or (whole_walk response_decides 0 bytes).stop (response_unfinished ends.Running (whole_walk response_decides 0 bytes).state (whole_walk response_decides 0 bytes).between) ≡ responses.Response fields at
+        → unwrap_or (whole_walk response_decides 0 bytes).stop (response_unfinished ends.Running (whole_walk response_decides 0 bytes).state (whole_walk response_decides 0 bytes).between)
+        ≡ responses.Response fields at
     by (Some w) q r = rw q r
     by None q r = absurd (unfinished end (whole_walk response_decides 0 bytes).state (whole_walk response_decides 0 bytes).between r)
 
-pub response-stays : (bytes more : List ℕ) (end later : StreamEnd) (fields : Fields) (at : ℕ) → response_walk_of bytes end ≡ responses.Response fields at → response_walk_of (bytes ++ more) later ≡ responses.Response fields at
+pub response-stays : (bytes more : List ℕ) (end later : StreamEnd) (fields : Fields) (at : ℕ) → response_walk_of bytes end ≡ responses.Response fields at
+    → response_walk_of (bytes ++ more) later ≡ responses.Response fields at
 response-stays bytes more end later fields at e =
     let r = response-then bytes end fields at e in
     response_walk_stays bytes more later (ap (λ (w : ResponseWalk). is_answered w) r) ∙ r
@@ -160,7 +163,8 @@ queued-with k found new n g e =
       came = list_any-append (dequeues k) found new ∙ ap (λ (b : Bool). b || list_any (dequeues k) new) r.came;
     }
 
-queued-now : (h : History) (k : ℕ) (found more : List Finding) (headers : Fields) (offset : ℕ) (b : Bool) → is_dequeued found k ≡ true → is_classified found k ≡ false → verdict h k ≡ verdicts.Request headers offset
+queued-now : (h : History) (k : ℕ) (found more : List Finding) (headers : Fields) (offset : ℕ) (b : Bool) → is_dequeued found k ≡ true → is_classified found k ≡ false
+    → verdict h k ≡ verdicts.Request headers offset
     → Queued k (found ++ (Classified k (verdicts.Request headers offset) b ∷ more))
 queued-now h k found more headers offset b d c w e = record {
   headers = headers;
@@ -169,7 +173,9 @@ queued-now h k found more headers offset b d c w e = record {
       first_of-append (verdict_in k) found (Classified k (verdicts.Request headers offset) b ∷ more)
       ∙ ap (λ (o : Option Verdict). option_or o (first_of (verdict_in k) (Classified k (verdicts.Request headers offset) b ∷ more))) (is-none (verdict_of found k) c) ∙ here;
   is_bi = request-bi h k headers offset w;
-  came = list_any-append (dequeues k) found (Classified k (verdicts.Request headers offset) b ∷ more) ∙ ap (λ (x : Bool). x || list_any (dequeues k) (Classified k (verdicts.Request headers offset) b ∷ more)) d;
+  came =
+      list_any-append (dequeues k) found (Classified k (verdicts.Request headers offset) b ∷ more)
+      ∙ ap (λ (x : Bool). x || list_any (dequeues k) (Classified k (verdicts.Request headers offset) b ∷ more)) d;
 }
   where
     here : first_of (verdict_in k) (Classified k (verdicts.Request headers offset) b ∷ more) ≡ Some (verdicts.Request headers offset)
@@ -207,7 +213,8 @@ pub queues-has : (k : ℕ) (found : List Finding) → has (filter_map queued_req
 queues-has k [] e = absurd (cc e)
 queues-has k (Classified id (verdicts.Request headers offset) true ∷ found) e = by (id == k) e (queues-has k found)
   where
-    by : (b : Bool) → (b || has (filter_map queued_request found) k) ≡ true → (has (filter_map queued_request found) k ≡ true → list_any (queues k) found ≡ true) → (b || list_any (queues k) found) ≡ true
+    by : (b : Bool) → (b || has (filter_map queued_request found) k) ≡ true → (has (filter_map queued_request found) k ≡ true → list_any (queues k) found ≡ true)
+        → (b || list_any (queues k) found) ≡ true
     by true q again = refl
     by false q again = again q
 queues-has k (x ∷ found) e = queues-has k found e
@@ -230,11 +237,14 @@ parted-stays side p h k (ByRequest r c) = ByRequest (record {
   offset = r.offset;
   is_verdict = verdict-stays side p h k (verdicts.Request r.headers r.offset) r.is_verdict;
   is_bi = r.is_bi;
-  came = ap (λ (found : List Finding). is_dequeued found k) (findings-add side p h) ∙ list_any-append (dequeues k) (findings side h) (news side p h) ∙ ap (λ (b : Bool). b || list_any (dequeues k) (news side p h)) r.came;
+  came =
+      ap (λ (found : List Finding). is_dequeued found k) (findings-add side p h) ∙ list_any-append (dequeues k) (findings side h) (news side p h)
+      ∙ ap (λ (b : Bool). b || list_any (dequeues k) (news side p h)) r.came;
 }) c
 parted-stays side p h k (ByResponse fields at e z c) =
     let more = contents-add p h k in
-    ByResponse fields at (ap (λ (bytes : List ℕ). response_walk_of bytes (end_of (events (p ∷ h)) k)) more.1 ∙ response-stays (contents h k) more.0 (end_of (events h) k) (end_of (events (p ∷ h)) k) fields at e) z c
+    ByResponse fields at (ap (λ (bytes : List ℕ). response_walk_of bytes (end_of (events (p ∷ h)) k)) more.1
+    ∙ response-stays (contents h k) more.0 (end_of (events h) k) (end_of (events (p ∷ h)) k) fields at e) z c
 
 -- a response of success is one
 a-response : (w : ResponseWalk) → is_success w ≡ true → (fields : Fields) × (at : ℕ) × (w ≡ responses.Response fields at)
@@ -244,15 +254,18 @@ a-response responses.Ended e = absurd (cc e)
 a-response (responses.Fault code) e = absurd (cc e)
 
 -- a session that a reply gives
-parted-new : (side : Side) (h : History) (turn : Turn) (k : ℕ) → IsHistory side (with_pair h turn (next side h turn)) → EstablishedFor side h (with_pair h turn (next side h turn)) k → Parted side (with_pair h turn (next side h turn)) k
+parted-new : (side : Side) (h : History) (turn : Turn) (k : ℕ) → IsHistory side (with_pair h turn (next side h turn)) → EstablishedFor side h (with_pair h turn (next side h turn)) k
+    → Parted side (with_pair h turn (next side h turn)) k
 parted-new Server h turn k i e =
     let given = last-given (with_pair h turn (next Server h turn)) k (numbered k (last_request (with_pair h turn (next Server h turn))) (and-left _ _ e.asked)) in
     ByRequest (given-request Server (with_pair h turn (next Server h turn)) i k given) refl
 parted-new Client h turn k i e =
-    let three = all-of (k == 0) (is_opened (with_pair h turn (next Client h turn))) (is_success (response_walk_of (contents (with_pair h turn (next Client h turn)) 0) (end_of (events (with_pair h turn (next Client h turn))) 0))) e.asked in
+    let three = all-of (k == 0) (is_opened (with_pair h turn (next Client h turn)))
+    (is_success (response_walk_of (contents (with_pair h turn (next Client h turn)) 0) (end_of (events (with_pair h turn (next Client h turn))) 0))) e.asked in
     let zero : k ≡ 0 = eqb-true k 0 three.0 in
     let walked = a-response (response_walk_of (contents (with_pair h turn (next Client h turn)) 0) (end_of (events (with_pair h turn (next Client h turn))) 0)) three.1 in
-    ByResponse walked.0 walked.1 (ap (λ (j : ℕ). response_walk_of (contents (with_pair h turn (next Client h turn)) j) (end_of (events (with_pair h turn (next Client h turn))) j)) zero ∙ walked.2) zero refl
+    ByResponse walked.0 walked.1 (ap (λ (j : ℕ). response_walk_of (contents (with_pair h turn (next Client h turn)) j) (end_of (events (with_pair h turn (next Client h turn))) j)) zero
+    ∙ walked.2) zero refl
   where
     all-of : (a b c : Bool) → (a && b && c) ≡ true → (a ≡ true) × (c ≡ true)
     all-of true true c q = (refl, q)
@@ -287,7 +300,8 @@ parted side (p ∷ h) i k e = by (session_in p.answer.reply) refl e (parted side
     same : again-is ≡ p
     same = ap (λ (a : Answer). record { turn = p.turn; answer = a }) (sym i.1)
 
-    by : (o : Option ℕ) → session_in p.answer.reply ≡ o → list_any (λ (id : ℕ). id == k) (cons_option o (filter_map establishes h)) ≡ true → (is_established h k ≡ true → Parted side h k) → Parted side (p ∷ h) k
+    by : (o : Option ℕ) → session_in p.answer.reply ≡ o → list_any (λ (id : ℕ). id == k) (cons_option o (filter_map establishes h)) ≡ true → (is_established h k ≡ true → Parted side h k)
+        → Parted side (p ∷ h) k
     by None q r again = parted-stays side p h k (again r)
     by (Some t) q r again = of (t == k) refl r
       where
@@ -295,7 +309,8 @@ parted side (p ∷ h) i k e = by (session_in p.answer.reply) refl e (parted side
         of false w s = parted-stays side p h k (again s)
         of true w s =
             subst (λ (x : Pair). Parted side (x ∷ h) k) same
-            (parted-new side h p.turn k (i.0, refl, i.2) (established-rightly side h p.turn i.2 i.0 k (ap (λ (a : Answer). session_in a.reply) (sym i.1) ∙ q ∙ ap (λ (n : ℕ). Some n) (eqb-true t k w))))
+            (parted-new side h p.turn k (i.0, refl, i.2) (established-rightly side h p.turn i.2 i.0 k
+            (ap (λ (a : Answer). session_in a.reply) (sym i.1) ∙ q ∙ ap (λ (n : ℕ). Some n) (eqb-true t k w))))
 
 -- so that one pair more doesn't move it
 pub begins-stays : (side : Side) (p : Pair) (h : History) (k : ℕ) → Parted side h k → begins_at (p ∷ h) (findings side h) k ≡ begins_at h (findings side h) k

@@ -42,10 +42,12 @@ once side h r found known = refl
 
 -- ---- what goes out
 
-module _ (side : Side) (offset : ℕ → ℕ) (p : Pair) (h : History) (hist : IsHistory side h) (log : Log) (e : Entry) (opened : is_open (p ∷ h) ≡ true) (moment : (is_moment e && logs.is_open (e ∷ log)) ≡ true)
+module _ (side : Side) (offset : ℕ → ℕ) (p : Pair) (h : History) (hist : IsHistory side h) (log : Log) (e : Entry) (opened : is_open (p ∷ h) ≡ true)
+    (moment : (is_moment e && logs.is_open (e ∷ log)) ≡ true)
     (at : events (p ∷ h) ≡ events_of (e ∷ log)) (out : SameOut (actions_out (p ∷ h)) (actions_of (e ∷ log))) (s : SeesAlike side (p ∷ h) (transport_view side (e ∷ log)) (call_view (e ∷ log)) offset)
     (halves : HalvesSeen side (p ∷ h) (transport_view side (e ∷ log)))
-    (orderly : Orderly side (p ∷ h) (call_view (e ∷ log)) offset (findings side h)) (good : Good side (p ∷ h) (call_view (e ∷ log)) (findings side h)) (holds : IsTable (findings side h) (stream_table side log)) where
+    (orderly : Orderly side (p ∷ h) (call_view (e ∷ log)) offset (findings side h)) (good : Good side (p ∷ h) (call_view (e ∷ log)) (findings side h))
+    (holds : IsTable (findings side h) (stream_table side log)) where
   pub sends-alike : pending_actions side (e ∷ log) ≡ moment_actions side (p ∷ h)
   sends-alike =
       ap (λ (table : StreamTable). actions_after (transport_view side (e ∷ log)) (control_sent side (e ∷ log)) table.progress) (entry-table side log e moment)
@@ -65,7 +67,8 @@ module _ (side : Side) (offset : ℕ → ℕ) (p : Pair) (h : History) (hist : I
       after = scan_order (transport_view side (e ∷ log)) (call_view (e ∷ log)) (stream_table side log)
 
       found : actions_for_all side (p ∷ h) (findings side h) new ≡ after.progress.actions ++ close_actions after.progress.fault
-      found = ap (actions_for_all side (p ∷ h) (findings side h)) (news-dropped side p h ∙ news-open side p h (open-before p h opened) ∙ once side (p ∷ h) p.answer.reply (findings side h) orderly.known)
+      found =
+          ap (actions_for_all side (p ∷ h) (findings side h)) (news-dropped side p h ∙ news-open side p h (open-before p h opened) ∙ once side (p ∷ h) p.answer.reply (findings side h) orderly.known)
           ∙ moment-sends side (p ∷ h) (transport_view side (e ∷ log)) (call_view (e ∷ log)) offset s (Good side (p ∷ h) (call_view (e ∷ log))) (good-kept side (p ∷ h) (call_view (e ∷ log)))
           (λ found table g t k n. good-alike side (p ∷ h) (call_view (e ∷ log)) found (transport_view side (e ∷ log)) table g t s.calls halves k n)
           (λ found g k m n. good-fresh side (p ∷ h) (call_view (e ∷ log)) found g k m n)

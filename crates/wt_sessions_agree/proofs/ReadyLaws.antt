@@ -67,7 +67,9 @@ module _ (side : Side) (h : History) (o : is_open h ≡ true) (r : ready-of side
       clash a false l u b d e q = absurd (cc q)
   grows (turns.MaxUni total) l =
       three (is_connected (events h)) (nat_le 1 total) (nat_le 25 (credit (events h) (local_uni side))) connected
-      (le-more 1 (unis_allowed (events h)) total allowed (ap (λ (es : List Event). nat_le (unis_allowed es) total) all-same ∙ rises (is_connected (all_events h)) (not (is_lost h)) (nat_le (unis_allowed (all_events h)) total) (nat_le total (2 ^ 60)) l)) covered
+      (le-more 1 (unis_allowed (events h)) total allowed
+      (ap (λ (es : List Event). nat_le (unis_allowed es) total) all-same
+      ∙ rises (is_connected (all_events h)) (not (is_lost h)) (nat_le (unis_allowed (all_events h)) total) (nat_le total (2 ^ 60)) l)) covered
     where
       rises : (a b c d : Bool) → (a && b && (c && d)) ≡ true → c ≡ true
       rises a b true d e = refl

@@ -83,7 +83,8 @@ indexed-more found n s payload b e r = by b
     x = record { index = n; session = s; payload = payload }
 
     by : (c : Bool) → Indexed (found ++ DatagramRead n s payload c ∷ [])
-    by false = record { below = rw (more false, drops admitted_in (DatagramRead n s payload false) refl found) later; apart = rw (drops admitted_in (DatagramRead n s payload false) refl found) r.apart }
+    by false =
+        record { below = rw (more false, drops admitted_in (DatagramRead n s payload false) refl found) later; apart = rw (drops admitted_in (DatagramRead n s payload false) refl found) r.apart }
     by true = record {
       below =
           let l : nat_lt n (suc n) ≡ true = lt-ltb n (suc n) (omega arith) in
@@ -98,7 +99,8 @@ indexed-step side h found _ Nothing r = subst Indexed (sym (append-nil found)) r
 indexed-step side h found _ (ADequeued k p) r = indexed-same found (Dequeued k) refl refl r
 indexed-step side h found _ (AClassified k v more p d c e m) r =
     subst Indexed (ap (λ (l : List Finding). (found ++ Classified k v (keeps h found v) ∷ []) ++ l) (sym m) ∙ sym (cons-append found (Classified k v (keeps h found v)) more))
-    (stream-fault-keeps Indexed (λ before code g. indexed-same before (Faulted code) refl refl g) (found ++ Classified k v (keeps h found v) ∷ []) found v (indexed-same found (Classified k v (keeps h found v)) refl refl r))
+    (stream-fault-keeps Indexed (λ before code g. indexed-same before (Faulted code) refl refl g) (found ++ Classified k v (keeps h found v) ∷ []) found v
+    (indexed-same found (Classified k v (keeps h found v)) refl refl r))
 indexed-step side h found _ (ADatagram n s payload e) r = indexed-more found n s payload _ (eqb-true (length (filter is_datagram found)) n e) r
 indexed-step side h found _ (AClosed s code reason by_capsule e) r = indexed-same found (SessionClosed s code reason by_capsule) refl refl r
 indexed-step side h found _ (ASettings e) r = indexed-same found SettingsRead refl refl r
@@ -118,14 +120,17 @@ same-left calls calls2 e (d ∷ ds) =
     ∙ ap (λ (xs : List Admitted). if is_left calls d then d ∷ xs else xs) (same-left calls calls2 e ds)
 
 -- what holds of each holds of each where more sessions are established
-early-more : (h after : History) (calls calls2 : CallView) → ((n : ℕ) → calls2.received n ≡ calls.received n) → ((s : ℕ) → is_established h s ≡ true → is_established after s ≡ true) → (ds : List Admitted)
+early-more : (h after : History) (calls calls2 : CallView) → ((n : ℕ) → calls2.received n ≡ calls.received n) → ((s : ℕ) → is_established h s ≡ true → is_established after s ≡ true)
+    → (ds : List Admitted)
     → list_all (λ (d : Admitted). is_left calls d || is_established h d.session) ds ≡ true → list_all (λ (d : Admitted). is_left calls2 d || is_established after d.session) ds ≡ true
 early-more h after calls calls2 e more [] all = refl
 early-more h after calls calls2 e more (d ∷ ds) all =
     let f : (is_left calls2 d || is_established after d.session) ≡ true
         = ap (λ (b : Bool). not b || is_established after d.session) (e d.index)
-        ∙ by (is_left calls d) (is_established h d.session) refl (and-left (is_left calls d || is_established h d.session) (list_all (λ (d : Admitted). is_left calls d || is_established h d.session) ds) all) in
-    rw (f, early-more h after calls calls2 e more ds (and-right (is_left calls d || is_established h d.session) (list_all (λ (d : Admitted). is_left calls d || is_established h d.session) ds) all)) refl
+        ∙ by (is_left calls d) (is_established h d.session) refl
+        (and-left (is_left calls d || is_established h d.session) (list_all (λ (d : Admitted). is_left calls d || is_established h d.session) ds) all) in
+    rw (f, early-more h after calls calls2 e more ds (and-right (is_left calls d || is_established h d.session)
+        (list_all (λ (d : Admitted). is_left calls d || is_established h d.session) ds) all)) refl
   where
     by : (a b : Bool) → is_established h d.session ≡ b → (a || b) ≡ true → (a || is_established after d.session) ≡ true
     by true b q r = refl
@@ -190,7 +195,8 @@ one-session n s (d ∷ ds) a e = by (has-index n d) (is_of s d) refl e (one-sess
         at true c u v again = cc u
         at false c u v again = again u v
 
-    by : (b c : Bool) → has-index n d ≡ b → ((b && c) || list_any (is-it n s) ds) ≡ true → (list_any (is-it n s) ds ≡ true → list_all (fits-it n s) ds ≡ true) → ((not b || c) && list_all (fits-it n s) ds) ≡ true
+    by : (b c : Bool) → has-index n d ≡ b → ((b && c) || list_any (is-it n s) ds) ≡ true → (list_any (is-it n s) ds ≡ true → list_all (fits-it n s) ds ≡ true)
+        → ((not b || c) && list_all (fits-it n s) ds) ≡ true
     by true true q r again = none-index n s ds (absent q)
     by true false q r again = absurd (never ds (absent q) r)
     by false c q r again = again r
@@ -282,7 +288,8 @@ module _ (h after : History) (calls calls2 : CallView) (found : List Finding) (s
   both-tests (x ∷ xs) = ap (λ (b : Bool). if b then x ∷ filter (is_left calls2) xs else filter (is_left calls2) xs) (left-is x) ∙ by (is_left calls x) (has-index d.index x) refl (both-tests xs)
     where
       by : (b c : Bool) → has-index d.index x ≡ c → filter (is_left calls2) xs ≡ filter (λ (y : Admitted). not (has-index d.index y)) (filter (is_left calls) xs)
-          → (if not c && b then x ∷ filter (is_left calls2) xs else filter (is_left calls2) xs) ≡ filter (λ (y : Admitted). not (has-index d.index y)) (if b then x ∷ filter (is_left calls) xs else filter (is_left calls) xs)
+          → (if not c && b then x ∷ filter (is_left calls2) xs else filter (is_left calls2) xs)
+          ≡ filter (λ (y : Admitted). not (has-index d.index y)) (if b then x ∷ filter (is_left calls) xs else filter (is_left calls) xs)
       by true true e again = rw e again
       by true false e again = rw e (ap (λ (ys : List Admitted). x ∷ ys) again)
       by false true e again = again
@@ -304,8 +311,10 @@ module _ (h after : History) (calls calls2 : CallView) (found : List Finding) (s
   early-one (x ∷ xs) f all =
       let now : (is_left calls2 x || is_established after x.session) ≡ true
           = ap (λ (b : Bool). b || is_established after x.session) (left-is x) ∙ ap (λ (b : Bool). (not (has-index d.index x) && is_left calls x) || b) (same x.session)
-          ∙ by (has-index d.index x) (is_left calls x) (and-left (fits-it d.index s x) (list_all (fits-it d.index s) xs) f) (and-left (is_left calls x || is_established h x.session) (list_all (λ (x : Admitted). is_left calls x || is_established h x.session) xs) all) in
-      rw (now, early-one xs (and-right (fits-it d.index s x) (list_all (fits-it d.index s) xs) f) (and-right (is_left calls x || is_established h x.session) (list_all (λ (x : Admitted). is_left calls x || is_established h x.session) xs) all)) refl
+          ∙ by (has-index d.index x) (is_left calls x) (and-left (fits-it d.index s x) (list_all (fits-it d.index s) xs) f)
+          (and-left (is_left calls x || is_established h x.session) (list_all (λ (x : Admitted). is_left calls x || is_established h x.session) xs) all) in
+      rw (now, early-one xs (and-right (fits-it d.index s x) (list_all (fits-it d.index s) xs) f)
+          (and-right (is_left calls x || is_established h x.session) (list_all (λ (x : Admitted). is_left calls x || is_established h x.session) xs) all)) refl
     where
       by : (a b : Bool) → (not a || is_of s x) ≡ true → (b || is_established h x.session) ≡ true → ((not a && b) || is_established h x.session) ≡ true
       by false b q e = e

@@ -71,7 +71,10 @@ module _ {T : Type 0} (ask : CallRecord → T) (none : T) where
 -- ---- streams that are given
 
 accept-passes : (k : ℕ) → Passes (accepts_stream k) false
-accept-passes k = record { aside = record { polled = refl; started = λ r i. refl; response = λ a i. refl; over = refl; failed = refl }; unsent = λ i c. refl; priority = λ i p. refl; given_up = λ i. refl; rejected = λ s. refl }
+accept-passes k = record {
+  aside = record { polled = refl; started = λ r i. refl; response = λ a i. refl; over = refl; failed = refl };
+  unsent = λ i c. refl; priority = λ i p. refl; given_up = λ i. refl; rejected = λ s. refl;
+}
 
 pub accepted-by : (side : Side) (h : History) (c : Call) (k : ℕ) (reply : Reply) → accepts_stream k (record_of side h c reply) ≡ hands_out k reply
 accepted-by side h c k replies.Done = done-passes (accepts_stream k) false (accept-passes k) side h c
@@ -87,7 +90,10 @@ accepted-by side h c k reply = refl
 -- ---- requests and sessions
 
 deliver-passes : Passes requested_by None
-deliver-passes = record { aside = record { polled = refl; started = λ r i. refl; response = λ a i. refl; over = refl; failed = refl }; unsent = λ i c. refl; priority = λ i p. refl; given_up = λ i. refl; rejected = λ s. refl }
+deliver-passes = record {
+  aside = record { polled = refl; started = λ r i. refl; response = λ a i. refl; over = refl; failed = refl };
+  unsent = λ i c. refl; priority = λ i p. refl; given_up = λ i. refl; rejected = λ s. refl;
+}
 
 pub requested-by : (side : Side) (h : History) (c : Call) (reply : Reply) → requested_by (record_of side h c reply) ≡ request_in reply
 requested-by side h c replies.Done = done-passes requested_by None deliver-passes side h c
@@ -101,7 +107,10 @@ requested-by side h c (replies.ExactFailed (exacts.Read e) piece) = refl
 requested-by side h c reply = refl
 
 establish-passes : Passes establishes None
-establish-passes = record { aside = record { polled = refl; started = λ r i. refl; response = λ a i. refl; over = refl; failed = refl }; unsent = λ i c. refl; priority = λ i p. refl; given_up = λ i. refl; rejected = λ s. refl }
+establish-passes = record {
+  aside = record { polled = refl; started = λ r i. refl; response = λ a i. refl; over = refl; failed = refl };
+  unsent = λ i c. refl; priority = λ i p. refl; given_up = λ i. refl; rejected = λ s. refl;
+}
 
 pub established-by : (side : Side) (h : History) (c : Call) (reply : Reply) → establishes (record_of side h c reply) ≡ session_in reply
 established-by side h c replies.Done = done-passes establishes None establish-passes side h c

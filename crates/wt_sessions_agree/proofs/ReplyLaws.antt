@@ -85,7 +85,8 @@ of-session name rows some = by-session (Says is_other) name rows refl (λ s q. s
 of-half : (has : Bool) (rows : List Row) → Others rows → Others (where_has has rows)
 of-half has rows s = either (not has) replies.NoStream [] rows refl s
 
-stopped-others : (h : History) (k : ℕ) (failed : StreamWriteError → Reply) (done : Reply) → ((e : StreamWriteError) → is_other (failed e) ≡ true) → is_other done ≡ true → Others (stopped_rows h k failed done)
+stopped-others : (h : History) (k : ℕ) (failed : StreamWriteError → Reply) (done : Reply) → ((e : StreamWriteError) → is_other (failed e) ≡ true) → is_other done ≡ true
+    → Others (stopped_rows h k failed done)
 stopped-others h k failed done f d =
     value (stop_of (events h) k) _ [] _ (λ y. f _) (either (is_done h k) done [] _ d (either (not (is_open h)) (failed writes.NotConnected) [] [] (f _) last))
 

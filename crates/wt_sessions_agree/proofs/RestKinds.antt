@@ -96,12 +96,14 @@ finds-dequeued side h found k false true false e q = Nothing (Dequeue k)
 finds-dequeued side h found k false false c e q = Nothing (Dequeue k)
 finds-dequeued side h found k true b c e q = Nothing (Dequeue k)
 
-finds-class : (side : Side) (h : History) (found : List Finding) (k : ℕ) (v : Verdict) → verdict h k ≡ v → NoFault (classified_as h found k v) → Finds side h found (Classify k) (classified_as h found k v)
+finds-class : (side : Side) (h : History) (found : List Finding) (k : ℕ) (v : Verdict) → verdict h k ≡ v → NoFault (classified_as h found k v)
+    → Finds side h found (Classify k) (classified_as h found k v)
 finds-class side h found k verdicts.Incomplete q e = Nothing (Classify k)
 finds-class side h found k v q e =
     subst (λ (xs : List Finding). Finds side h found (Classify k) (finds.Classified k v (keeps h found v) ∷ xs)) (sym (stream-calm found v e)) (Classifies k v (keeps h found v) (ap is_incomplete q))
 
-finds-classified : (side : Side) (h : History) (found : List Finding) (k : ℕ) (b : Bool) → NoFault (if b then classified_as h found k (verdict h k) else []) → Finds side h found (Classify k) (if b then classified_as h found k (verdict h k) else [])
+finds-classified : (side : Side) (h : History) (found : List Finding) (k : ℕ) (b : Bool) → NoFault (if b then classified_as h found k (verdict h k) else [])
+    → Finds side h found (Classify k) (if b then classified_as h found k (verdict h k) else [])
 finds-classified side h found k true e = finds-class side h found k (verdict h k) refl e
 finds-classified side h found k false e = Nothing (Classify k)
 
@@ -112,7 +114,8 @@ finds-read side h found n piece true false d q e = Nothing (ReadDatagram n piece
 finds-read side h found n piece true true (Err code) q e = absurd (cc e)
 finds-read side h found n piece true true (Ok d) q e = Reads n (4 * d.0) piece d.1 _ (eqb-true (length (filter is_datagram found)) n q)
 
-finds-closed : (side : Side) (h : History) (found : List Finding) (s : ℕ) (l b : Bool) (walk : SessionWalk) → NoFault (if l then session_found s b walk else []) → Finds side h found (WalkSession s) (if l then session_found s b walk else [])
+finds-closed : (side : Side) (h : History) (found : List Finding) (s : ℕ) (l b : Bool) (walk : SessionWalk) → NoFault (if l then session_found s b walk else [])
+    → Finds side h found (WalkSession s) (if l then session_found s b walk else [])
 finds-closed side h found s false b walk e = Nothing (WalkSession s)
 finds-closed side h found s true b walks.Running e = Nothing (WalkSession s)
 finds-closed side h found s true b (walks.Closed code reason) e = Closes s code reason b
@@ -156,7 +159,8 @@ pub pass-finds : (side : Side) (h : History) (c : Check) (cs : List Check) (foun
 pass-finds side h c cs found e =
     finds-one side h found c (fault-behind found (found_by side h found c) (fault-first side h cs (found ++ found_by side h found c) (sym (ap fault_of (pass-step side h c cs found e)) ∙ e)))
 
-pub pass-keeps : (side : Side) (h : History) (Good : List Finding → Type 0) → KeptOn side h Good → (cs : List Check) (found : List Finding) → NoFault (after_checks side h cs found) → Good found → Good (after_checks side h cs found)
+pub pass-keeps : (side : Side) (h : History) (Good : List Finding → Type 0) → KeptOn side h Good → (cs : List Check) (found : List Finding) → NoFault (after_checks side h cs found) → Good found
+    → Good (after_checks side h cs found)
 pass-keeps side h Good kept [] found e g = g
 pass-keeps side h Good kept (c ∷ cs) found e g =
     let s = pass-step side h c cs found e in
@@ -204,10 +208,12 @@ before-is found kind i small = let q : (4 * i + kind) % 4 ≡ kind = omega (arit
 
 module _ (side : Side) (h : History) (kind : ℕ) (small : kind < 4) where
   -- what was taken stays so
-  taken-more : (found : List Finding) (f : Finding) (i : ℕ) → is_dequeued found (4 * i + kind) ≡ true → (is_classified found (4 * i + kind) || is_incomplete (verdict h (4 * i + kind))) ≡ true → Still side h (found ++ f ∷ []) kind i
+  taken-more : (found : List Finding) (f : Finding) (i : ℕ) → is_dequeued found (4 * i + kind) ≡ true → (is_classified found (4 * i + kind) || is_incomplete (verdict h (4 * i + kind))) ≡ true
+      → Still side h (found ++ f ∷ []) kind i
   taken-more found f i d c =
       Taken (dequeued-append found f (4 * i + kind) ∙ rw d refl)
-      (ap (λ (b : Bool). b || is_incomplete (verdict h (4 * i + kind))) (classified-append found f (4 * i + kind)) ∙ by (is_classified found (4 * i + kind)) (is_some (verdict_in (4 * i + kind) f)) (is_incomplete (verdict h (4 * i + kind))) c)
+      (ap (λ (b : Bool). b || is_incomplete (verdict h (4 * i + kind))) (classified-append found f (4 * i + kind))
+      ∙ by (is_classified found (4 * i + kind)) (is_some (verdict_in (4 * i + kind) f)) (is_incomplete (verdict h (4 * i + kind))) c)
     where
       by : (a b v : Bool) → (a || v) ≡ true → ((a || b) || v) ≡ true
       by true b v e = refl
@@ -226,7 +232,8 @@ module _ (side : Side) (h : History) (kind : ℕ) (small : kind < 4) where
   plain-stuck found f n j =
       ap (λ (b : Bool). not b && is_incomplete (verdict h j)) (classified-append found f j ∙ ap (λ (o : Option Verdict). is_classified found j || is_some o) (n j) ∙ or-false (is_classified found j))
 
-  plain-more : (found : List Finding) (f : Finding) (i : ℕ) → dequeues (4 * i + kind) f ≡ false → ((j : ℕ) → is_stuck h (found ++ f ∷ []) j ≡ is_stuck h found j) → Still side h found kind i → Still side h (found ++ f ∷ []) kind i
+  plain-more : (found : List Finding) (f : Finding) (i : ℕ) → dequeues (4 * i + kind) f ≡ false → ((j : ℕ) → is_stuck h (found ++ f ∷ []) j ≡ is_stuck h found j) → Still side h found kind i
+      → Still side h (found ++ f ∷ []) kind i
   plain-more found f i n same (Taken d c) = taken-more found f i d c
   plain-more found f i n same (Left d r) = left-more found f i n same d r
 
@@ -240,7 +247,8 @@ module _ (side : Side) (h : History) (kind : ℕ) (small : kind < 4) where
       by true e =
           let k-is : k ≡ 4 * i + kind = eqb-true k (4 * i + kind) e in
           let n : (is_ready side h && nat_lt (unclassified found kind i) 4) ≡ false = more-not (is_ready side h) (stuck h found kind i) (unclassified found kind i) (stuck-less h found kind i) r in
-          let y : (is_ready side h && nat_lt (unclassified_before found k) 4) ≡ false = ap (λ (j : ℕ). is_ready side h && nat_lt (unclassified_before found j) 4) k-is ∙ ap (λ (m : ℕ). is_ready side h && nat_lt m 4) (before-is found kind i small) ∙ n in
+          let y : (is_ready side h && nat_lt (unclassified_before found k) 4) ≡ false = ap (λ (j : ℕ). is_ready side h && nat_lt (unclassified_before found j) 4) k-is
+          ∙ ap (λ (m : ℕ). is_ready side h && nat_lt m 4) (before-is found kind i small) ∙ n in
           sym q ∙ y
   still-kept i c found _ (Classifies k v b n) s = plain-more found (finds.Classified k v b) i refl (λ j. by j (k == j) refl) s
     where
@@ -256,7 +264,8 @@ module _ (side : Side) (h : History) (kind : ℕ) (small : kind < 4) where
           none false false = refl
       by j false e =
           let m : verdict_in j (finds.Classified k v b) ≡ None = rw e refl in
-          ap (λ (b : Bool). not b && is_incomplete (verdict h j)) (classified-append found (finds.Classified k v b) j ∙ ap (λ (o : Option Verdict). is_classified found j || is_some o) m ∙ or-false (is_classified found j))
+          ap (λ (b : Bool). not b && is_incomplete (verdict h j))
+              (classified-append found (finds.Classified k v b) j ∙ ap (λ (o : Option Verdict). is_classified found j || is_some o) m ∙ or-false (is_classified found j))
   still-kept i c found _ (Reads n s piece payload b e) t = plain-more found (DatagramRead n s payload b) i refl (plain-stuck found (DatagramRead n s payload b) (λ j. refl)) t
   still-kept i c found _ (Closes s code reason b) t = plain-more found (SessionClosed s code reason b) i refl (plain-stuck found (SessionClosed s code reason b) (λ j. refl)) t
   still-kept i c found _ Settles t = plain-more found SettingsRead i refl (plain-stuck found SettingsRead (λ j. refl)) t
@@ -299,7 +308,8 @@ module _ (side : Side) (h : History) (kind : ℕ) (small : kind < 4) where
       here : (v : Verdict) (b : Bool) (more : List Finding) → is_classified (found ++ finds.Classified k v b ∷ more) k ≡ true
       here v b more =
           let self : verdict_in k (finds.Classified k v b) ≡ Some v = rw (eq-eqb k k refl) refl in
-          ap is_some (first_of-append (verdict_in k) found (finds.Classified k v b ∷ more)) ∙ ap (λ (o : Option Verdict). is_some (option_or (verdict_of found k) (option_or o (verdict_of more k)))) self ∙ either (verdict_of found k)
+          ap is_some (first_of-append (verdict_in k) found (finds.Classified k v b ∷ more))
+          ∙ ap (λ (o : Option Verdict). is_some (option_or (verdict_of found k) (option_or o (verdict_of more k)))) self ∙ either (verdict_of found k)
         where
           either : (o : Option Verdict) → is_some (option_or o (Some v)) ≡ true
           either None = refl
@@ -388,5 +398,6 @@ module _ (side : Side) (h : History) (kind : ℕ) (small : kind < 4) where
       by : (b : Bool) → is_ready side h ≡ b → (b && nat_lt (stuck h found kind i) 4) ≡ false → dequeuing side h found (4 * i + kind) ≡ []
       by false e q = rw (d, e) refl
       by true e q =
-          let n : nat_lt (unclassified_before found (4 * i + kind)) 4 ≡ false = ap (λ (m : ℕ). nat_lt m 4) (before-is found kind i small) ∙ lt-less (stuck h found kind i) (unclassified found kind i) (stuck-less h found kind i) q in
+          let n : nat_lt (unclassified_before found (4 * i + kind)) 4 ≡ false = ap (λ (m : ℕ). nat_lt m 4) (before-is found kind i small)
+          ∙ lt-less (stuck h found kind i) (unclassified found kind i) (stuck-less h found kind i) q in
           rw (d, e, n) refl

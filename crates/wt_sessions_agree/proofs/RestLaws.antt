@@ -63,7 +63,8 @@ counted found new = ap length (filter-append is_datagram found new) ∙ length-a
 read-kept : (side : Side) (h : History) (n : ℕ) → KeptOn side h (AllRead side h n)
 read-kept side h n c found new f r = λ e. let a = r e in let b = counted found new in omega (arith, a, b)
 
-read-one : (side : Side) (h : History) (n : ℕ) (piece : List ℕ) (found : List Finding) → NoFault (found ++ reading side h found n piece) → is_ready side h ≡ true → n ≤ length (filter is_datagram found)
+read-one : (side : Side) (h : History) (n : ℕ) (piece : List ℕ) (found : List Finding) → NoFault (found ++ reading side h found n piece) → is_ready side h ≡ true
+    → n ≤ length (filter is_datagram found)
     → suc n ≤ length (filter is_datagram (found ++ reading side h found n piece))
 read-one side h n piece found e ready l = by (length (filter is_datagram found) == n) refl
   where
@@ -82,7 +83,8 @@ read-one side h n piece found e ready l = by (length (filter is_datagram found) 
         past : (a b : ℕ) → a ≤ b → (b == a) ≡ false → a < b
         past a b l q = grind (arith, l, q)
 
-datagrams-read : (side : Side) (h : History) (pieces : List (List ℕ)) (n m : ℕ) (found : List Finding) → m ≡ n + length pieces → NoFault (after_checks side h (datagram_checks n pieces) found) → AllRead side h n found
+datagrams-read : (side : Side) (h : History) (pieces : List (List ℕ)) (n m : ℕ) (found : List Finding) → m ≡ n + length pieces → NoFault (after_checks side h (datagram_checks n pieces) found)
+    → AllRead side h n found
     → AllRead side h m (after_checks side h (datagram_checks n pieces) found)
 datagrams-read side h [] n m found q e r = λ ready. let l = r ready in omega (arith, q, l)
 datagrams-read side h (piece ∷ pieces) n m found q e r =
@@ -161,7 +163,8 @@ module _ (side : Side) (h : History) (offset : ℕ → ℕ) where
       let s = pass-step side h (WalkSession (4 * i + 0)) (map WalkSession (ids_from 0 (suc i) count)) found e in
       let calm = sym (ap fault_of s) ∙ e in
       subst (WalkedTo n) (sym s) (sessions-walked count (suc i) n (found ++ closing h found (4 * i + 0)) (omega (arith, q)) calm
-      (parts-kept side h offset found (closing h found (4 * i + 0)) (adds side h found (WalkSession (4 * i + 0)) refl) (fault-first side h (WalkSession (4 * i + 0) ∷ map WalkSession (ids_from 0 (suc i) count)) found e) p)
+      (parts-kept side h offset found (closing h found (4 * i + 0)) (adds side h found (WalkSession (4 * i + 0)) refl)
+      (fault-first side h (WalkSession (4 * i + 0) ∷ map WalkSession (ids_from 0 (suc i) count)) found e) p)
       (all calm))
     where
       all : NoFault (after_checks side h (map WalkSession (ids_from 0 (suc i) count)) (found ++ closing h found (4 * i + 0))) → WalkedTo (suc i) (found ++ closing h found (4 * i + 0))
@@ -171,7 +174,8 @@ module _ (side : Side) (h : History) (offset : ℕ → ℕ) where
           by true x m =
               let same : j ≡ i = eqb-true j i x in
               ap (λ (n : ℕ). walk (4 * n + 0)) same
-              ∙ walk-one found (4 * i + 0) p (fault-first side h (map WalkSession (ids_from 0 (suc i) count)) (found ++ closing h found (4 * i + 0)) calm) (sym (ap (λ (n : ℕ). lives h (found ++ closing h found (4 * i + 0)) (4 * n + 0)) same) ∙ m)
+              ∙ walk-one found (4 * i + 0) p (fault-first side h (map WalkSession (ids_from 0 (suc i) count)) (found ++ closing h found (4 * i + 0)) calm)
+              (sym (ap (λ (n : ℕ). lives h (found ++ closing h found (4 * i + 0)) (4 * n + 0)) same) ∙ m)
           by false x m = w j (under j i l x) (lives-before h found (closing h found (4 * i + 0)) (4 * j + 0) m)
 
 -- a living session that runs on is passed
@@ -205,7 +209,8 @@ nothing side h found _ _ e (Closes s code reason b) = absurd (cc e)
 nothing side h found _ _ e Settles = absurd (cc e)
 
 -- so it is passed
-passed : (side : Side) (h : History) (c : Check) (cs : List Check) (found : List Finding) → is-fault c ≡ true → NoFault (after_checks side h (c ∷ cs) found) → (found_by side h found c ≡ []) × (after_checks side h (c ∷ cs) found ≡ after_checks side h cs found)
+passed : (side : Side) (h : History) (c : Check) (cs : List Check) (found : List Finding) → is-fault c ≡ true → NoFault (after_checks side h (c ∷ cs) found)
+    → (found_by side h found c ≡ []) × (after_checks side h (c ∷ cs) found ≡ after_checks side h cs found)
 passed side h c cs found f e =
     let n = nothing side h found c (found_by side h found c) f (pass-finds side h c cs found e) in
     (n, pass-step side h c cs found e ∙ ap (after_checks side h cs) (ap (λ (xs : List Finding). found ++ xs) n ∙ append-nil found))
@@ -260,7 +265,8 @@ pub record AtRest (side : Side) (h : History) (found : List Finding) : Type 0 wh
   pub sessions : (i : ℕ) → i < stream_count side h 0 → lives h found (4 * i + 0) ≡ true → session_walk_of (session_part h found (4 * i + 0)) (end_of (events h) (4 * i + 0)) ≡ walks.Running
   pub critical : Quiet side h found critical
 
-streams-quiet : (side : Side) (h : History) (kind : ℕ) → kind < 4 → (found : List Finding) (n count i : ℕ) → n ≡ i + count → StillTo side h kind n found → Quiet side h found (stream_checks (ids_from kind i count))
+streams-quiet : (side : Side) (h : History) (kind : ℕ) → kind < 4 → (found : List Finding) (n count i : ℕ) → n ≡ i + count → StillTo side h kind n found
+    → Quiet side h found (stream_checks (ids_from kind i count))
 streams-quiet side h kind small found n zero i q s = Empty
 streams-quiet side h kind small found n (suc count) i q s =
     let f = still-finds side h kind small found i (s i (omega (arith, q))) in
@@ -302,18 +308,24 @@ rest-quiet side h found r =
     r.critical
 
 -- after a moment without a fault all is at rest
-pub comes-to-rest : (side : Side) (h : History) (found : List Finding) → Known side h found → NoFault (after_checks side h (checks side h) found) → AtRest side h (after_checks side h (checks side h) found)
+pub comes-to-rest : (side : Side) (h : History) (found : List Finding) → Known side h found → NoFault (after_checks side h (checks side h) found)
+    → AtRest side h (after_checks side h (checks side h) found)
 comes-to-rest side h found known e = record {
-  unis = subst (StillTo side h (peer_uni side) (peer_count side (events h) (peer_uni side))) (sym split) (late (StillTo side h (peer_uni side) (peer_count side (events h) (peer_uni side))) (kind-kept side h (peer_uni side) (uni-small side) _)
+  unis =
+      subst (StillTo side h (peer_uni side) (peer_count side (events h) (peer_uni side))) (sym split)
+      (late (StillTo side h (peer_uni side) (peer_count side (events h) (peer_uni side))) (kind-kept side h (peer_uni side) (uni-small side) _)
       (pass-keeps side h _ (kind-kept side h (peer_uni side) (uni-small side) _) (reads-of h) two calm-three
       (pass-keeps side h _ (kind-kept side h (peer_uni side) (uni-small side) _) (bis-of side h) one calm-two
       (kind-still side h (peer_uni side) (uni-small side) (peer_count side (events h) (peer_uni side)) 0 _ found (nought _) calm-one (λ i l. absurd (omega (arith, l)))))));
-  bis = subst (StillTo side h (peer_bi side) (peer_count side (events h) (peer_bi side))) (sym split) (late (StillTo side h (peer_bi side) (peer_count side (events h) (peer_bi side))) (kind-kept side h (peer_bi side) (bi-small side) _)
+  bis =
+      subst (StillTo side h (peer_bi side) (peer_count side (events h) (peer_bi side))) (sym split)
+      (late (StillTo side h (peer_bi side) (peer_count side (events h) (peer_bi side))) (kind-kept side h (peer_bi side) (bi-small side) _)
       (pass-keeps side h _ (kind-kept side h (peer_bi side) (bi-small side) _) (reads-of h) two calm-three
       (kind-still side h (peer_bi side) (bi-small side) (peer_count side (events h) (peer_bi side)) 0 _ one (nought _) calm-two (λ i l. absurd (omega (arith, l))))));
   datagrams = subst (AllRead side h (length (datagrams_of (events h)))) (sym split) (late (AllRead side h (length (datagrams_of (events h)))) (read-kept side h _)
       (datagrams-read side h (datagrams_of (events h)) 0 _ two (nought _) calm-three (λ ready. omega arith)));
-  sessions = λ i l lives-on. ap (λ (bytes : List ℕ). session_walk_of bytes (end_of (events h) (4 * i + 0))) (part-is side h offset (after_checks side h (checks side h) found) (4 * i + 0) parts lives-on)
+  sessions =
+      λ i l lives-on. ap (λ (bytes : List ℕ). session_walk_of bytes (end_of (events h) (4 * i + 0))) (part-is side h offset (after_checks side h (checks side h) found) (4 * i + 0) parts lives-on)
       ∙ subst (WalkedTo side h offset (stream_count side h 0)) (sym split) (pass-keeps side h _ (walked-kept side h offset _) critical four calm-five
       (sessions-walked side h offset (stream_count side h 0) 0 _ three (nought _) calm-four three-parts (λ j m. absurd (omega (arith, m))))) i l lives-on;
   critical = subst (λ (l : List Finding). Quiet side h l critical) (sym split) (critical-quiet side h four calm-five);
@@ -365,13 +377,16 @@ comes-to-rest side h found known e = record {
     first-parts = record { begin = λ k q. refl; known = known }
 
     asked : list_all (asks_peers side) (((unis-of side h ++ bis-of side h) ++ reads-of h) ++ walks-of side h) ≡ true
-    asked = and-left _ (list_all (asks_peers side) critical) (sym (list_all-append (asks_peers side) (((unis-of side h ++ bis-of side h) ++ reads-of h) ++ walks-of side h) critical) ∙ peers-checked side h)
+    asked =
+        and-left _ (list_all (asks_peers side) critical) (sym (list_all-append (asks_peers side) (((unis-of side h ++ bis-of side h) ++ reads-of h) ++ walks-of side h) critical)
+        ∙ peers-checked side h)
 
     asked-three : list_all (asks_peers side) ((unis-of side h ++ bis-of side h) ++ reads-of h) ≡ true
     asked-three = and-left _ (list_all (asks_peers side) (walks-of side h)) (sym (list_all-append (asks_peers side) ((unis-of side h ++ bis-of side h) ++ reads-of h) (walks-of side h)) ∙ asked)
 
     three-parts : Parts side h offset three
-    three-parts = subst (Parts side h offset) first-three (checks-keep side h (Parts side h offset) (parts-kept side h offset) ((unis-of side h ++ bis-of side h) ++ reads-of h) found asked-three first-parts)
+    three-parts =
+        subst (Parts side h offset) first-three (checks-keep side h (Parts side h offset) (parts-kept side h offset) ((unis-of side h ++ bis-of side h) ++ reads-of h) found asked-three first-parts)
 
     parts : Parts side h offset (after_checks side h (checks side h) found)
     parts = checks-keep side h (Parts side h offset) (parts-kept side h offset) (checks side h) found (peers-checked side h) first-parts
@@ -386,7 +401,8 @@ second-finds side h found known = by (fault_of (after_checks side h (checks side
     by None e = quiet-more side h (after_checks side h (checks side h) found) (checks side h) (rest-quiet side h (after_checks side h (checks side h) found) (comes-to-rest side h found known e))
     by (Some code) e = more-faulty side h (checks side h) (after_checks side h (checks side h) found) code e
 
-pub at-rest : (side : Side) (h : History) (found : List Finding) → Known side h found → after_checks side h (checks side h) (after_checks side h (checks side h) found) ≡ after_checks side h (checks side h) found
+pub at-rest : (side : Side) (h : History) (found : List Finding) → Known side h found
+    → after_checks side h (checks side h) (after_checks side h (checks side h) found) ≡ after_checks side h (checks side h) found
 at-rest side h found known =
     checks-add side h (checks side h) (after_checks side h (checks side h) found)
     ∙ ap (λ (xs : List Finding). after_checks side h (checks side h) found ++ xs) (second-finds side h found known) ∙ append-nil (after_checks side h (checks side h) found)

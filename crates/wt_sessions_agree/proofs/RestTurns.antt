@@ -58,7 +58,8 @@ moments-once side h r found known = refl
 pub findings-once : (side : Side) (p : Pair) (h : History) → IsHistory side (p ∷ h) → is_open h ≡ true → findings side (p ∷ h) ≡ after_checks side (p ∷ h) (checks side (p ∷ h)) (findings side h)
 unfolding findings
 findings-once side p h i o =
-    ap (λ (b : Bool). if b then after_moments side (p ∷ h) p.answer.reply (findings side h) else findings side h) o ∙ moments-once side (p ∷ h) p.answer.reply (findings side h) (known-before side p h i)
+    ap (λ (b : Bool). if b then after_moments side (p ∷ h) p.answer.reply (findings side h) else findings side h) o
+        ∙ moments-once side (p ∷ h) p.answer.reply (findings side h) (known-before side p h i)
 
 first-rest : (side : Side) → AtRest side [] (findings side [])
 unfolding findings
@@ -97,7 +98,8 @@ module _ (side : Side) (h later : History) (same : SeesSame side h later) where
 
   stuck-same : (found : List Finding) (kind i : ℕ) → stuck later found kind i ≡ stuck h found kind i
   stuck-same found kind i =
-      ap length (filter-ids (is_stuck later found) (is_stuck h found) kind 0 i (λ j a b. ap (λ (v : Verdict). not (is_classified found (4 * j + kind)) && is_incomplete v) (verdict-same (4 * j + kind))))
+      ap length (filter-ids (is_stuck later found) (is_stuck h found) kind 0 i
+      (λ j a b. ap (λ (v : Verdict). not (is_classified found (4 * j + kind)) && is_incomplete v) (verdict-same (4 * j + kind))))
 
   still-same : (found : List Finding) (kind i : ℕ) → Still side h found kind i → Still side later found kind i
   still-same found kind i (Taken d c) = Taken d (ap (λ (v : Verdict). is_classified found (4 * i + kind) || is_incomplete v) (verdict-same (4 * i + kind)) ∙ c)
@@ -122,7 +124,8 @@ module _ (side : Side) (h later : History) (same : SeesSame side h later) where
       (And EncoderEnd _ (end-same (first_of encoder_in found) ∙ d) (And DecoderEnd _ (end-same (first_of decoder_in found) ∙ e) Empty))))
 
   -- so that all stays at rest, where a session that lives lived and was there
-  rest-stays : (found : List Finding) → ((i : ℕ) → lives later found (4 * i + 0) ≡ true → (i < stream_count side h 0) × (lives h found (4 * i + 0) ≡ true)) → AtRest side h found → AtRest side later found
+  rest-stays : (found : List Finding) → ((i : ℕ) → lives later found (4 * i + 0) ≡ true → (i < stream_count side h 0) × (lives h found (4 * i + 0) ≡ true)) → AtRest side h found
+      → AtRest side later found
   rest-stays found old r = record {
     unis = λ i l. still-same found (peer_uni side) i (r.unis i (subst (λ (n : ℕ). i < n) (same.peers (peer_uni side)) l));
     bis = λ i l. still-same found (peer_bi side) i (r.bis i (subst (λ (n : ℕ). i < n) (same.peers (peer_bi side)) l));

@@ -81,12 +81,14 @@ module _ (side : Side) (offset : ℕ → ℕ) (h : History) (log : Log) (x : Sta
       → handshakes.respond side log false head waiting ≡ effect_of side h log c (first_row (rejection_rows side h (unwrap_or (last_request h) 0) (head_left h (unwrap_or (last_request h) 0) head)))
   reject-on c waiting head p d =
       reject-agrees side offset h log x c waiting (requested_stream (calls_of log)) (effects.head_left log (requested_stream (calls_of log)) head) p x.request (ends.requested d) ends.none
-      ∙ ap (λ (left : List ℕ). effect_of side h log c (first_row (rejection_rows side h (requested_stream (calls_of log)) left))) (sym (head-is side offset h log x (requested_stream (calls_of log)) head))
+      ∙ ap (λ (left : List ℕ). effect_of side h log c (first_row (rejection_rows side h (requested_stream (calls_of log)) left)))
+      (sym (head-is side offset h log x (requested_stream (calls_of log)) head))
       ∙ ap (λ (s : ℕ). effect_of side h log c (first_row (rejection_rows side h s (head_left h s head)))) (sym x.request)
 
   -- ---- a poll of the handshake
 
-  responding : (accepts : Bool) (head : List ℕ) (c : Call) → is_due side (handshake_state (calls_of log)) ≡ true → IsResponse accepts head c → handshakes.respond side log accepts head Polled ≡ effect_of side h log calls.Handshake (first_row (poll_rows side h (Some c)))
+  responding : (accepts : Bool) (head : List ℕ) (c : Call) → is_due side (handshake_state (calls_of log)) ≡ true → IsResponse accepts head c
+      → handshakes.respond side log accepts head Polled ≡ effect_of side h log calls.Handshake (first_row (poll_rows side h (Some c)))
   responding true head (calls.Accept headers) d e = rw e (accept-on calls.Handshake Polled (acceptance_frame headers) refl refl d)
   responding false head calls.Forbidden d e = rw e (reject-on calls.Handshake Polled (response_bytes (codes "403")) refl d)
   responding false head calls.NotFound d e = rw e (reject-on calls.Handshake Polled (response_bytes (codes "404")) refl d)
@@ -98,7 +100,8 @@ module _ (side : Side) (offset : ℕ → ℕ) (h : History) (log : Log) (x : Sta
   responding accepts head c d e = absurd e
 
 module _ (offset : ℕ → ℕ) (h : History) (log : Log) (x : Stands Client offset h log) (ends : EndsAgree Client h log) where
-  connecting : (reserved : Option (List ℕ)) (head : List ℕ) (c : Call) → IsConnect reserved head c → handshakes.continue_connect Client log reserved head ≡ effect_of Client h log calls.Handshake (first_row (poll_rows Client h (Some c)))
+  connecting : (reserved : Option (List ℕ)) (head : List ℕ) (c : Call) → IsConnect reserved head c
+      → handshakes.continue_connect Client log reserved head ≡ effect_of Client h log calls.Handshake (first_row (poll_rows Client h (Some c)))
   connecting reserved head (calls.Connect options lookup outcome) (t, e, r, f) =
       rw (sym r, sym f, e) (connect-agrees offset h log x (ends.client refl) t)
   connecting reserved head c e = absurd e
@@ -108,7 +111,8 @@ module _ (side : Side) (offset : ℕ → ℕ) (h : History) (log : Log) (x : Sta
   connecting-on : (s : Side) → side ≡ s → (reserved : Option (List ℕ)) (head : List ℕ) (c : Call) → handshake_state (calls_of log) ≡ handshakes.Connecting reserved head → IsConnect reserved head c
       → handshakes.continue_connect side log reserved head ≡ effect_of side h log calls.Handshake (first_row (poll_rows side h (Some c)))
   connecting-on s q reserved head c e i =
-      subst (λ (s : Side). Stands s offset h log → EndsAgree s h log → handshakes.continue_connect s log reserved head ≡ effect_of s h log calls.Handshake (first_row (poll_rows s h (Some c)))) (sym (ends.connects reserved head e))
+      subst (λ (s : Side). Stands s offset h log → EndsAgree s h log → handshakes.continue_connect s log reserved head ≡ effect_of s h log calls.Handshake (first_row (poll_rows s h (Some c))))
+          (sym (ends.connects reserved head e))
       (λ y z. connecting offset h log y z reserved head c i) x ends
 
   poll-by : (state : HandshakeState) (begun : Option Call) → handshake_state (calls_of log) ≡ state → BegunAgrees state begun → is_continuable state ≡ true
@@ -145,10 +149,16 @@ module _ (side : Side) (offset : ℕ → ℕ) (h : History) (log : Log) (x : Sta
   unfolding call_effect
   call-agrees (calls.Connect options lookup outcome) w = begin-agrees side h log options lookup outcome
   call-agrees calls.Incoming w = incoming-agrees side offset h log x
-  call-agrees (calls.Accept headers) w = accept-on side offset h log x ends (calls.Accept headers) (ResponseStarted true (acceptance_frame headers)) (acceptance_frame headers) refl refl (due-asked side (handshake_state (calls_of log)) w)
-  call-agrees calls.Forbidden w = reject-on side offset h log x ends calls.Forbidden (ResponseStarted false (response_bytes (codes "403"))) (response_bytes (codes "403")) refl (due-asked side (handshake_state (calls_of log)) w)
-  call-agrees calls.NotFound w = reject-on side offset h log x ends calls.NotFound (ResponseStarted false (response_bytes (codes "404"))) (response_bytes (codes "404")) refl (due-asked side (handshake_state (calls_of log)) w)
-  call-agrees calls.TooManyRequests w = reject-on side offset h log x ends calls.TooManyRequests (ResponseStarted false (response_bytes (codes "429"))) (response_bytes (codes "429")) refl (due-asked side (handshake_state (calls_of log)) w)
+  call-agrees (calls.Accept headers) w =
+      accept-on side offset h log x ends (calls.Accept headers) (ResponseStarted true (acceptance_frame headers)) (acceptance_frame headers) refl refl
+      (due-asked side (handshake_state (calls_of log)) w)
+  call-agrees calls.Forbidden w =
+      reject-on side offset h log x ends calls.Forbidden (ResponseStarted false (response_bytes (codes "403"))) (response_bytes (codes "403")) refl (due-asked side (handshake_state (calls_of log)) w)
+  call-agrees calls.NotFound w =
+      reject-on side offset h log x ends calls.NotFound (ResponseStarted false (response_bytes (codes "404"))) (response_bytes (codes "404")) refl (due-asked side (handshake_state (calls_of log)) w)
+  call-agrees calls.TooManyRequests w =
+      reject-on side offset h log x ends calls.TooManyRequests (ResponseStarted false (response_bytes (codes "429"))) (response_bytes (codes "429")) refl
+      (due-asked side (handshake_state (calls_of log)) w)
   call-agrees calls.Handshake w = poll-agrees w
   call-agrees (calls.EndpointClose code reason) w = endpoint_close-agrees side offset h log x code reason
   call-agrees (calls.AcceptUni name) w = in-session (calls.AcceptUni name) name _ _ (λ s n. accept_uni-agrees side offset h log x name (peer_uni side) s n)
@@ -170,6 +180,9 @@ module _ (side : Side) (offset : ℕ → ℕ) (h : History) (log : Log) (x : Sta
   call-agrees (calls.Priority id) w = on-sending (calls.Priority id) id _ _ (priority-agrees side h log id (half side offset h log x ends id) (x.halves.priority id))
   call-agrees (calls.SetPriority id p) w = on-sending (calls.SetPriority id p) id _ _ (set_priority-agrees side h log id (half side offset h log x ends id) p)
   call-agrees (calls.ResetSend id code) w = on-sending (calls.ResetSend id code) id _ _ (reset-agrees side h log id (half side offset h log x ends id) code)
-  call-agrees (calls.Read id size) w = on-receiving (calls.Read id size) id _ _ (rw (unread-agrees side offset h log id x) (read-agrees side h log id (half side offset h log x ends id) size (halves.unread_body side log id)))
-  call-agrees (calls.ReadExact id size) w = on-receiving (calls.ReadExact id size) id _ _ (rw (unread-agrees side offset h log id x) (read_exact-agrees side h log id (half side offset h log x ends id) size (halves.unread_body side log id)))
+  call-agrees (calls.Read id size) w =
+      on-receiving (calls.Read id size) id _ _ (rw (unread-agrees side offset h log id x) (read-agrees side h log id (half side offset h log x ends id) size (halves.unread_body side log id)))
+  call-agrees (calls.ReadExact id size) w =
+      on-receiving (calls.ReadExact id size) id _ _ (rw (unread-agrees side offset h log id x)
+      (read_exact-agrees side h log id (half side offset h log x ends id) size (halves.unread_body side log id)))
   call-agrees (calls.StopRecv id code) w = on-receiving (calls.StopRecv id code) id _ _ (stop-agrees side h log id (half side offset h log x ends id) code)

@@ -42,7 +42,8 @@ scan-zero : (t : TransportView) (calls : CallView) (v : ℕ → Verdict) (ids : 
 scan-zero t calls v [] table = refl
 scan-zero t calls v (k ∷ ids) table = refl
 
-pub check-step : (side : Side) (h : History) (l : Check) (later : List Check) (found xs : List Finding) → fault_of found ≡ None → found_by side h found l ≡ xs → after_checks side h (l ∷ later) found ≡ after_checks side h later (found ++ xs)
+pub check-step : (side : Side) (h : History) (l : Check) (later : List Check) (found xs : List Finding) → fault_of found ≡ None → found_by side h found l ≡ xs
+    → after_checks side h (l ∷ later) found ≡ after_checks side h later (found ++ xs)
 check-step side h l later found xs f e = rw (f, e) refl
 
 -- ---- the fault of a verdict is that of its consequence
@@ -110,9 +111,11 @@ fault-fields found table c f t = record {
 pub ripe-table : (found : List Finding) (table : StreamTable) (k : ℕ) (w : Verdict) (b : Bool) (xs : List Action) (o : Option ErrorCode) → fault_of found ≡ None → IsTable found table
     → IsTable ((found ++ finds.Classified k w b ∷ []) ++ faults_of o) (with_classified k w (record { admitted = b; actions = xs; fault = o }) table)
 ripe-table found table k w b xs None f t =
-    subst (λ (l : List Finding). IsTable l (with_classified k w (record { admitted = b; actions = xs; fault = None }) table)) (sym (append-nil (found ++ finds.Classified k w b ∷ []))) (ripe-fields found table k w b xs t)
+    subst (λ (l : List Finding). IsTable l (with_classified k w (record { admitted = b; actions = xs; fault = None }) table)) (sym (append-nil (found ++ finds.Classified k w b ∷ [])))
+        (ripe-fields found table k w b xs t)
 ripe-table found table k w b xs (Some c) f t =
-    fault-fields (found ++ finds.Classified k w b ∷ []) (with_classified k w (record { admitted = b; actions = xs; fault = None }) table) c (first-append fault_in found (finds.Classified k w b) ∙ or-none (fault_of found) ∙ f) (ripe-fields found table k w b xs t)
+    fault-fields (found ++ finds.Classified k w b ∷ []) (with_classified k w (record { admitted = b; actions = xs; fault = None }) table) c
+        (first-append fault_in found (finds.Classified k w b) ∙ or-none (fault_of found) ∙ f) (ripe-fields found table k w b xs t)
 
 -- ---- the scan
 
@@ -127,8 +130,10 @@ Admits h t calls = (found : List Finding) (table : StreamTable) (k : ℕ) (w : V
 pub record ScanKeeps (h : History) (t : TransportView) (calls : CallView) (kind : ℕ) (Keeps : List Finding → StreamTable → Type 0) : Type 0 where
   pub table : (found : List Finding) (table : StreamTable) → Keeps found table → IsTable found table
   pub taken : (m : ℕ) (found : List Finding) (table : StreamTable) → fault_of found ≡ None → Keeps found table → Keeps (found ++ Dequeued (4 * m + kind) ∷ []) table
-  pub ripe : (m : ℕ) (found : List Finding) (table : StreamTable) (w : Verdict) → fault_of found ≡ None → is_dequeued found (4 * m + kind) ≡ true → is_classified found (4 * m + kind) ≡ false → verdict h (4 * m + kind) ≡ w → Keeps found table
-      → let c = consequence t (dispatched_streams calls table) (4 * m + kind) w in Keeps ((found ++ finds.Classified (4 * m + kind) w c.admitted ∷ []) ++ faults_of c.fault) (with_classified (4 * m + kind) w c table)
+  pub ripe : (m : ℕ) (found : List Finding) (table : StreamTable) (w : Verdict) → fault_of found ≡ None → is_dequeued found (4 * m + kind) ≡ true → is_classified found (4 * m + kind) ≡ false
+      → verdict h (4 * m + kind) ≡ w → Keeps found table
+      → let c = consequence t (dispatched_streams calls table) (4 * m + kind) w in
+      Keeps ((found ++ finds.Classified (4 * m + kind) w c.admitted ∷ []) ++ faults_of c.fault) (with_classified (4 * m + kind) w c table)
 
 -- that the table holds what was found is kept
 pub table-kept : (h : History) (t : TransportView) (calls : CallView) (kind : ℕ) → ScanKeeps h t calls kind IsTable
@@ -139,7 +144,8 @@ table-kept h t calls kind = record {
       let c : Consequence = consequence t (dispatched_streams calls table) (4 * m + kind) w in ripe-table found table (4 * m + kind) w c.admitted c.actions c.fault f holds;
 }
 
-module _ (side : Side) (h : History) (t : TransportView) (calls : CallView) (v : ℕ → Verdict) (kind : ℕ) (small : kind < 4) (ready : is_ready side h ≡ true) (seen : (m : ℕ) → verdict h (4 * m + kind) ≡ v (4 * m + kind)) (admits : Admits h t calls)
+module _ (side : Side) (h : History) (t : TransportView) (calls : CallView) (v : ℕ → Verdict) (kind : ℕ) (small : kind < 4) (ready : is_ready side h ≡ true)
+    (seen : (m : ℕ) → verdict h (4 * m + kind) ≡ v (4 * m + kind)) (admits : Admits h t calls)
     (Keeps : List Finding → StreamTable → Type 0) (kept : ScanKeeps h t calls kind Keeps) where
   -- the stream is unsettled
   abbrev unripe : List Finding → ℕ → Bool
@@ -173,7 +179,8 @@ module _ (side : Side) (h : History) (t : TransportView) (calls : CallView) (v :
       by j true e q = absurd (cc (sym q ∙ ap not (more j e)))
 
   -- the stream is taken now
-  now-taken : (m : ℕ) (found : List Finding) (table : StreamTable) → nat_lt (unsettled found m) 4 ≡ true → fault_of found ≡ None → Few found → Keeps found table → Took m found (found ++ Dequeued (4 * m + kind) ∷ []) table
+  now-taken : (m : ℕ) (found : List Finding) (table : StreamTable) → nat_lt (unsettled found m) 4 ≡ true → fault_of found ≡ None → Few found → Keeps found table
+      → Took m found (found ++ Dequeued (4 * m + kind) ∷ []) table
   now-taken m found table lt f few holds = record {
     ripe = same;
     taken = dequeued-append found (Dequeued (4 * m + kind)) (4 * m + kind) ∙ ap (λ b. is_dequeued found (4 * m + kind) || b) (self (4 * m + kind) ∙ sym lt);
@@ -189,12 +196,14 @@ module _ (side : Side) (h : History) (t : TransportView) (calls : CallView) (v :
       self : (j : ℕ) → (j == j) ≡ true
       self j = eq-eqb j j refl
 
-      by : (i : ℕ) (b : Bool) → (4 * m + kind == 4 * i + kind) ≡ b → (is_dequeued found (4 * i + kind) || (4 * m + kind == 4 * i + kind)) ≡ true → is_classified found (4 * i + kind) ≡ false → nat_lt (unsettled found i) 4 ≡ true
+      by : (i : ℕ) (b : Bool) → (4 * m + kind == 4 * i + kind) ≡ b → (is_dequeued found (4 * i + kind) || (4 * m + kind == 4 * i + kind)) ≡ true → is_classified found (4 * i + kind) ≡ false
+          → nat_lt (unsettled found i) 4 ≡ true
       by i true e x y = let q : 4 * m + kind ≡ 4 * i + kind = eqb-true _ _ e in let r : m ≡ i = omega (arith, q) in subst (λ (n : ℕ). nat_lt (unsettled found n) 4 ≡ true) r lt
       by i false e x y = few i (sym (or-false (is_dequeued found (4 * i + kind))) ∙ sym (ap (λ b. is_dequeued found (4 * i + kind) || b) e) ∙ x) y
 
   -- nothing changes
-  not-taken : (m : ℕ) (found : List Finding) (table : StreamTable) → (is_dequeued found (4 * m + kind) ≡ (is_dequeued found (4 * m + kind) || nat_lt (unsettled found m) 4)) → fault_of found ≡ None → Few found → Keeps found table
+  not-taken : (m : ℕ) (found : List Finding) (table : StreamTable) → (is_dequeued found (4 * m + kind) ≡ (is_dequeued found (4 * m + kind) || nat_lt (unsettled found m) 4)) → fault_of found ≡ None
+      → Few found → Keeps found table
       → Took m found (found ++ []) table
   not-taken m found table e f few holds = subst (λ (l : List Finding). Took m found l table) (sym (append-nil found)) (record { ripe = λ j. refl; taken = e; few = few; holds = holds; none = f })
 
@@ -227,21 +236,30 @@ module _ (side : Side) (h : History) (t : TransportView) (calls : CallView) (v :
 
   few-fault : (found : List Finding) (o : Option ErrorCode) → Few found → Few (found ++ faults_of o)
   few-fault found None few = subst Few (sym (append-nil found)) few
-  few-fault found (Some c) few = few-more found (found ++ Faulted c ∷ []) (λ j. dequeued-append found (Faulted c) j ∙ or-false (is_dequeued found j)) (λ j q. classified-append found (Faulted c) j ∙ or-false (is_classified found j) ∙ q) few
+  few-fault found (Some c) few =
+      few-more found (found ++ Faulted c ∷ []) (λ j. dequeued-append found (Faulted c) j ∙ or-false (is_dequeued found j))
+      (λ j q. classified-append found (Faulted c) j ∙ or-false (is_classified found j) ∙ q) few
 
   ripe-fault : (found : List Finding) (o : Option ErrorCode) (j : ℕ) → is_classified (found ++ faults_of o) j ≡ is_classified found j
   ripe-fault found None j = ap (λ (l : List Finding). is_classified l j) (append-nil found)
   ripe-fault found (Some c) j = classified-append found (Faulted c) j ∙ or-false (is_classified found j)
 
   few-ripe : (found : List Finding) (k : ℕ) (w : Verdict) (b : Bool) → Few found → Few (found ++ finds.Classified k w b ∷ [])
-  few-ripe found k w b few = few-more found (found ++ finds.Classified k w b ∷ []) (λ j. dequeued-append found (finds.Classified k w b) j ∙ or-false (is_dequeued found j)) (λ j q. classified-append found (finds.Classified k w b) j ∙ rw q refl) few
+  few-ripe found k w b few =
+      few-more found (found ++ finds.Classified k w b ∷ []) (λ j. dequeued-append found (finds.Classified k w b) j ∙ or-false (is_dequeued found j))
+      (λ j q. classified-append found (finds.Classified k w b) j ∙ rw q refl) few
 
   -- other streams of the kind are as ripe as before
-  others : (m i : ℕ) (found : List Finding) (w : Verdict) (b : Bool) (o : Option ErrorCode) → ((4 * m + kind == 4 * i + kind) ≡ false) → is_classified ((found ++ finds.Classified (4 * m + kind) w b ∷ []) ++ faults_of o) (4 * i + kind) ≡ is_classified found (4 * i + kind)
-  others m i found w b o e = ripe-fault (found ++ finds.Classified (4 * m + kind) w b ∷ []) o (4 * i + kind) ∙ classified-append found (finds.Classified (4 * m + kind) w b) (4 * i + kind) ∙ rw e (or-false (is_classified found (4 * i + kind)))
+  others : (m i : ℕ) (found : List Finding) (w : Verdict) (b : Bool) (o : Option ErrorCode) → ((4 * m + kind == 4 * i + kind) ≡ false)
+      → is_classified ((found ++ finds.Classified (4 * m + kind) w b ∷ []) ++ faults_of o) (4 * i + kind) ≡ is_classified found (4 * i + kind)
+  others m i found w b o e =
+      ripe-fault (found ++ finds.Classified (4 * m + kind) w b ∷ []) o (4 * i + kind) ∙ classified-append found (finds.Classified (4 * m + kind) w b) (4 * i + kind)
+      ∙ rw e (or-false (is_classified found (4 * i + kind)))
 
   itself : (m : ℕ) (found : List Finding) (w : Verdict) (b : Bool) (o : Option ErrorCode) → is_classified ((found ++ finds.Classified (4 * m + kind) w b ∷ []) ++ faults_of o) (4 * m + kind) ≡ true
-  itself m found w b o = ripe-fault (found ++ finds.Classified (4 * m + kind) w b ∷ []) o (4 * m + kind) ∙ classified-append found (finds.Classified (4 * m + kind) w b) (4 * m + kind) ∙ rw (eq-eqb (4 * m + kind) (4 * m + kind) refl) (or-true (is_classified found (4 * m + kind)))
+  itself m found w b o =
+      ripe-fault (found ++ finds.Classified (4 * m + kind) w b ∷ []) o (4 * m + kind) ∙ classified-append found (finds.Classified (4 * m + kind) w b) (4 * m + kind)
+      ∙ rw (eq-eqb (4 * m + kind) (4 * m + kind) refl) (or-true (is_classified found (4 * m + kind)))
 
   apart : (m i : ℕ) → ((m ≡ i) → (true ≡ false)) → (4 * m + kind == 4 * i + kind) ≡ false
   apart m i n = not-same _ _ (λ q b. n (omega (arith, q)))
@@ -264,33 +282,46 @@ module _ (side : Side) (h : History) (t : TransportView) (calls : CallView) (v :
   stays count m n p found later table g again e q s =
       let l : after_checks side h (Classify (4 * m + kind) ∷ stream_checks (ids_from kind (suc m) count)) later ≡ after_checks side h (stream_checks (ids_from kind (suc m) count)) later
             = check-step side h (Classify (4 * m + kind)) _ later [] g.none e ∙ ap (after_checks side h (stream_checks (ids_from kind (suc m) count))) (append-nil later) in
-      let u : filter (unripe later) (ids_from kind (suc m) count) ≡ filter (unripe found) (ids_from kind (suc m) count) = filter-ids (unripe later) (unripe found) kind (suc m) count (λ i a b. ap not (g.ripe (4 * i + kind))) in
+      let u : filter (unripe later) (ids_from kind (suc m) count)
+      ≡ filter (unripe found) (ids_from kind (suc m) count) = filter-ids (unripe later) (unripe found) kind (suc m) count (λ i a b. ap not (g.ripe (4 * i + kind))) in
       let c : unsettled later (suc m) ≡ unsettled found (suc m) = ap length (filter-ids (unripe later) (unripe found) kind 0 (suc m) (λ i a b. ap not (g.ripe (4 * i + kind)))) in
       rw (l, s, sym u) (again p later table (q ∙ ap (λ (x : ℕ). 4 - x) (sym c)) g.few g.holds)
 
   -- a stream that becomes ripe
-  ripens : (count m n p : ℕ) (found later : List Finding) (table : StreamTable) (w : Verdict) → Took m found later table → Again count m → is_classified found (4 * m + kind) ≡ false → is_dequeued later (4 * m + kind) ≡ true → verdict h (4 * m + kind) ≡ w
+  ripens : (count m n p : ℕ) (found later : List Finding) (table : StreamTable) (w : Verdict) → Took m found later table → Again count m → is_classified found (4 * m + kind) ≡ false
+      → is_dequeued later (4 * m + kind) ≡ true → verdict h (4 * m + kind) ≡ w
       → classifying h later (4 * m + kind) ≡ finds.Classified (4 * m + kind) w (keeps h later w) ∷ stream_fault later w → n ≡ 4 - unsettled found m
-      → scan t calls v n (filter (unripe found) (ids_from kind m (suc count))) table ≡ scan t calls v n (filter (unripe found) (ids_from kind (suc m) count)) (with_classified (4 * m + kind) w (consequence t (dispatched_streams calls table) (4 * m + kind) w) table)
+      → scan t calls v n (filter (unripe found) (ids_from kind m (suc count))) table
+      ≡ scan t calls v n (filter (unripe found) (ids_from kind (suc m) count)) (with_classified (4 * m + kind) w (consequence t (dispatched_streams calls table) (4 * m + kind) w) table)
       → Keeps (after_checks side h (Classify (4 * m + kind) ∷ stream_checks (ids_from kind (suc m) count)) later) (scan t calls v n (filter (unripe found) (ids_from kind m (suc count))) table)
   ripens count m n p found later table w g again unripe-now dequeued shows e q s =
       let c : Consequence = consequence t (dispatched_streams calls table) (4 * m + kind) w in
       let more : List Finding = (later ++ finds.Classified (4 * m + kind) w c.admitted ∷ []) ++ faults_of c.fault in
-      let x : finds.Classified (4 * m + kind) w (keeps h later w) ∷ stream_fault later w ≡ finds.Classified (4 * m + kind) w c.admitted ∷ faults_of c.fault = rw (admits later table (4 * m + kind) w (kept.table later table g.holds), faults-agree t calls later table (4 * m + kind) w (kept.table later table g.holds)) refl in
+      let x : finds.Classified (4 * m + kind) w (keeps h later w) ∷ stream_fault later w
+      ≡ finds.Classified (4 * m + kind) w c.admitted ∷ faults_of c.fault = rw
+      (admits later table (4 * m + kind) w (kept.table later table g.holds), faults-agree t calls later table (4 * m + kind) w (kept.table later table g.holds)) refl in
       let l : after_checks side h (Classify (4 * m + kind) ∷ stream_checks (ids_from kind (suc m) count)) later ≡ after_checks side h (stream_checks (ids_from kind (suc m) count)) more
-            = check-step side h (Classify (4 * m + kind)) _ later (finds.Classified (4 * m + kind) w c.admitted ∷ faults_of c.fault) g.none (e ∙ x) ∙ ap (after_checks side h (stream_checks (ids_from kind (suc m) count))) (cons-append later (finds.Classified (4 * m + kind) w c.admitted) (faults_of c.fault)) in
+            =
+                check-step side h (Classify (4 * m + kind)) _ later (finds.Classified (4 * m + kind) w c.admitted ∷ faults_of c.fault) g.none (e ∙ x)
+                ∙ ap (after_checks side h (stream_checks (ids_from kind (suc m) count))) (cons-append later (finds.Classified (4 * m + kind) w c.admitted) (faults_of c.fault)) in
       let u : filter (unripe more) (ids_from kind (suc m) count) ≡ filter (unripe found) (ids_from kind (suc m) count)
-            = filter-ids (unripe more) (unripe found) kind (suc m) count (λ i a b. ap not (others m i later w c.admitted c.fault (apart m i (λ r. absurd (omega (arith, r, a)))) ∙ g.ripe (4 * i + kind))) in
+            =
+                filter-ids (unripe more) (unripe found) kind (suc m) count
+                (λ i a b. ap not (others m i later w c.admitted c.fault (apart m i (λ r. absurd (omega (arith, r, a)))) ∙ g.ripe (4 * i + kind))) in
       let z : unsettled more m ≡ unsettled found m
-            = ap length (filter-ids (unripe more) (unripe found) kind 0 m (λ i a b. ap not (others m i later w c.admitted c.fault (apart m i (λ r. absurd (omega (arith, r, b)))) ∙ g.ripe (4 * i + kind)))) in
+            =
+                ap length (filter-ids (unripe more) (unripe found) kind 0 m
+                (λ i a b. ap not (others m i later w c.admitted c.fault (apart m i (λ r. absurd (omega (arith, r, b)))) ∙ g.ripe (4 * i + kind)))) in
       let i0 : 0 + m ≡ m = omega arith in
       let o : unsettled more (suc m) ≡ unsettled found m
             = ids-more (unripe more) kind 0 m ∙ ap (λ (i : ℕ). unsettled more m + one-if (unripe more (4 * i + kind))) i0 ∙ rw (itself m later w c.admitted c.fault) (omega (arith, z)) in
-      rw (l, s, sym u) (again n more (with_classified (4 * m + kind) w c table) (q ∙ ap (λ (y : ℕ). 4 - y) (sym o)) (few-fault (later ++ finds.Classified (4 * m + kind) w c.admitted ∷ []) c.fault (few-ripe later (4 * m + kind) w c.admitted g.few))
+      rw (l, s, sym u) (again n more (with_classified (4 * m + kind) w c table) (q ∙ ap (λ (y : ℕ). 4 - y) (sym o))
+          (few-fault (later ++ finds.Classified (4 * m + kind) w c.admitted ∷ []) c.fault (few-ripe later (4 * m + kind) w c.admitted g.few))
           (kept.ripe m later table w g.none dequeued (g.ripe (4 * m + kind) ∙ unripe-now) shows g.holds))
 
   -- what the verdict of a stream that is taken leads to
-  decided : (count m n p : ℕ) (found later : List Finding) (table : StreamTable) → Took m found later table → Again count m → is_classified found (4 * m + kind) ≡ false → is_dequeued later (4 * m + kind) ≡ true
+  decided : (count m n p : ℕ) (found later : List Finding) (table : StreamTable) → Took m found later table → Again count m → is_classified found (4 * m + kind) ≡ false
+      → is_dequeued later (4 * m + kind) ≡ true
       → n ≡ suc p → n ≡ 4 - unsettled found m → p ≡ 4 - unsettled found (suc m)
       → Keeps (after_checks side h (Classify (4 * m + kind) ∷ stream_checks (ids_from kind (suc m) count)) later) (scan t calls v n (filter (unripe found) (ids_from kind m (suc count))) table)
   decided count m n p found later table g again r a np q qp = by (v (4 * m + kind)) refl
@@ -308,16 +339,33 @@ module _ (side : Side) (h : History) (t : TransportView) (calls : CallView) (v :
           ≡ scan t calls v (places_after w p) (filter (unripe found) (ids_from kind (suc m) count)) (classify t calls (4 * m + kind) w table)
       scanned w e = rw (np, r, none, e) refl
 
-      by : (w : Verdict) → v (4 * m + kind) ≡ w → Keeps (after_checks side h (Classify (4 * m + kind) ∷ stream_checks (ids_from kind (suc m) count)) later) (scan t calls v n (filter (unripe found) (ids_from kind m (suc count))) table)
+      by : (w : Verdict) → v (4 * m + kind) ≡ w → Keeps (after_checks side h (Classify (4 * m + kind) ∷ stream_checks (ids_from kind (suc m) count)) later)
+          (scan t calls v n (filter (unripe found) (ids_from kind m (suc count))) table)
       by verdicts.Incomplete e = stays count m n p found later table g again (becomes verdicts.Incomplete e) qp (scanned verdicts.Incomplete e)
-      by (verdicts.WebTransport s o) e = ripens count m n p found later table (verdicts.WebTransport s o) g again r a (seen m ∙ e) (becomes _ e) q (scanned _ e ∙ ap (λ (x : ℕ). scan t calls v x (filter (unripe found) (ids_from kind (suc m) count)) (classify t calls (4 * m + kind) (verdicts.WebTransport s o) table)) (sym np))
-      by (verdicts.Control o) e = ripens count m n p found later table (verdicts.Control o) g again r a (seen m ∙ e) (becomes _ e) q (scanned _ e ∙ ap (λ (x : ℕ). scan t calls v x (filter (unripe found) (ids_from kind (suc m) count)) (classify t calls (4 * m + kind) (verdicts.Control o) table)) (sym np))
-      by (verdicts.Encoder o) e = ripens count m n p found later table (verdicts.Encoder o) g again r a (seen m ∙ e) (becomes _ e) q (scanned _ e ∙ ap (λ (x : ℕ). scan t calls v x (filter (unripe found) (ids_from kind (suc m) count)) (classify t calls (4 * m + kind) (verdicts.Encoder o) table)) (sym np))
-      by (verdicts.Decoder o) e = ripens count m n p found later table (verdicts.Decoder o) g again r a (seen m ∙ e) (becomes _ e) q (scanned _ e ∙ ap (λ (x : ℕ). scan t calls v x (filter (unripe found) (ids_from kind (suc m) count)) (classify t calls (4 * m + kind) (verdicts.Decoder o) table)) (sym np))
-      by (verdicts.Request f o) e = ripens count m n p found later table (verdicts.Request f o) g again r a (seen m ∙ e) (becomes _ e) q (scanned _ e ∙ ap (λ (x : ℕ). scan t calls v x (filter (unripe found) (ids_from kind (suc m) count)) (classify t calls (4 * m + kind) (verdicts.Request f o) table)) (sym np))
-      by (verdicts.Refused c) e = ripens count m n p found later table (verdicts.Refused c) g again r a (seen m ∙ e) (becomes _ e) q (scanned _ e ∙ ap (λ (x : ℕ). scan t calls v x (filter (unripe found) (ids_from kind (suc m) count)) (classify t calls (4 * m + kind) (verdicts.Refused c) table)) (sym np))
-      by verdicts.Dropped e = ripens count m n p found later table verdicts.Dropped g again r a (seen m ∙ e) (becomes _ e) q (scanned _ e ∙ ap (λ (x : ℕ). scan t calls v x (filter (unripe found) (ids_from kind (suc m) count)) (classify t calls (4 * m + kind) verdicts.Dropped table)) (sym np))
-      by (verdicts.Fault c) e = ripens count m n p found later table (verdicts.Fault c) g again r a (seen m ∙ e) (becomes _ e) q (scanned _ e ∙ ap (λ (x : ℕ). scan t calls v x (filter (unripe found) (ids_from kind (suc m) count)) (classify t calls (4 * m + kind) (verdicts.Fault c) table)) (sym np))
+      by (verdicts.WebTransport s o) e =
+          ripens count m n p found later table (verdicts.WebTransport s o) g again r a (seen m ∙ e) (becomes _ e) q
+          (scanned _ e ∙ ap (λ (x : ℕ). scan t calls v x (filter (unripe found) (ids_from kind (suc m) count)) (classify t calls (4 * m + kind) (verdicts.WebTransport s o) table)) (sym np))
+      by (verdicts.Control o) e =
+          ripens count m n p found later table (verdicts.Control o) g again r a (seen m ∙ e) (becomes _ e) q
+          (scanned _ e ∙ ap (λ (x : ℕ). scan t calls v x (filter (unripe found) (ids_from kind (suc m) count)) (classify t calls (4 * m + kind) (verdicts.Control o) table)) (sym np))
+      by (verdicts.Encoder o) e =
+          ripens count m n p found later table (verdicts.Encoder o) g again r a (seen m ∙ e) (becomes _ e) q
+          (scanned _ e ∙ ap (λ (x : ℕ). scan t calls v x (filter (unripe found) (ids_from kind (suc m) count)) (classify t calls (4 * m + kind) (verdicts.Encoder o) table)) (sym np))
+      by (verdicts.Decoder o) e =
+          ripens count m n p found later table (verdicts.Decoder o) g again r a (seen m ∙ e) (becomes _ e) q
+          (scanned _ e ∙ ap (λ (x : ℕ). scan t calls v x (filter (unripe found) (ids_from kind (suc m) count)) (classify t calls (4 * m + kind) (verdicts.Decoder o) table)) (sym np))
+      by (verdicts.Request f o) e =
+          ripens count m n p found later table (verdicts.Request f o) g again r a (seen m ∙ e) (becomes _ e) q
+          (scanned _ e ∙ ap (λ (x : ℕ). scan t calls v x (filter (unripe found) (ids_from kind (suc m) count)) (classify t calls (4 * m + kind) (verdicts.Request f o) table)) (sym np))
+      by (verdicts.Refused c) e =
+          ripens count m n p found later table (verdicts.Refused c) g again r a (seen m ∙ e) (becomes _ e) q
+          (scanned _ e ∙ ap (λ (x : ℕ). scan t calls v x (filter (unripe found) (ids_from kind (suc m) count)) (classify t calls (4 * m + kind) (verdicts.Refused c) table)) (sym np))
+      by verdicts.Dropped e =
+          ripens count m n p found later table verdicts.Dropped g again r a (seen m ∙ e) (becomes _ e) q
+          (scanned _ e ∙ ap (λ (x : ℕ). scan t calls v x (filter (unripe found) (ids_from kind (suc m) count)) (classify t calls (4 * m + kind) verdicts.Dropped table)) (sym np))
+      by (verdicts.Fault c) e =
+          ripens count m n p found later table (verdicts.Fault c) g again r a (seen m ∙ e) (becomes _ e) q
+          (scanned _ e ∙ ap (λ (x : ℕ). scan t calls v x (filter (unripe found) (ids_from kind (suc m) count)) (classify t calls (4 * m + kind) (verdicts.Fault c) table)) (sym np))
 
   -- after the look at whether it is taken
   after-took : (count m n : ℕ) (found later : List Finding) (table : StreamTable) → Took m found later table → Again count m → Few found → n ≡ 4 - unsettled found m
@@ -325,7 +373,9 @@ module _ (side : Side) (h : History) (t : TransportView) (calls : CallView) (v :
   after-took count m n found later table g again few q = by (is_classified found (4 * m + kind)) refl (nat_lt (unsettled found m) 4) refl
     where
       more : (b : Bool) → is_classified found (4 * m + kind) ≡ b → unsettled found (suc m) ≡ unsettled found m + one-if (not b)
-      more b e = let i0 : 0 + m ≡ m = omega arith in ids-more (unripe found) kind 0 m ∙ ap (λ (i : ℕ). unsettled found m + one-if (unripe found (4 * i + kind))) i0 ∙ ap (λ (x : Bool). unsettled found m + one-if (not x)) e
+      more b e =
+          let i0 : 0 + m ≡ m = omega arith in ids-more (unripe found) kind 0 m ∙ ap (λ (i : ℕ). unsettled found m + one-if (unripe found (4 * i + kind))) i0
+          ∙ ap (λ (x : Bool). unsettled found m + one-if (not x)) e
 
       and-not : (a b : Bool) → b ≡ true → (a && not b) ≡ false
       and-not true true e = refl
@@ -339,7 +389,8 @@ module _ (side : Side) (h : History) (t : TransportView) (calls : CallView) (v :
           let z : (n ≡ 0) × (0 ≡ 4 - (unsettled found m + 1)) = no-places (unsettled found m) el n q in
           let d : is_dequeued found (4 * m + kind) ≡ false = untaken (is_dequeued found (4 * m + kind)) refl e el in
           let tk : is_dequeued later (4 * m + kind) ≡ false = g.taken ∙ rw (d, el) refl in
-          stays count m n 0 found later table g again (ripen-none later (4 * m + kind) (ap (λ (x : Bool). x && not (is_classified later (4 * m + kind))) tk)) (z.1 ∙ ap (λ (x : ℕ). 4 - x) (sym (more false e)))
+          stays count m n 0 found later table g again (ripen-none later (4 * m + kind) (ap (λ (x : Bool). x && not (is_classified later (4 * m + kind))) tk))
+          (z.1 ∙ ap (λ (x : ℕ). 4 - x) (sym (more false e)))
               (ap (λ (x : ℕ). scan t calls v x (filter (unripe found) (ids_from kind m (suc count))) table) z.0 ∙ scan-zero t calls v _ table ∙ sym (scan-zero t calls v _ table))
         where
           untaken : (x : Bool) → is_dequeued found (4 * m + kind) ≡ x → is_classified found (4 * m + kind) ≡ false → nat_lt (unsettled found m) 4 ≡ false → x ≡ false
@@ -357,7 +408,9 @@ module _ (side : Side) (h : History) (t : TransportView) (calls : CallView) (v :
     where
       by : (o : Option ErrorCode) → fault_of found ≡ o → Again count m
           → Keeps (after_checks side h (stream_checks (ids_from kind m (suc count))) found) (scan t calls v n (filter (unripe found) (ids_from kind m (suc count))) table)
-      by (Some c) e again = rw (checks-faulty side h (stream_checks (ids_from kind m (suc count))) found c e, scan-faulty t calls v n (filter (unripe found) (ids_from kind m (suc count))) table c (sym (kept.table found table holds).fault ∙ e)) holds
+      by (Some c) e again =
+          rw (checks-faulty side h (stream_checks (ids_from kind m (suc count))) found c e, scan-faulty t calls v n (filter (unripe found) (ids_from kind m (suc count))) table c
+          (sym (kept.table found table holds).fault ∙ e)) holds
       by None e again = rw (check-step side h (Dequeue (4 * m + kind)) (Classify (4 * m + kind) ∷ stream_checks (ids_from kind (suc m) count)) found (dequeuing side h found (4 * m + kind)) e refl)
           (after-took count m n found (found ++ dequeuing side h found (4 * m + kind)) table (took m found table e few holds) again few q)
 

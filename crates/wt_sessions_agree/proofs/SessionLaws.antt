@@ -29,7 +29,8 @@ use Rattle.wt_proto.specs.declared.session_walk.SessionWalk.TheVariants as walks
 use Rattle.wt_wire.specs.declared.side.StreamEnd.TheVariants as ends
 
 -- what is no stream moves none
-pub begin-same : (h : History) (offset : ℕ → ℕ) (found : List Finding) (f : Finding) → ((k : ℕ) → is_established h k ≡ true → verdict_in k f ≡ None) → Begin h offset found → Begin h offset (found ++ f ∷ [])
+pub begin-same : (h : History) (offset : ℕ → ℕ) (found : List Finding) (f : Finding) → ((k : ℕ) → is_established h k ≡ true → verdict_in k f ≡ None) → Begin h offset found
+    → Begin h offset (found ++ f ∷ [])
 begin-same h offset found f e b k s = ap part (first-append (verdict_in k) found f ∙ ap (option_or (verdict_of found k)) (e k s) ∙ or-none (verdict_of found k)) ∙ b k s
   where
     part : Option Verdict → ℕ
@@ -42,7 +43,9 @@ module _ (t : TransportView) (calls : CallView) where
   closed-table found table s code reason by_capsule holds = record {
     classified = drops classified_in (SessionClosed s code reason by_capsule) refl found ∙ holds.classified;
     datagrams = drops admitted_in (SessionClosed s code reason by_capsule) refl found ∙ holds.datagrams;
-    closed = adds closed_in (SessionClosed s code reason by_capsule) (record { id = s; code = code; reason = reason }) refl found ∙ ap (λ (xs : List Closed). xs ++ record { id = s; code = code; reason = reason } ∷ []) holds.closed;
+    closed =
+        adds closed_in (SessionClosed s code reason by_capsule) (record { id = s; code = code; reason = reason }) refl found
+        ∙ ap (λ (xs : List Closed). xs ++ record { id = s; code = code; reason = reason } ∷ []) holds.closed;
     looked_at = ap length (filter-drops is_datagram (SessionClosed s code reason by_capsule) refl found) ∙ holds.looked_at;
     settings = any-append reads_settings found (SessionClosed s code reason by_capsule) ∙ or-false (settings_came found) ∙ holds.settings;
     fault = first-append fault_in found (SessionClosed s code reason by_capsule) ∙ or-none (fault_of found) ∙ holds.fault;
@@ -65,7 +68,8 @@ pub record WalkKeeps (h : History) (t : TransportView) (calls : CallView) (Keeps
 pub table-walked : (h : History) (t : TransportView) (calls : CallView) → WalkKeeps h t calls IsTable
 table-walked h t calls = record { table = λ found table holds. holds; walked = λ found table s by_capsule walk f l holds. walked-table t calls found table s by_capsule walk f holds }
 
-module _ (side : Side) (h : History) (t : TransportView) (calls : CallView) (offset : ℕ → ℕ) (g : ViewsAgree side h t) (c : CallsAgree h calls) (Keeps : List Finding → StreamTable → Type 0) (kept : WalkKeeps h t calls Keeps) where
+module _ (side : Side) (h : History) (t : TransportView) (calls : CallView) (offset : ℕ → ℕ) (g : ViewsAgree side h t) (c : CallsAgree h calls) (Keeps : List Finding → StreamTable → Type 0)
+    (kept : WalkKeeps h t calls Keeps) where
   walked-begin : (found : List Finding) (s : ℕ) (by_capsule : Bool) (walk : SessionWalk) → Begin h offset found → Begin h offset (found ++ session_found s by_capsule walk)
   walked-begin found s by_capsule walks.Running b = subst (Begin h offset) (sym (append-nil found)) b
   walked-begin found s by_capsule (walks.Closed code reason) b = begin-same h offset found (SessionClosed s code reason by_capsule) (λ k s. refl) b
@@ -87,7 +91,8 @@ module _ (side : Side) (h : History) (t : TransportView) (calls : CallView) (off
       rw (check-step side h (WalkSession k) (map WalkSession ids) found [] f x, append-nil found) again
 
   -- an established session
-  established : (k : ℕ) (ids : List ℕ) (found : List Finding) (table : StreamTable) → is_established h k ≡ true → fault_of found ≡ None → Walks ids → Begin h offset found → Keeps found table → (b : Bool) → is_gone h found k ≡ b
+  established : (k : ℕ) (ids : List ℕ) (found : List Finding) (table : StreamTable) → is_established h k ≡ true → fault_of found ≡ None → Walks ids → Begin h offset found → Keeps found table
+      → (b : Bool) → is_gone h found k ≡ b
       → Keeps (after_checks side h (map WalkSession (k ∷ ids)) found) (check_each t calls (record { id = k; offset = offset k } ∷ filter_map (session_at h offset) ids) table)
   established k ids found table e f again b holds true q =
       let none : table.progress.fault ≡ None = sym (kept.table found table holds).fault ∙ f in
@@ -101,7 +106,8 @@ module _ (side : Side) (h : History) (t : TransportView) (calls : CallView) (off
       let gone : tables.is_gone calls table k ≡ false = gone-agrees h calls found table k c (kept.table found table holds) ∙ q in
       let capsule : Bool = is_over (session_walk_of (drop (offset k) (contents h k)) ends.Running) in
       let walk : SessionWalk = session_walk_of (drop (offset k) (contents h k)) (end_of (events h) k) in
-      let s : check_each t calls (record { id = k; offset = offset k } ∷ filter_map (session_at h offset) ids) table ≡ check_each t calls (filter_map (session_at h offset) ids) (session_walked t calls k capsule walk table)
+      let s : check_each t calls (record { id = k; offset = offset k } ∷ filter_map (session_at h offset) ids) table
+      ≡ check_each t calls (filter_map (session_at h offset) ids) (session_walked t calls k capsule walk table)
             = ap (λ (o : Option ErrorCode). unless_ended o (λ u. check_each t calls (filter_map (session_at h offset) ids) (check_living t calls (record { id = k; offset = offset k }) u)) table) none
             ∙ ap (check_each t calls (filter_map (session_at h offset) ids)) (ap (λ (o : Bool). if o then table else check_session t calls k (drop (offset k) (t.contents k)) (t.end k) table) gone
             ∙ ap (λ (bytes : List ℕ). session_walked t calls k (is_over (session_walk_of bytes ends.Running)) (session_walk_of bytes (t.end k)) table) (ap (drop (offset k)) (g.contents k))
@@ -109,7 +115,8 @@ module _ (side : Side) (h : History) (t : TransportView) (calls : CallView) (off
       let part : session_part h found k ≡ drop (offset k) (contents h k) = ap (λ (n : ℕ). drop n (contents h k)) (b k e) in
       let x : closing h found k ≡ session_found k capsule walk = rw (e, q, part) refl in
       rw (s, check-step side h (WalkSession k) (map WalkSession ids) found (session_found k capsule walk) f x)
-      (again (found ++ session_found k capsule walk) (session_walked t calls k capsule walk table) (walked-begin found k capsule walk b) (kept.walked found table k capsule walk f (rw (e, q) refl) holds))
+      (again (found ++ session_found k capsule walk) (session_walked t calls k capsule walk table) (walked-begin found k capsule walk b)
+      (kept.walked found table k capsule walk f (rw (e, q) refl) holds))
 
   pub walks-keep : (ids : List ℕ) → Walks ids
   walks-keep [] found table b holds = holds

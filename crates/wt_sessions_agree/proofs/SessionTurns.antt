@@ -97,7 +97,9 @@ module _ (h : History) (offset : ℕ → ℕ) (y : Session) (m : ℕ) (is : y.id
 
         past : (b : Bool) → is_established h (4 * i + 0) ≡ b → (i ≡ m → ⊥) → with_session y rest ≡ filter_map (session_at after offset2) (ids_from 0 (suc i) c)
             → with_session y (cons_option (session_at h offset (4 * i + 0)) rest) ≡ cons_option (session_at after offset2 (4 * i + 0)) (filter_map (session_at after offset2) (ids_from 0 (suc i) c))
-        past b e f again = ap (λ (o : Option Session). with_session y (cons_option o rest)) (here b e) ∙ on b ∙ ap (λ (o : Option Session). cons_option o (filter_map (session_at after offset2) (ids_from 0 (suc i) c))) (sym (here b e) ∙ sym (others (4 * i + 0) (apart i f)))
+        past b e f again =
+            ap (λ (o : Option Session). with_session y (cons_option o rest)) (here b e) ∙ on b
+            ∙ ap (λ (o : Option Session). cons_option o (filter_map (session_at after offset2) (ids_from 0 (suc i) c))) (sym (here b e) ∙ sym (others (4 * i + 0) (apart i f)))
           where
             here : (b : Bool) → is_established h (4 * i + 0) ≡ b → session_at h offset (4 * i + 0) ≡ (if b then Some (record { id = 4 * i + 0; offset = offset (4 * i + 0) }) else None)
             here b e = rw e refl
@@ -129,7 +131,8 @@ module _ (h : History) (offset : ℕ → ℕ) (y : Session) (m : ℕ) (is : y.id
 
 -- ---- calls
 
-same-ats : (h after : History) (offset : ℕ → ℕ) → ((k : ℕ) → is_established after k ≡ is_established h k) → (ids : List ℕ) → filter_map (session_at after offset) ids ≡ filter_map (session_at h offset) ids
+same-ats : (h after : History) (offset : ℕ → ℕ) → ((k : ℕ) → is_established after k ≡ is_established h k) → (ids : List ℕ)
+    → filter_map (session_at after offset) ids ≡ filter_map (session_at h offset) ids
 same-ats h after offset e [] = refl
 same-ats h after offset e (k ∷ ids) =
     ap (λ (b : Bool). cons_option (if b then Some (record { id = k; offset = offset k }) else None) (filter_map (session_at after offset) ids)) (e k)
@@ -167,7 +170,8 @@ module _ (side : Side) (offset : ℕ → ℕ) (h : History) (log : Log) (x : Sta
         → (call_view log2).sessions ≡ filter_map (session_at after (with-offset id (part_start side h id) offset)) (ids_from 0 0 (stream_count side after 0))
     sessions-session id e =
         one-now id e ∙ ap (with_session y) (x.sessions ∙ sym more-streams)
-        ∙ inserted h offset y (id / 4) is after (with-offset id (part_start side h id) offset) others (new-session side h (turns.Call c) hist lawful id (ap session_in e)) new 0 (stream_count side after 0) (omega arith) (omega (arith, there.there))
+        ∙ inserted h offset y (id / 4) is after (with-offset id (part_start side h id) offset) others (new-session side h (turns.Call c) hist lawful id (ap session_in e)) new 0
+        (stream_count side after 0) (omega arith) (omega (arith, there.there))
       where
         y : Session
         y = record { id = id; offset = part_start side h id }
@@ -186,7 +190,8 @@ module _ (side : Side) (offset : ℕ → ℕ) (h : History) (log : Log) (x : Sta
 
         others : (k : ℕ) → (k == id) ≡ false → session_at after (with-offset id (part_start side h id) offset) k ≡ session_at h offset k
         others k q =
-            ap (λ (b : Bool). if b then Some (record { id = k; offset = if k == id then part_start side h id else offset k }) else None) (now k ∙ ap (λ (b : Bool). b || is_established h k) (swapped k id q))
+            ap (λ (b : Bool). if b then Some (record { id = k; offset = if k == id then part_start side h id else offset k }) else None)
+                (now k ∙ ap (λ (b : Bool). b || is_established h k) (swapped k id q))
             ∙ ap (λ (b : Bool). if is_established h k then Some (record { id = k; offset = if b then part_start side h id else offset k }) else None) q
 
         new : session_at after (with-offset id (part_start side h id) offset) id ≡ Some y

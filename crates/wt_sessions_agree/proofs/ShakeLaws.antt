@@ -161,7 +161,8 @@ waits-by (handshakes.Responding accepts head) f a e n = rw (e, n) refl
 waits-by (handshakes.Connecting reserved head) f a e n = rw (e, n) refl
 
 -- what is left to say of a history and a state
-pub shake-agrees : (side : Side) (h : History) (state : HandshakeState) → IsHistory side h → is_waiting h ≡ is_continuable state → (side ≡ Server → (has_request h ≡ awaits_answer state) × (has_failed h ≡ is_over state)) → BegunAgrees state (last_begun h)
+pub shake-agrees : (side : Side) (h : History) (state : HandshakeState) → IsHistory side h → is_waiting h ≡ is_continuable state
+    → (side ≡ Server → (has_request h ≡ awaits_answer state) × (has_failed h ≡ is_over state)) → BegunAgrees state (last_begun h)
     → HandshakeAgrees side h state
 shake-agrees Client h state i w f b = record { waiting = w; requested = λ c. absurd (cc c); awaits = λ c. absurd (cc c); begun = b }
 shake-agrees Server h state i w f b = record {

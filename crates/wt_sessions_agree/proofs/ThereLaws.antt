@@ -82,7 +82,8 @@ module _ (side : Side) (h : History) where
       all-append (((unis ++ bis) ++ pieces) ++ sessions) _
       (all-append ((unis ++ bis) ++ pieces) sessions
       (all-append (unis ++ bis) pieces
-      (all-append unis bis (ids-there (peer_uni side) 0 (peer_count side (events h) (peer_uni side)) (uni-small side) (within (peer_uni side))) (ids-there (peer_bi side) 0 (peer_count side (events h) (peer_bi side)) (bi-small side) (within (peer_bi side))))
+      (all-append unis bis (ids-there (peer_uni side) 0 (peer_count side (events h) (peer_uni side)) (uni-small side) (within (peer_uni side)))
+      (ids-there (peer_bi side) 0 (peer_count side (events h) (peer_bi side)) (bi-small side) (within (peer_bi side))))
       (pieces-there 0 (datagrams_of (events h)))) (sessions-there (ids_from 0 0 (stream_count side h 0)))) refl
     where
       unis : List Check

@@ -190,7 +190,8 @@ module _ (side : Side) (offset : ℕ → ℕ) (h : History) (log : Log) (x : Sta
       by false o =
           let p : logs.is_open log ≡ false = sym x.came.openness ∙ o in
           leaves-nothing side offset h log x hist (turns.Bytes id (b ∷ [])) refl lawful (after-by false p)
-          (none-now side h (turns.Bytes id (b ∷ [])) (closed-more h (record { turn = turns.Bytes id (b ∷ []); answer = answer replies.Done [] }) o)) (found-same side pair h o) (closed-more h pair o ∙ sym p)
+          (none-now side h (turns.Bytes id (b ∷ [])) (closed-more h (record { turn = turns.Bytes id (b ∷ []); answer = answer replies.Done [] }) o)) (found-same side pair h o)
+          (closed-more h pair o ∙ sym p)
           (ordered side offset h log x hist members (turns.Bytes id (b ∷ [])) refl lawful log refl) kept
       by true o =
           let p : logs.is_open log ≡ true = sym x.came.openness ∙ o in

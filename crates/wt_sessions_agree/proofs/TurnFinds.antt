@@ -86,7 +86,8 @@ found-same side p h o = rw o refl
 
 -- the table and what it holds after a moment of both
 pub finds-alike : (side : Side) (offset : ℕ → ℕ) (p : Pair) (h : History) (log : Log) (e : Entry) → p.answer.reply ≡ replies.Done → is_open h ≡ true → (is_moment e && logs.is_open (e ∷ log)) ≡ true
-    → SeesAlike side (p ∷ h) (transport_view side (e ∷ log)) (call_view (e ∷ log)) offset → Orderly side (p ∷ h) (call_view (e ∷ log)) offset (findings side h) → IsTable (findings side h) (stream_table side log)
+    → SeesAlike side (p ∷ h) (transport_view side (e ∷ log)) (call_view (e ∷ log)) offset → Orderly side (p ∷ h) (call_view (e ∷ log)) offset (findings side h)
+    → IsTable (findings side h) (stream_table side log)
     → IsTable (findings side (p ∷ h)) (stream_table side (log_and_flush side log e))
 finds-alike side offset p h log e d o m s orderly table =
     let f = found-then side p h d o in
@@ -96,6 +97,7 @@ finds-alike side offset p h log e d o m s orderly table =
     (moment-agrees side (p ∷ h) (transport_view side (e ∷ log)) (call_view (e ∷ log)) offset s (findings side h) (stream_table side log) orderly table))
 
 -- what held before the moment holds after it
-pub orderly-then : (side : Side) (offset : ℕ → ℕ) (p : Pair) (h : History) (calls : CallView) → p.answer.reply ≡ replies.Done → is_open h ≡ true → Orderly side (p ∷ h) calls offset (findings side h) → Orderly side (p ∷ h) calls offset (findings side (p ∷ h))
+pub orderly-then : (side : Side) (offset : ℕ → ℕ) (p : Pair) (h : History) (calls : CallView) → p.answer.reply ≡ replies.Done → is_open h ≡ true → Orderly side (p ∷ h) calls offset (findings side h)
+    → Orderly side (p ∷ h) calls offset (findings side (p ∷ h))
 orderly-then side offset p h calls d o orderly =
     subst (Orderly side (p ∷ h) calls offset) (sym (found-then side p h d o)) (orderly-checks side (p ∷ h) calls offset (checks side (p ∷ h)) (peers-checked side (p ∷ h)) (findings side h) orderly)

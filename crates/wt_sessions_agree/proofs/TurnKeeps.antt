@@ -135,7 +135,8 @@ behind h offset m i (suc c) le = by (is_established h (4 * i + 0)) (behind h off
         differ true e = let q : 4 * i + 0 ≡ 4 * m = eqb-true (4 * i + 0) (4 * m) e in absurd (omega (arith, q, le))
 
     by : (b : Bool) → list_any (is_session (4 * m)) (filter_map (session_at h offset) (ids_from 0 (suc i) c)) ≡ false
-        → list_any (is_session (4 * m)) (cons_option (if b then Some (record { id = 4 * i + 0; offset = offset (4 * i + 0) }) else None) (filter_map (session_at h offset) (ids_from 0 (suc i) c))) ≡ false
+        → list_any (is_session (4 * m)) (cons_option (if b then Some (record { id = 4 * i + 0; offset = offset (4 * i + 0) }) else None) (filter_map (session_at h offset) (ids_from 0 (suc i) c)))
+        ≡ false
     by true again = rw (other, again) refl
     by false again = again
 
@@ -259,14 +260,16 @@ module _ (side : Side) (offset : ℕ → ℕ) (h : History) (log : Log) (x : Sta
     handshake-after : HandshakeAgrees side after (handshake_state (calls_of log2))
     handshake-after = record {
       waiting = ap (λ (b : Bool). if b then false else is_waiting h) (no-poll turn plain) ∙ x.handshake.waiting ∙ ap (λ (rs : List CallRecord). is_continuable (handshake_state rs)) (sym called);
-      requested = λ c. ap (λ (b : Bool). if b then false else has_request h) (no-request turn plain) ∙ x.handshake.requested c ∙ ap (λ (rs : List CallRecord). awaits_answer (handshake_state rs)) (sym called);
+      requested =
+          λ c. ap (λ (b : Bool). if b then false else has_request h) (no-request turn plain) ∙ x.handshake.requested c ∙ ap (λ (rs : List CallRecord). awaits_answer (handshake_state rs)) (sym called);
       awaits = λ c. rw (no-failure turn plain, no-poll turn plain) (x.handshake.awaits c ∙ ap (λ (rs : List CallRecord). awaits_request (handshake_state rs)) (sym called));
       begun = subst (λ (o : Option Call). BegunAgrees (handshake_state (calls_of log2)) o) (ap (λ (o : Option Call). option_or o (last_begun h)) (sym (no-begin turn plain)))
           (subst (λ (rs : List CallRecord). BegunAgrees (handshake_state rs) (last_begun h)) (sym called) x.handshake.begun);
     }
 
     -- the whole, where the moment finds alike
-    kept : Agrees after log2 → answers.is_first log2 ≡ false → IsTable (findings side after) (stream_table side log2) → Orderly side after (call_view log2) offset (findings side after) → Stands side offset after log2
+    kept : Agrees after log2 → answers.is_first log2 ≡ false → IsTable (findings side after) (stream_table side log2) → Orderly side after (call_view log2) offset (findings side after)
+        → Stands side offset after log2
     kept came first table orderly = record {
       first = sym first;
       came = came;

@@ -52,7 +52,8 @@ module _ (calls : CallView) (a g g2 : ℕ → Bool) (acc : (k : ℕ) → calls.a
       by false false e f again = rw (acc id, e, gone s, f) (ap (λ (l : List (ℕ × ℕ)). (id, s) ∷ l) again)
   waits-found (_ ∷ found) = waits-found found
 
-pub waiting-agree : (h : History) (calls : CallView) (found : List Finding) (table : StreamTable) → CallsAgree h calls → IsTable found table → map stream-pair (tables.waiting_streams calls table) ≡ waiting_streams h found
+pub waiting-agree : (h : History) (calls : CallView) (found : List Finding) (table : StreamTable) → CallsAgree h calls → IsTable found table
+    → map stream-pair (tables.waiting_streams calls table) ≡ waiting_streams h found
 waiting-agree h calls found table c t =
     ap (λ (cs : List Classified). map stream-pair (filter (λ (w : Waiting). not (tables.is_gone calls table w.session)) (filter_map (waits_in calls) cs))) (sym t.classified)
     ∙ waits-found calls (is_handed_out h) (is_gone h found) (tables.is_gone calls table) c.accepted (λ s. gone-agrees h calls found table s c t) found
@@ -67,7 +68,8 @@ first-found kind s [] = refl
 first-found kind s (w ∷ ws) = by (waits_for kind s w) (first-found kind s ws)
   where
     by : (b : Bool) → first_of (λ (w : ℕ × ℕ). if w.0 % 4 == kind && w.1 == s then Some w.0 else None) (map stream-pair ws) ≡ id-of (find (waits_for kind s) ws)
-        → option_or (if b then Some w.id else None) (first_of (λ (w : ℕ × ℕ). if w.0 % 4 == kind && w.1 == s then Some w.0 else None) (map stream-pair ws)) ≡ id-of (cond b (Some w) (find (waits_for kind s) ws))
+        → option_or (if b then Some w.id else None) (first_of (λ (w : ℕ × ℕ). if w.0 % 4 == kind && w.1 == s then Some w.0 else None) (map stream-pair ws))
+        ≡ id-of (cond b (Some w) (find (waits_for kind s) ws))
     by true e = refl
     by false e = e
 
@@ -82,7 +84,8 @@ pub gone-is : (side : Side) (offset : ℕ → ℕ) (h : History) (log : Log) (s 
 gone-is side offset h log s x = sym (gone-agrees h (call_view log) (findings side h) (stream_table side log) s x.calls x.table)
 
 pub living-is : (side : Side) (offset : ℕ → ℕ) (h : History) (log : Log) (s : ℕ) → Stands side offset h log → is_living side h s ≡ drivers.is_living side log s
-living-is side offset h log s x = ap (λ (b : Bool). b && not (is_gone h (findings side h) s)) (sym (x.calls.established s)) ∙ ap (λ (b : Bool). tables.was_established (call_view log) s && not b) (gone-is side offset h log s x)
+living-is side offset h log s x =
+    ap (λ (b : Bool). b && not (is_gone h (findings side h) s)) (sym (x.calls.established s)) ∙ ap (λ (b : Bool). tables.was_established (call_view log) s && not b) (gone-is side offset h log s x)
 
 pub transport-is : (side : Side) (offset : ℕ → ℕ) (h : History) (log : Log) → Stands side offset h log → transport_error h ≡ effects.transport_error log
 transport-is side offset h log x = rw x.came.events (by (loss_of (events_of log)))
@@ -128,7 +131,9 @@ error-is side offset h log s x =
 
 -- the first that waits is the first that is left
 abbrev LeftSame : CallView → (ℕ → Bool) → ℕ → List Admitted → Type 0
-LeftSame calls g s ds = find (λ (d : Admitted). d.session == s) (filter (λ (d : Admitted). not (calls.received d.index) && not (g d.session)) ds) ≡ first_of (λ (d : Admitted). Some d) (filter (is_left calls) (filter (is_of s) ds))
+LeftSame calls g s ds =
+    find (λ (d : Admitted). d.session == s) (filter (λ (d : Admitted). not (calls.received d.index) && not (g d.session)) ds)
+    ≡ first_of (λ (d : Admitted). Some d) (filter (is_left calls) (filter (is_of s) ds))
 
 -- none waits
 abbrev NoneWaits : CallView → (ℕ → Bool) → ℕ → List Admitted → Type 0
@@ -136,7 +141,8 @@ NoneWaits calls g s ds = find (λ (d : Admitted). d.session == s) (filter (λ (d
 
 -- of a session that isn't gone, those that wait are those that are left
 left-waiting : (calls : CallView) (g : ℕ → Bool) (s : ℕ) → g s ≡ false → (ds : List Admitted)
-    → find (λ (d : Admitted). d.session == s) (filter (λ (d : Admitted). not (calls.received d.index) && not (g d.session)) ds) ≡ first_of (λ (d : Admitted). Some d) (filter (is_left calls) (filter (is_of s) ds))
+    → find (λ (d : Admitted). d.session == s) (filter (λ (d : Admitted). not (calls.received d.index) && not (g d.session)) ds)
+    ≡ first_of (λ (d : Admitted). Some d) (filter (is_left calls) (filter (is_of s) ds))
 left-waiting calls g s e [] = refl
 left-waiting calls g s e (d ∷ ds) = by (d.session == s) refl (calls.received d.index) refl (g d.session) refl (left-waiting calls g s e ds)
   where
@@ -195,12 +201,14 @@ next-datagram side offset h log s x = by (is_session_gone side log s) refl
         let n : next_datagram side log s ≡ None = none-waiting (call_view log) (is_session_gone side log) s g (stream_table side log).datagrams in
         rw (gone-is side offset h log s x, g, n) refl
     by false g =
-        rw (gone-is side offset h log s x, g) (ap (first_of (λ (d : ℕ × List ℕ). Some d.1)) (waiting-pairs side h s) ∙ first-pairs (left_datagrams side h s) ∙ ap payload-of (sym (next-left side offset h log s x g)))
+        rw (gone-is side offset h log s x, g) (ap (first_of (λ (d : ℕ × List ℕ). Some d.1)) (waiting-pairs side h s) ∙ first-pairs (left_datagrams side h s)
+            ∙ ap payload-of (sym (next-left side offset h log s x g)))
 
 -- its index
 index-of : (ds : List Admitted) (d : Admitted) → first_of (λ (d : Admitted). Some d) ds ≡ Some d → first_of (λ (d : Admitted). Some d.index) ds ≡ Some d.index
 index-of [] d e = absurd (cc e)
 index-of (x ∷ ds) d e = ap (λ (o : Option Admitted). elim o [ Some y ↦ Some y.index | None ↦ None ]) e
 
-pub next-index : (side : Side) (offset : ℕ → ℕ) (h : History) (log : Log) (s : ℕ) (d : Admitted) → Stands side offset h log → is_session_gone side log s ≡ false → next_datagram side log s ≡ Some d → next_index side h s ≡ d.index
+pub next-index : (side : Side) (offset : ℕ → ℕ) (h : History) (log : Log) (s : ℕ) (d : Admitted) → Stands side offset h log → is_session_gone side log s ≡ false → next_datagram side log s ≡ Some d
+    → next_index side h s ≡ d.index
 next-index side offset h log s d x g e = rw (index-of (left_datagrams side h s) d (sym (next-left side offset h log s x g) ∙ e)) refl

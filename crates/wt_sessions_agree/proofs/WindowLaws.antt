@@ -29,8 +29,10 @@ or-in-front a b c e false = e
 
 gone-found : (s : ℕ) (found : List Finding) → list_any (makes_gone s) found ≡ (list_any (is_closed s) (filter_map closed_in found) || list_any (is_turned_away s) (filter_map classified_in found))
 gone-found s [] = refl
-gone-found s (finds.Classified id (verdicts.Refused code) keeps ∷ found) = rw (and-true (id == s)) (or-left-true _ (list_any (is_closed s) (filter_map closed_in found)) _ (gone-found s found) (id == s))
-gone-found s (finds.Classified id (verdicts.Request f o) false ∷ found) = rw (and-true (id == s)) (or-left-true _ (list_any (is_closed s) (filter_map closed_in found)) _ (gone-found s found) (id == s))
+gone-found s (finds.Classified id (verdicts.Refused code) keeps ∷ found) =
+    rw (and-true (id == s)) (or-left-true _ (list_any (is_closed s) (filter_map closed_in found)) _ (gone-found s found) (id == s))
+gone-found s (finds.Classified id (verdicts.Request f o) false ∷ found) =
+    rw (and-true (id == s)) (or-left-true _ (list_any (is_closed s) (filter_map closed_in found)) _ (gone-found s found) (id == s))
 gone-found s (finds.Classified id _ keeps ∷ found) = rw (and-false (id == s)) (gone-found s found)
 gone-found s (SessionClosed session code reason by_capsule ∷ found) = or-in-front _ (list_any (is_closed s) (filter_map closed_in found)) _ (gone-found s found) (session == s)
 gone-found s (_ ∷ found) = gone-found s found
@@ -58,8 +60,12 @@ module _ (calls : CallView) (a g g2 p q : ℕ → Bool) (acc : (k : ℕ) → cal
 
 pub window-agrees : (h : History) (calls : CallView) (found : List Finding) (table : StreamTable) (s : ℕ) → CallsAgree h calls → IsTable found table
     → has_room (dispatched_streams calls table) s (map (λ (w : Waiting). w.session) (tables.waiting_streams calls table)) ≡ nat_lt (streams_in_window h found s) 16
-window-agrees h calls found table s c t = ap (λ (n : ℕ). nat_lt n 16) (ap (λ (cs : List Classified). length (filter (tables.shares_window (dispatched_streams calls table) s) (map (λ (w : Waiting). w.session) (filter (λ (w : Waiting). not (tables.is_gone calls table w.session)) (filter_map (waits_in calls) cs))))) (sym t.classified)
-    ∙ window-count calls (is_handed_out h) (is_gone h found) (tables.is_gone calls table) (tables.shares_window (dispatched_streams calls table) s) (shares_window h found s) c.accepted (λ k. gone-agrees h calls found table k c t) shares found)
+window-agrees h calls found table s c t =
+    ap (λ (n : ℕ). nat_lt n 16) (ap (λ (cs : List Classified). length
+    (filter (tables.shares_window (dispatched_streams calls table) s)
+    (map (λ (w : Waiting). w.session) (filter (λ (w : Waiting). not (tables.is_gone calls table w.session)) (filter_map (waits_in calls) cs))))) (sym t.classified)
+    ∙ window-count calls (is_handed_out h) (is_gone h found) (tables.is_gone calls table) (tables.shares_window (dispatched_streams calls table) s) (shares_window h found s) c.accepted
+    (λ k. gone-agrees h calls found table k c t) shares found)
   where
     shares : (k : ℕ) → is_gone h found k ≡ false → shares_window h found s k ≡ tables.shares_window (dispatched_streams calls table) s k
     shares k e = rw (c.established s, c.established k, e) (by (is_established h s))
@@ -72,7 +78,9 @@ window-agrees h calls found table s c t = ap (λ (n : ℕ). nat_lt n 16) (ap (λ
 
 module _ (g g2 : ℕ → Bool) (gone : (s : ℕ) → g2 s ≡ g s) where
   abbrev Held : List Finding → Type 0
-  Held found = length (filter (λ (k : ℕ). not (g2 k)) (filter_map queued_id (filter_map classified_in found))) ≡ length (filter (λ (q : ℕ × List (List ℕ × List ℕ)). not (g q.0)) (filter_map queued_request found))
+  Held found =
+      length (filter (λ (k : ℕ). not (g2 k)) (filter_map queued_id (filter_map classified_in found)))
+      ≡ length (filter (λ (q : ℕ × List (List ℕ × List ℕ)). not (g q.0)) (filter_map queued_request found))
 
   pub held-count : (found : List Finding) → Held found
   held-count [] = refl
@@ -95,7 +103,9 @@ admits-agree h t calls c found table k (verdicts.WebTransport s o) b =
     by false false = refl
 admits-agree h t calls c found table k (verdicts.Request f o) b =
     let q : length (filter (λ (k : ℕ). not (tables.is_gone calls table k)) (filter_map queued_id table.classified)) ≡ held_requests h found
-          = ap (λ (cs : List Classified). length (filter (λ (k : ℕ). not (tables.is_gone calls table k)) (filter_map queued_id cs))) (sym b.classified) ∙ held-count (is_gone h found) (tables.is_gone calls table) (λ s. gone-agrees h calls found table s c b) found in
+          =
+              ap (λ (cs : List Classified). length (filter (λ (k : ℕ). not (tables.is_gone calls table k)) (filter_map queued_id cs))) (sym b.classified)
+              ∙ held-count (is_gone h found) (tables.is_gone calls table) (λ s. gone-agrees h calls found table s c b) found in
     rw q (by (nat_lt (held_requests h found) 4) _ _ refl refl)
   where
     by : (x : Bool) (y z : Consequence) → y.admitted ≡ true → z.admitted ≡ false → (cond x y z).admitted ≡ x
