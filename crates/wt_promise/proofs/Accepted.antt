@@ -33,6 +33,24 @@ pub and-right : (a b : Bool) → (a && b) ≡ true → b ≡ true
 and-right true b e = e
 and-right false b e = absurd (cc e)
 
+pub or-left : (a b : Bool) → (a || b) ≡ false → a ≡ false
+or-left true b e = e
+or-left false b e = refl
+
+pub or-right : (a b : Bool) → (a || b) ≡ false → b ≡ false
+or-right true b e = absurd (cc e)
+or-right false b e = e
+
+-- where one of two doesn't hold, the other does
+pub or-first : (a b : Bool) → (a || b) ≡ true → b ≡ false → a ≡ true
+or-first true b e f = refl
+or-first false true e f = absurd (cc f)
+or-first false false e f = absurd (cc e)
+
+pub or-last : (a b : Bool) → (a || b) ≡ true → a ≡ false → b ≡ true
+or-last true b e f = absurd (cc f)
+or-last false b e f = e
+
 pub not-true : (b : Bool) → not b ≡ true → b ≡ false
 not-true true e = absurd (cc e)
 not-true false e = refl

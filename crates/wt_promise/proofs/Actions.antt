@@ -30,10 +30,6 @@ use Rattle.wt_turn.specs.declared.action.Action.TheVariants as actions
 abbrev pub AnyPiece : (Action → Bool) → Type 0
 AnyPiece test = (i : ℕ) (p q : List ℕ) → test (actions.Send i p) ≡ test (actions.Send i q)
 
-or-same : (b : Bool) → b ≡ (b || (b || false))
-or-same true = refl
-or-same false = refl
-
 or-nothing : (b : Bool) → (b || false) ≡ b
 or-nothing true = refl
 or-nothing false = refl
@@ -41,6 +37,11 @@ or-nothing false = refl
 pub or-assoc : (a b c : Bool) → (a || (b || c)) ≡ ((a || b) || c)
 or-assoc true b c = refl
 or-assoc false b c = refl
+
+or-shift : (a b : Bool) → (a || (b || false)) ≡ ((a || false) || b)
+or-shift true b = refl
+or-shift false true = refl
+or-shift false false = refl
 
 any-two : (test : Action → Bool) → AnyPiece test → (x y : Action) → list_any test (join_one (x ∷ []) y) ≡ (list_any test (x ∷ []) || test y)
 any-two test n (actions.Send i p) (actions.Send j q) = by (i == j) refl
@@ -51,18 +52,8 @@ any-two test n (actions.Send i p) (actions.Send j q) = by (i == j) refl
         same : (b : Bool) → (b || false) ≡ ((b || false) || b)
         same true = refl
         same false = refl
-    by false e = shift (test (actions.Send i p)) (test (actions.Send j q))
-      where
-        shift : (a b : Bool) → (a || (b || false)) ≡ ((a || false) || b)
-        shift true b = refl
-        shift false true = refl
-        shift false false = refl
-any-two test n x y = shift (test x) (test y)
-  where
-    shift : (a b : Bool) → (a || (b || false)) ≡ ((a || false) || b)
-    shift true b = refl
-    shift false true = refl
-    shift false false = refl
+    by false e = or-shift (test (actions.Send i p)) (test (actions.Send j q))
+any-two test n x y = or-shift (test x) (test y)
 
 pub any-join_one : (test : Action → Bool) → AnyPiece test → (before : List Action) (a : Action) → list_any test (join_one before a) ≡ (list_any test before || test a)
 any-join_one test n [] a = or-nothing (test a)

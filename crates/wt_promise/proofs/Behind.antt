@@ -8,7 +8,7 @@ use Rattle.std.proofs.lemmas.List.Folds.{list_any-append}
 use Rattle.wt_meaning.specs.Findings.{Finding}
 use Rattle.wt_meaning.specs.History.{History, can_receive, can_send, events, is_given_up, is_reset, is_reset_of, stream_count, was_finished}
 use Rattle.wt_meaning.specs.Sends.{action_if, is_of_session, numbers_from, session_gone_actions, stream_gone_actions}
-use Rattle.wt_promise.proofs.Accepted.{or-true}
+use Rattle.wt_promise.proofs.Accepted.{or-left, or-right, or-true}
 use Rattle.wt_promise.proofs.Actions.{any-join_one, none-append, none-if, or-assoc}
 use Rattle.wt_promise.proofs.Flow.{clash}
 use Rattle.wt_promise.specs.Promise.{NoneBehind, acts_on, sends_on}
@@ -28,15 +28,7 @@ behind-append {T = T} first later (x ∷ xs) ys a b f =
 -- where none passes the first test
 pub behind-none : {T : Type 0} (first later : T → Bool) (xs : List T) → list_any first xs ≡ false → NoneBehind first later xs
 behind-none first later [] e = tt
-behind-none {T = T} first later (x ∷ xs) e = (λ r. absurd (clash (first x) r (left (first x) (list_any first xs) e)), behind-none first later xs (right (first x) (list_any first xs) e))
-  where
-    left : (a b : Bool) → (a || b) ≡ false → a ≡ false
-    left true b q = q
-    left false b q = refl
-
-    right : (a b : Bool) → (a || b) ≡ false → b ≡ false
-    right true b q = absurd (cc q)
-    right false b q = q
+behind-none {T = T} first later (x ∷ xs) e = (λ r. absurd (clash (first x) r (or-left (first x) (list_any first xs) e)), behind-none first later xs (or-right (first x) (list_any first xs) e))
 
 -- ---- joined actions
 

@@ -1,5 +1,5 @@
 -- What a session rests on: SETTINGS came, it was asked for, its whole frame went out, the connection is open, and it is new.
-use Rattle.std.specs.Prelude.{[], ◌&&◌, ◌++◌, ◌==◌, ◌||◌, ◌∷◌, ◌≡◌, ◌≤◌, Bool, List, None, Option, Some, false, filter_map, if◌then◌else◌, length, not, take, true, unwrap_or, ℕ}
+use Rattle.std.specs.Prelude.{[], ◌&&◌, ◌++◌, ◌==◌, ◌||◌, ◌∷◌, ◌≡◌, ◌≤◌, Bool, List, None, Option, Some, false, if◌then◌else◌, length, not, take, true, unwrap_or, ℕ}
 use Rattle.std.specs.List.{list_any}
 use Rattle.std.specs.Option.{option_or}
 use Rattle.std.proofs.Common.{◌∙◌, ap, arith, length-append, refl, subst, sym}
@@ -8,29 +8,30 @@ use Rattle.std.proofs.lemmas.List.{append-nil, length-drop, take_all}
 use Rattle.std.proofs.lemmas.List.Folds.{list_any-append}
 use Rattle.wt_meaning.specs.Calls.{opened_by}
 use Rattle.wt_meaning.specs.Findings.{first_of, reads_settings, settings_came}
-use Rattle.wt_meaning.specs.Handshakes.{head_left, is_opened, is_success, lacks_credit, last_begun, next_request, poll_rows, send, was_given}
-use Rattle.wt_meaning.specs.History.{History, Pair, actions_out, contents, credit_left, events, is_handed_out, is_open, out}
+use Rattle.wt_meaning.specs.Handshakes.{head_left, is_opened, is_success, lacks_credit, last_begun, poll_rows, send, was_given}
+use Rattle.wt_meaning.specs.History.{History, Pair, actions_out, contents, credit_left, events, is_handed_out, out}
 use Rattle.wt_meaning.specs.Lawful.{is_first, is_lawful, is_response, polls}
 use Rattle.wt_meaning.specs.Meaning.{next, own_answer, with_pair}
 use Rattle.wt_meaning.specs.Moments.{findings}
 use Rattle.wt_meaning.specs.Rows.{first_row}
 use Rattle.wt_meaning.specs.Sends.{action_if}
-use Rattle.wt_meaning.specs.Windows.{is_established, is_number, last_request, queued_request, request_in, requests, session_in}
+use Rattle.wt_meaning.specs.Windows.{is_established, is_number, last_request, request_in, requests, session_in}
 use Rattle.wt_promise.proofs.Accepted.{and-right}
 use Rattle.wt_promise.proofs.Begun.{BegunFor, begun-for, last_stream, polled-stream}
 use Rattle.wt_promise.proofs.BytesOut.{bytes-append, bytes_on, out-add}
 use Rattle.wt_promise.proofs.ControlKept.{begun-not-control, own-bytes, polled-k}
-use Rattle.wt_promise.proofs.Few.{APoll, AnAccept, SessionCall, given-by-incoming, new-session, session-call}
+use Rattle.wt_promise.proofs.Few.{APoll, AnAccept, SessionCall, new-session, session-call}
 use Rattle.wt_promise.proofs.Flow.{Flow, InHead, Past, take-all-of}
 use Rattle.wt_promise.proofs.Flows.{flow, no-left, polled-begun, polled-last}
 use Rattle.wt_promise.proofs.Fresh.{client-begun, established-opened}
 use Rattle.wt_promise.proofs.Grows.{findings-add, news}
 use Rattle.wt_promise.proofs.Heads.{accepted-before, begun-kept, head-other}
+use Rattle.wt_promise.proofs.Phases.{requested}
 use Rattle.wt_promise.proofs.Sent.{if-bytes, send-bytes}
 use Rattle.wt_promise.proofs.Shapes.{going}
 use Rattle.wt_promise.proofs.Shakes.{head_stream}
 use Rattle.wt_promise.proofs.Sessions.{AcceptGives, Accepted, ConnectGives, Connected, PollGives, accept-gives, is_connect, poll-gives}
-use Rattle.wt_promise.proofs.Tables.{by-row, by-value, fits, fits-own, no-row}
+use Rattle.wt_promise.proofs.Tables.{fits-own}
 use Rattle.wt_promise.specs.Promise.{EstablishedFor, EstablishedRightly, IsHistory, accepted, begun_on, frame_or, head_of, head_on, header_on, is_acceptance}
 use Rattle.wt_proto.specs.ResponseWalk.{response_walk_of}
 use Rattle.wt_seam_spec.specs.Reports.{end_of}
@@ -49,22 +50,6 @@ use Rattle.wt_turn.specs.declared.turn.Turn.TheVariants as turns
 
 -- ---- a request is given once SETTINGS came
 
-abbrev AfterSettings : Side → History → Answer → Type 0
-AfterSettings side h a = (k : ℕ) → request_in a.reply ≡ Some k → settings_came (findings side h) ≡ true
-
-incoming-after : (side : Side) (h : History) → AfterSettings side h (next side h (turns.Call calls.Incoming))
-incoming-after side h =
-    (by-value (AfterSettings side h) (next_request side h) (λ (q : ℕ × Fields). replies.Request q.0 q.1) [] _ (λ q e k r. settled (settings_came (findings side h)) q e)
-    (λ n. by-row (AfterSettings side h) (not (is_open h)) _ [] [] (λ c k e. absurd (cc e)) (λ c. no-row (AfterSettings side h) (λ k e. absurd (cc e))))).first
-  where
-    settled : (b : Bool) (q : ℕ × Fields) → (if b then first_of (λ (x : ℕ × Fields). if was_given h x.0 then None else Some x) (filter_map queued_request (findings side h)) else None) ≡ Some q → b ≡ true
-    settled true q e = refl
-    settled false q e = absurd (cc e)
-
-request-call : (c : Call) (r : Reply) (k : ℕ) → fits c r ≡ true → request_in r ≡ Some k → c ≡ calls.Incoming
-request-call c (replies.Request id headers) k f e = given-by-incoming c id headers f
-request-call c r k f e = absurd (cc e)
-
 settings-stay : (side : Side) (p : Pair) (h : History) → settings_came (findings side h) ≡ true → settings_came (findings side (p ∷ h)) ≡ true
 settings-stay side p h e =
     ap settings_came (findings-add side p h) ∙ list_any-append reads_settings (findings side h) (news side p h) ∙ ap (λ (b : Bool). b || list_any reads_settings (news side p h)) e
@@ -73,16 +58,9 @@ given-settings : (side : Side) (h : History) → IsHistory side h → (k : ℕ) 
 given-settings side [] i k e = absurd (cc e)
 given-settings side (p ∷ h) i k e = settings-stay side p h (by (requests p) refl e (given-settings side h i.2 k))
   where
-    here : (turn : Turn) → AfterSettings side h (next side h turn)
-    here (turns.Call c) = λ j q. asked c (request-call c (next side h (turns.Call c)).reply j (fits-own side h c) q) j q
-      where
-        asked : (d : Call) → d ≡ calls.Incoming → AfterSettings side h (next side h (turns.Call d))
-        asked d x = subst (λ (y : Call). AfterSettings side h (next side h (turns.Call y))) (sym x) (incoming-after side h)
-    here turn = λ j q. absurd (cc q)
-
     by : (o : Option ℕ) → requests p ≡ o → was_given (p ∷ h) k ≡ true → (was_given h k ≡ true → settings_came (findings side h) ≡ true) → settings_came (findings side h) ≡ true
     by None q r again = again (let m = rw q at r in m)
-    by (Some t) q r again = here p.turn t (ap (λ (a : Answer). request_in a.reply) (sym i.1) ∙ q)
+    by (Some t) q r again = (requested side h p.turn t (ap (λ (a : Answer). request_in a.reply) (sym i.1) ∙ q)).settings
 
 -- ---- the whole frame
 

@@ -1,14 +1,13 @@
 -- At most 4 sessions live: each is a request that is held, and no session is established twice.
 use Rattle.std.specs.Prelude.{[], ◌&&◌, ◌++◌, ◌+◌, ◌==◌, ◌∷◌, ◌||◌, ◌≡◌, ◌≤◌, Bool, List, None, Option, Some, false, filter, filter_map, if◌then◌else◌, length, nat_lt, not, suc, true, unwrap_or, ℕ}
 use Rattle.std.specs.List.{list_any}
-use Rattle.std.specs.Option.{option_or}
 use Rattle.std.proofs.Common.{◌∙◌, ap, arith, length-append, refl, sym}
 use Rattle.std.proofs.lemmas.Bool.{eq-eqb, eqb-true, ltb-true}
 use Rattle.std.proofs.lemmas.List.Elements.{filter-append, filter_map-append}
 use Rattle.std.proofs.lemmas.List.Folds.{list_any-append}
-use Rattle.wt_meaning.specs.Findings.{Classified, DatagramRead, Finding, first_of, settings_came}
-use Rattle.wt_meaning.specs.Handshakes.{last_begun, next_request, poll_rows, was_given}
-use Rattle.wt_meaning.specs.History.{History, Pair, is_open}
+use Rattle.wt_meaning.specs.Findings.{Classified, DatagramRead, Finding}
+use Rattle.wt_meaning.specs.Handshakes.{last_begun, poll_rows, was_given}
+use Rattle.wt_meaning.specs.History.{History, Pair}
 use Rattle.wt_meaning.specs.Lawful.{has_request, is_lawful, is_waiting}
 use Rattle.wt_meaning.specs.Meaning.{next}
 use Rattle.wt_meaning.specs.Moments.{findings, keeps, stream_fault}
@@ -17,8 +16,8 @@ use Rattle.wt_meaning.specs.Windows.{datagrams_in_window, establishes, gone_in, 
 use Rattle.wt_promise.proofs.Accepted.{and-right, or-true}
 use Rattle.wt_promise.proofs.Asks.{Asks, Begins, Else, ForRequest, GoesOn, Responds, asks}
 use Rattle.wt_promise.proofs.Grows.{AClassified, AClosed, ADatagram, ADequeued, AFault, ASettings, Adds, Nothing, findings-add, findings-keep, news, of-stream-fault}
-use Rattle.wt_promise.proofs.Phases.{IsLast, client-waits, phase, poll-gives-last, response-gives-last, server-begun}
-use Rattle.wt_promise.proofs.Tables.{by-row, by-value, fits, fits-own, no-row}
+use Rattle.wt_promise.proofs.Phases.{IsLast, client-waits, phase, poll-gives-last, requested, response-gives-last, server-begun}
+use Rattle.wt_promise.proofs.Tables.{fits}
 use Rattle.wt_promise.specs.Promise.{FewLive, IsHistory}
 use Rattle.wt_proto.specs.declared.verdict.Verdict.{Verdict}
 use Rattle.wt_turn.specs.declared.answer.Answer.{Answer}
@@ -31,7 +30,6 @@ use Rattle.wt_wire.specs.declared.side.Side.TheVariants.{Client, Server}
 use Rattle.wt_proto.specs.declared.verdict.Verdict.TheVariants as verdicts
 use Rattle.wt_turn.specs.declared.call.Call.TheVariants as calls
 use Rattle.wt_turn.specs.declared.reply.Reply.TheVariants as replies
-use Rattle.wt_turn.specs.declared.turn.Turn.TheVariants as turns
 
 -- ---- a session is new
 
@@ -156,29 +154,6 @@ established-apart side (p ∷ h) i = by (establishes p) refl (established-apart 
 
 -- ---- what was given is queued
 
-abbrev InQueue : Side → History → Answer → Type 0
-InQueue side h a = (k : ℕ) → request_in a.reply ≡ Some k → has (filter_map queued_request (findings side h)) k ≡ true
-
-first-queued : (h : History) (qs : List (ℕ × Fields)) (q : ℕ × Fields) → first_of (λ (x : ℕ × Fields). if was_given h x.0 then None else Some x) qs ≡ Some q → has qs q.0 ≡ true
-first-queued h [] q e = absurd (cc e)
-first-queued h (x ∷ qs) q e = by (was_given h x.0) e (first-queued h qs q)
-  where
-    by : (b : Bool) → option_or (if b then None else Some x) (first_of (λ (y : ℕ × Fields). if was_given h y.0 then None else Some y) qs) ≡ Some q
-        → (first_of (λ (y : ℕ × Fields). if was_given h y.0 then None else Some y) qs ≡ Some q → has qs q.0 ≡ true) → has (x ∷ qs) q.0 ≡ true
-    by true r again = rw (again r) (or-true (x.0 == q.0))
-    by false r again = let same : x ≡ q = cc r in ap (λ (b : Bool). b || has qs q.0) (eq-eqb x.0 q.0 (ap (λ (y : ℕ × Fields). y.0) same))
-
-incoming-queued : (side : Side) (h : History) → InQueue side h (next side h (turns.Call calls.Incoming))
-incoming-queued side h =
-    (by-value (InQueue side h) (next_request side h) (λ (q : ℕ × Fields). replies.Request q.0 q.1) [] _
-    (λ q e k r. let same : q.0 ≡ k = cc r in ap (has (filter_map queued_request (findings side h))) (sym same) ∙ first (settings_came (findings side h)) q e)
-    (λ n. by-row (InQueue side h) (not (is_open h)) _ [] [] (λ c k e. absurd (cc e)) (λ c. no-row (InQueue side h) (λ k e. absurd (cc e))))).first
-  where
-    first : (b : Bool) (q : ℕ × Fields) → (if b then first_of (λ (x : ℕ × Fields). if was_given h x.0 then None else Some x) (filter_map queued_request (findings side h)) else None) ≡ Some q
-        → has (filter_map queued_request (findings side h)) q.0 ≡ true
-    first true q e = first-queued h (filter_map queued_request (findings side h)) q e
-    first false q e = absurd (cc e)
-
 queue-stays : (side : Side) (p : Pair) (h : History) (k : ℕ) → has (filter_map queued_request (findings side h)) k ≡ true → has (filter_map queued_request (findings side (p ∷ h))) k ≡ true
 queue-stays side p h k e =
     ap (λ (found : List Finding). has (filter_map queued_request found) k) (findings-add side p h)
@@ -191,15 +166,6 @@ pub given-by-incoming : (c : Call) (id : ℕ) (headers : Fields) → fits c (rep
 given-by-incoming calls.Incoming id headers f = refl
 given-by-incoming c id headers f = absurd (cc f)
 
-call-queued : (side : Side) (h : History) (c : Call) (r : Reply) → (next side h (turns.Call c)).reply ≡ r → fits c r ≡ true → (k : ℕ) → request_in r ≡ Some k → has (filter_map queued_request (findings side h)) k ≡ true
-call-queued side h c (replies.Request id headers) e f k q =
-    incoming-queued side h k (ap (λ (d : Call). request_in (next side h (turns.Call d)).reply) (sym (given-by-incoming c id headers f)) ∙ ap request_in e ∙ q)
-call-queued side h c r e f k q = absurd (cc q)
-
-turn-queued : (side : Side) (h : History) (turn : Turn) → InQueue side h (next side h turn)
-turn-queued side h (turns.Call c) = λ k q. call-queued side h c (next side h (turns.Call c)).reply refl (fits-own side h c) k q
-turn-queued side h turn = λ k q. absurd (cc q)
-
 given-step : (side : Side) (p : Pair) (h : History) → IsHistory side (p ∷ h) → (k : ℕ) → (was_given h k ≡ true → has (filter_map queued_request (findings side h)) k ≡ true) → was_given (p ∷ h) k ≡ true
     → has (filter_map queued_request (findings side h)) k ≡ true
 given-step side p h i k = λ again e. by (requests p) refl e again
@@ -209,7 +175,7 @@ given-step side p h i k = λ again e. by (requests p) refl e again
     by (Some t) q r again = of (t == k) refl
       where
         of : (b : Bool) → (t == k) ≡ b → has (filter_map queued_request (findings side h)) k ≡ true
-        of true x = turn-queued side h p.turn k (ap (λ (a : Answer). request_in a.reply) (sym i.1) ∙ q ∙ ap (λ (n : ℕ). Some n) (eqb-true t k x))
+        of true x = (requested side h p.turn k (ap (λ (a : Answer). request_in a.reply) (sym i.1) ∙ q ∙ ap (λ (n : ℕ). Some n) (eqb-true t k x))).queued
         of false x = again (let m = rw (q, x) at r in m)
 
 pub given-queued : (side : Side) (h : History) → IsHistory side h → (k : ℕ) → was_given h k ≡ true → has (filter_map queued_request (findings side h)) k ≡ true

@@ -2,6 +2,7 @@
 use Rattle.std.specs.Prelude.{[], ◌&&◌, ◌==◌, ◌||◌, ◌∷◌, ◌≡◌, Bool, List, None, Option, Some, codes, false, if◌then◌else◌, is_some, nat_lt, not, true, unwrap_or, ℕ}
 use Rattle.std.specs.List.{list_any}
 use Rattle.std.proofs.Common.{◌∙◌, ap, refl, subst, sym}
+use Rattle.std.proofs.Math.Bool.{or-false}
 use Rattle.std.proofs.lemmas.Bool.{eqb-true}
 use Rattle.std.proofs.lemmas.List.Folds.{list_any-append}
 use Rattle.url.specs.Parser.{parse_url}
@@ -141,7 +142,3 @@ pub admits-no-more : (side : Side) (p : Pair) (h : History) (s k : ℕ) → is_g
 admits-no-more side p h s k g =
     findings-keep side p h (λ (found : List Finding). list_any (admits s k) found ≡ list_any (admits s k) (findings side h))
     (λ found new a n e. list_any-append (admits s k) found new ∙ ap (λ (b : Bool). list_any (admits s k) found || b) (none-admitted side (p ∷ h) s k g found new a) ∙ or-false (list_any (admits s k) found) ∙ e) refl
-  where
-    or-false : (b : Bool) → (b || false) ≡ b
-    or-false true = refl
-    or-false false = refl

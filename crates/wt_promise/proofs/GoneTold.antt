@@ -12,7 +12,7 @@ use Rattle.wt_meaning.specs.Meaning.{next, own_answer, with_pair}
 use Rattle.wt_meaning.specs.Moments.{findings}
 use Rattle.wt_meaning.specs.Sends.{action_if, admits, is_of_session, moment_actions, stream_gone_actions}
 use Rattle.wt_meaning.specs.Windows.{gone_in, is_gone_by_call, is_number, makes_gone}
-use Rattle.wt_promise.proofs.Accepted.{and-left, and-right, or-true}
+use Rattle.wt_promise.proofs.Accepted.{and-left, and-right, or-first, or-last, or-left, or-right, or-true}
 use Rattle.wt_promise.proofs.Actions.{AnyPiece, any-next}
 use Rattle.wt_promise.proofs.GoneByCall.{admits-no-more, call-tells}
 use Rattle.wt_promise.proofs.GoneSends.{gone-among, in-gone, until-any, until-append}
@@ -35,25 +35,13 @@ use Rattle.wt_turn.specs.declared.call.Call.TheVariants as calls
 use Rattle.wt_turn.specs.declared.reply.Reply.TheVariants as replies
 use Rattle.wt_turn.specs.declared.turn.Turn.TheVariants as turns
 
-or-else : (a b : Bool) → (a || b) ≡ true → a ≡ false → b ≡ true
-or-else true b e f = absurd (cc f)
-or-else false b e f = e
-
-or-first : (a b : Bool) → (a || b) ≡ false → a ≡ false
-or-first true b e = e
-or-first false b e = refl
-
-or-last : (a b : Bool) → (a || b) ≡ false → b ≡ false
-or-last true b e = absurd (cc e)
-or-last false b e = e
-
 -- a test passes fewer than another one
 any-less : (few many : Action → Bool) → ((a : Action) → few a ≡ true → many a ≡ true) → (as_ : List Action) → list_any many as_ ≡ false → list_any few as_ ≡ false
 any-less few many f [] e = refl
-any-less few many f (a ∷ as_) e = by (few a) refl (any-less few many f as_ (or-last (many a) (list_any many as_) e))
+any-less few many f (a ∷ as_) e = by (few a) refl (any-less few many f as_ (or-right (many a) (list_any many as_) e))
   where
     by : (b : Bool) → few a ≡ b → list_any few as_ ≡ false → (few a || list_any few as_) ≡ false
-    by true i rest = absurd (let r : true ≡ false = sym (f a i) ∙ or-first (many a) (list_any many as_) e in cc r)
+    by true i rest = absurd (let r : true ≡ false = sym (f a i) ∙ or-left (many a) (list_any many as_) e in cc r)
     by false i rest = rw (i, rest) refl
 
 finish-ends : (k : ℕ) (a : Action) → finishes k a ≡ true → ends_sending k a ≡ true
@@ -125,8 +113,8 @@ still-sends side h turn k o n e =
     unreset =
         not-either (list_any (is_reset_of k) (actions_out (p ∷ h))) (answers_reset k turn own.reply || list_any (λ (q : Pair). answers_reset k q.turn q.answer.reply) h)
         (any-newest (is_reset_of k) own.actions (actions_out h)
-        ∙ rw (any-less (is_reset_of k) (ends_sending k) (reset-ends k) own.actions n, or-first (list_any (is_reset_of k) (actions_out h)) _ before) refl)
-        (rw (none-answers, or-last (list_any (is_reset_of k) (actions_out h)) _ before) refl)
+        ∙ rw (any-less (is_reset_of k) (ends_sending k) (reset-ends k) own.actions n, or-left (list_any (is_reset_of k) (actions_out h)) _ before) refl)
+        (rw (none-answers, or-right (list_any (is_reset_of k) (actions_out h)) _ before) refl)
 
 -- which test finds what in what goes out for a stream
 stops-told : (side : Side) (h : History) (k : ℕ) → (can_receive side h k && is_running (end_of (events h) k) && not (is_given_up h k)) ≡ true → list_any (stops_with k 0x170d7b68) (stream_gone_actions side h k) ≡ true
@@ -188,7 +176,7 @@ gone-told side h turn s k o way g later m = by (is_number s (gone_in h turn own.
             (in-gone (stops_with k 0x170d7b68) side h (findings side h) s k (and-left (exists side h k) _ r.0) (before-call n)
             (stops-told side h k (both (can_receive side h k && is_running (end_of (events h) k)) (not (is_given_up h k))
             (both (can_receive side h k) (is_running (end_of (events h) k)) r.0 (ap (λ es. is_running (end_of es k)) (sym same-events) ∙ r.1))
-            (ap not (or-last (answers_stop k turn own.reply) (is_given_up h k) (not-true (is_given_up (p ∷ h) k) r.2)))))))
+            (ap not (or-right (answers_stop k turn own.reply) (is_given_up h k) (not-true (is_given_up (p ∷ h) k) r.2)))))))
 
         sending : (can_send side h k && not (was_finished h k) && not (is_reset h k)) ≡ true → (list_any (resets_with k 0x170d7b68) a.actions || list_any (ends_sending k) own.actions) ≡ true
         sending e =
@@ -207,13 +195,13 @@ gone-told side h turn s k o way g later m = by (is_number s (gone_in h turn own.
         grown = findings-add side (record { turn = turn; answer = a }) h
 
         none-before : list_any (makes_gone s) (findings side h) ≡ false
-        none-before = or-last (is_gone_by_call h s) (list_any (makes_gone s) (findings side h)) g
+        none-before = or-right (is_gone_by_call h s) (list_any (makes_gone s) (findings side h)) g
 
         found-gone : list_any (makes_gone s) new ≡ true
         found-gone =
-            or-else (list_any (makes_gone s) (findings side h)) (list_any (makes_gone s) new)
-            (sym (list_any-append (makes_gone s) (findings side h) new) ∙ ap (list_any (makes_gone s)) (sym grown) ∙ or-else (is_number s (gone_in h turn own.reply) || is_gone_by_call h s) _ later
-            (rw (n, or-first (is_gone_by_call h s) _ g) refl))
+            or-last (list_any (makes_gone s) (findings side h)) (list_any (makes_gone s) new)
+            (sym (list_any-append (makes_gone s) (findings side h) new) ∙ ap (list_any (makes_gone s)) (sym grown) ∙ or-last (is_number s (gone_in h turn own.reply) || is_gone_by_call h s) _ later
+            (rw (n, or-left (is_gone_by_call h s) _ g) refl))
             none-before
 
         front : List Finding
@@ -247,9 +235,4 @@ gone-told side h turn s k o way g later m = by (is_number s (gone_in h turn own.
 
     by : (b : Bool) → is_number s (gone_in h turn own.reply) ≡ b → StreamTold side h (with_pair h turn a) own a k
     by true i = told-by-call i
-    by false i = told-by-finding (left (leaves_open side h turn) (is_number s (gone_in h turn own.reply)) way i) i
-      where
-        left : (x y : Bool) → (x || y) ≡ true → y ≡ false → x ≡ true
-        left true y e f = refl
-        left false true e f = absurd (cc f)
-        left false false e f = absurd (cc e)
+    by false i = told-by-finding (or-first (leaves_open side h turn) (is_number s (gone_in h turn own.reply)) way i) i

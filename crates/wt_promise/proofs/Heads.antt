@@ -1,5 +1,5 @@
 -- The head of a stream: it stays, or was none; nothing is accepted before the stream is handed out.
-use Rattle.std.specs.Prelude.{[], ◌%◌, ◌++◌, ◌/◌, ◌<◌, ◌==◌, ◌||◌, ◌∷◌, ◌≡◌, Bool, List, None, Option, Some, false, if◌then◌else◌, is_some, true, ℕ}
+use Rattle.std.specs.Prelude.{[], ◌%◌, ◌++◌, ◌/◌, ◌<◌, ◌==◌, ◌∷◌, ◌≡◌, Bool, List, None, Option, Some, false, if◌then◌else◌, is_some, true, ℕ}
 use Rattle.std.specs.List.{list_any}
 use Rattle.std.specs.Option.{option_or}
 use Rattle.std.proofs.Common.{◌∙◌, ap, arith, refl, sym}
@@ -11,6 +11,7 @@ use Rattle.wt_meaning.specs.History.{History, Pair, exists, hands_out, is_handed
 use Rattle.wt_meaning.specs.Meaning.{next, own_answer}
 use Rattle.wt_meaning.specs.Moments.{findings}
 use Rattle.wt_meaning.specs.Sends.{admits}
+use Rattle.wt_promise.proofs.Accepted.{or-right}
 use Rattle.wt_promise.proofs.Begun.{BegunFor, begun-for, begun-stays}
 use Rattle.wt_promise.proofs.ControlKept.{some-name}
 use Rattle.wt_promise.proofs.Flow.{clash}
@@ -36,11 +37,7 @@ accepted-before side [] i k e = refl
 accepted-before side (p ∷ h) i k e = ap (λ (xs : List ℕ). xs ++ accepted_by k p.turn p.answer.reply) (accepted-before side h i.2 k before) ∙ ap (λ (a : Answer). accepted_by k p.turn a.reply) i.1 ∙ none (sent-own side h k p.turn)
   where
     before : is_handed_out h k ≡ false
-    before = last (hands_out k p.answer.reply) (is_handed_out h k) e
-      where
-        last : (a b : Bool) → (a || b) ≡ false → b ≡ false
-        last true b q = absurd (cc q)
-        last false b q = q
+    before = or-right (hands_out k p.answer.reply) (is_handed_out h k) e
 
     none : Sent side h k p.turn (own_answer side h p.turn) → accepted_by k p.turn (own_answer side h p.turn).reply ≡ []
     none (Quiet b n q) = n
@@ -162,11 +159,7 @@ head-step side p h i k n = by (begun_on h k) refl
         none (Some name) s = absurd (begun-not-opened side (p ∷ h) i k mine name (ap (λ (x : Option (Option ℕ)). option_or x (opened h)) (opened-once side p h i k (was-opened side h i.2 k name s).there) ∙ s))
 
         kept : is_handed_out h k ≡ false
-        kept = last (hands_out k p.answer.reply) (is_handed_out h k) (begun-kept side (p ∷ h) i k mine)
-          where
-            last : (a b : Bool) → (a || b) ≡ false → b ≡ false
-            last true b x = absurd (cc x)
-            last false b x = x
+        kept = or-right (hands_out k p.answer.reply) (is_handed_out h k) (begun-kept side (p ∷ h) i k mine)
 
     by : (o : Option Call) → begun_on h k ≡ o → HeadStep side p h k
     by None q = now (begun_on (p ∷ h) k) refl q

@@ -11,7 +11,7 @@ use Rattle.wt_meaning.specs.Findings.{Classified, Finding, SessionClosed, first_
 use Rattle.wt_meaning.specs.History.{History, Pair}
 use Rattle.wt_meaning.specs.Moments.{findings, keeps, stream_fault}
 use Rattle.wt_meaning.specs.Windows.{is_established, is_gone, is_gone_by_call, lives, makes_gone}
-use Rattle.wt_promise.proofs.Accepted.{and-left, and-right, not-true, or-true}
+use Rattle.wt_promise.proofs.Accepted.{and-left, and-right, not-true, or-first, or-true}
 use Rattle.wt_promise.proofs.Behind.{behind-append, behind-none}
 use Rattle.wt_promise.proofs.Flow.{clash}
 use Rattle.wt_promise.proofs.Grows.{AClassified, AClosed, ADatagram, ADequeued, AFault, ASettings, Adds, Nothing, findings-keep, first_of-append, first_of-stays, is_peers, news, news-dropped, of-stream-fault}
@@ -64,12 +64,8 @@ plain side h before s found new n g = record {
   more = g.more ++ new;
   grown = ap (λ (xs : List Finding). xs ++ new) g.grown ∙ append_assoc (findings side before) g.more new;
   once = behind-append (makes_gone s) (makes_gone s) g.more new g.once (behind-none (makes_gone s) (makes_gone s) new n) (λ r. n);
-  known = λ e. known-more h s found new (g.known (front (list_any (makes_gone s) g.more) (list_any (makes_gone s) new) (sym (list_any-append (makes_gone s) g.more new) ∙ e) n));
+  known = λ e. known-more h s found new (g.known (or-first (list_any (makes_gone s) g.more) (list_any (makes_gone s) new) (sym (list_any-append (makes_gone s) g.more new) ∙ e) n));
 }
-  where
-    front : (a b : Bool) → (a || b) ≡ true → b ≡ false → a ≡ true
-    front true b q r = refl
-    front false b q r = absurd (clash b q r)
 
 -- what does, is the first that does
 adding : (side : Side) (h before : History) (s : ℕ) (found new : List Finding) → Once s new → (g : Since side h before s found) → (list_any (makes_gone s) g.more ≡ true → ⊥) → Known h s (found ++ new) → Since side h before s (found ++ new)

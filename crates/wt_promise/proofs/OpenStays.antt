@@ -9,6 +9,7 @@ use Rattle.wt_meaning.specs.Meaning.{next, own_answer, with_pair}
 use Rattle.wt_meaning.specs.Moments.{Check, Classify, ControlFault, DecoderEnd, Dequeue, EncoderEnd, LocalStop, ReadDatagram, ReadSettings, WalkSession, after_checks, after_moments, checks, classified_as, control_walk, datagram_found, end_fault, findings, found_by, is_ready, verdict}
 use Rattle.wt_meaning.specs.Sends.{actions_for_all, control_actions, moment_actions}
 use Rattle.wt_message.specs.Datagram.{datagram_of}
+use Rattle.wt_promise.proofs.Accepted.{and-right}
 use Rattle.wt_promise.proofs.Actions.{any-next, closes-by-fault, control-closes-not, opened-next}
 use Rattle.wt_promise.proofs.Grows.{findings-add, first_of-append, news, news-dropped}
 use Rattle.wt_promise.specs.Promise.{IsHistory, OpenExactly}
@@ -172,11 +173,7 @@ pub no-fault : (side : Side) (h : History) → IsHistory side h → is_open h �
 no-fault side [] i o = none-at-first side
 no-fault side (p ∷ h) i o =
     let e : OpenExactly side h p.turn p.answer = rw i.1 (open-exactly-with side h p.turn (no-fault side h i.2)) in
-    none-of (fault_of (findings side (p ∷ h))) (last (is_open h && not (loses p.turn) && not (list_any closes (own_answer side h p.turn).actions)) (is_none (fault_of (findings side (p ∷ h)))) (sym e ∙ o))
-  where
-    last : (a b : Bool) → (a && b) ≡ true → b ≡ true
-    last true b e = e
-    last false b e = absurd (cc e)
+    none-of (fault_of (findings side (p ∷ h))) (and-right (is_open h && not (loses p.turn) && not (list_any closes (own_answer side h p.turn).actions)) (is_none (fault_of (findings side (p ∷ h)))) (sym e ∙ o))
 
 pub open-exactly : (side : Side) (h : History) (turn : Turn) → IsHistory side h → OpenExactly side h turn (next side h turn)
 open-exactly side h turn i = open-exactly-with side h turn (no-fault side h i)

@@ -14,6 +14,7 @@ use Rattle.wt_meaning.specs.Moments.{findings}
 use Rattle.wt_meaning.specs.Rows.{answer}
 use Rattle.wt_meaning.specs.Sends.{action_if, close_if_open, is_of_session, session_gone_actions, stream_gone_actions, stream_ids}
 use Rattle.wt_meaning.specs.Windows.{gone_in, is_number, last_request, named}
+use Rattle.wt_promise.proofs.Accepted.{or-first}
 use Rattle.wt_promise.proofs.Actions.{none-append, none-gone, none-if, none-sent}
 use Rattle.wt_promise.proofs.Begun.{polled-stream}
 use Rattle.wt_promise.proofs.Behind.{Quiet, behind-append, behind-none, gone-quiet, neither-acts}
@@ -91,16 +92,8 @@ one-reset : (side : Side) (h : History) (k j : ℕ) → list_any (is_reset_of k)
 one-reset side h k j e = by (can_receive side h j && is_running (end_of (events h) j) && not (is_given_up h j)) (can_send side h j && not (was_finished h j) && not (is_reset h j)) e
   where
     by : (a b : Bool) → list_any (is_reset_of k) (action_if a (actions.StopOut j 0x170d7b68) ++ action_if b (actions.ResetOut j 0x170d7b68)) ≡ true → (j == k) ≡ true
-    by true true q = last (j == k) q
-      where
-        last : (x : Bool) → (x || false) ≡ true → x ≡ true
-        last true r = refl
-        last false r = absurd (cc r)
-    by false true q = last (j == k) q
-      where
-        last : (x : Bool) → (x || false) ≡ true → x ≡ true
-        last true r = refl
-        last false r = absurd (cc r)
+    by true true q = or-first (j == k) false q refl
+    by false true q = or-first (j == k) false q refl
     by true false q = absurd (cc q)
     by false false q = absurd (cc q)
 
@@ -213,11 +206,7 @@ shake-acts side h k turn c p g asked a x = by a x
         same d q t l = sym (ap (λ (o : Option ℕ). unwrap_or o 0) l)
 
         front : list_any (is_reset_of k) (gone ++ more) ≡ true → list_any (is_reset_of k) gone ≡ true
-        front e = first (list_any (is_reset_of k) gone) (list_any (is_reset_of k) more) (sym (list_any-append (is_reset_of k) gone more) ∙ e) z
-          where
-            first : (x y : Bool) → (x || y) ≡ true → y ≡ false → x ≡ true
-            first true y q n = refl
-            first false y q n = absurd (clash y q n)
+        front e = or-first (list_any (is_reset_of k) gone) (list_any (is_reset_of k) more) (sym (list_any-append (is_reset_of k) gone more) ∙ e) z
 
     by : (b : Answer) → Shake side h c (head_of (Some c)) b → OwnActs side h k turn b
     by b (Still r f) = neither side h k turn r [] refl refl

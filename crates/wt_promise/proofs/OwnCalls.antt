@@ -14,6 +14,7 @@ use Rattle.wt_meaning.specs.Moments.{findings}
 use Rattle.wt_meaning.specs.Rows.{answer}
 use Rattle.wt_meaning.specs.Sends.{action_if, session_finish, session_gone_actions}
 use Rattle.wt_meaning.specs.Windows.{is_number, named}
+use Rattle.wt_promise.proofs.Accepted.{or-first, or-last, or-left, or-right}
 use Rattle.wt_promise.proofs.Actions.{none-if}
 use Rattle.wt_promise.proofs.Behind.{Quiet, behind-append, behind-none, gone-quiet}
 use Rattle.wt_promise.proofs.Flow.{clash}
@@ -35,7 +36,7 @@ use Rattle.wt_turn.specs.declared.turn.Turn.TheVariants as turns
 ended-acts : (side : Side) (h : History) (k : ℕ) (name : Option ℕ) (s : ℕ) → named h name ≡ Some s → is_open h ≡ true → is_living side h s ≡ true
     → OwnActs side h k (turns.Call (calls.EndSession name)) (answer replies.Done (session_finish h s ++ session_gone_actions side h (findings side h) s))
 ended-acts side h k name s m o l = record {
-  sends = λ e. Ends (ap (is_living side h) (sym (finishes-this (first (list_any (sends_on k) finish) (list_any (sends_on k) gone) (sym (list_any-append (sends_on k) finish gone) ∙ e) (gone-sends-not side h (findings side h) s k)))) ∙ l);
+  sends = λ e. Ends (ap (is_living side h) (sym (finishes-this (or-first (list_any (sends_on k) finish) (list_any (sends_on k) gone) (sym (list_any-append (sends_on k) finish gone) ∙ e) (gone-sends-not side h (findings side h) s k)))) ∙ l);
   resets = λ e. GoneBy s (reset-of-session side h (findings side h) s k (of-gone e)) (ap (λ (b : Bool). is_number s (if b then named h name else None)) o ∙ ap (is_number s) m ∙ eq-eqb s s refl);
   once = λ e. reset-new side h (findings side h) s k (of-gone e);
   quiet = behind-append (is_reset_of k) (acts_on k) finish gone (behind-none (is_reset_of k) (acts_on k) finish no-reset) (gone-quiet side h (findings side h) s k) (λ e. absurd (clash (list_any (is_reset_of k) finish) e no-reset));
@@ -46,14 +47,6 @@ ended-acts side h k name s m o l = record {
 
     gone : List Action
     gone = session_gone_actions side h (findings side h) s
-
-    first : (x y : Bool) → (x || y) ≡ true → y ≡ false → x ≡ true
-    first true y q n = refl
-    first false y q n = absurd (clash y q n)
-
-    last : (x y : Bool) → (x || y) ≡ true → x ≡ false → y ≡ true
-    last true y q n = absurd (cc n)
-    last false y q n = q
 
     finishes-this : list_any (sends_on k) finish ≡ true → s ≡ k
     finishes-this e = of (s == k) refl (not (is_some (stop_of (events h) s))) e
@@ -66,7 +59,7 @@ ended-acts side h k name s m o l = record {
     no-reset = none-if (is_reset_of k) (not (is_some (stop_of (events h) s))) (actions.Finish s) refl
 
     of-gone : list_any (is_reset_of k) (finish ++ gone) ≡ true → list_any (is_reset_of k) gone ≡ true
-    of-gone e = last (list_any (is_reset_of k) finish) (list_any (is_reset_of k) gone) (sym (list_any-append (is_reset_of k) finish gone) ∙ e) no-reset
+    of-gone e = or-last (list_any (is_reset_of k) finish) (list_any (is_reset_of k) gone) (sym (list_any-append (is_reset_of k) finish gone) ∙ e) no-reset
 
 -- a reset
 reset-acts : (side : Side) (h : History) (k id code : ℕ) → is_handed_out h id ≡ true → is_reset h id ≡ false → OwnActs side h k (turns.Call (calls.ResetSend id code)) (answer replies.Done (action_if (is_open h) (actions.ResetOut id code)))
@@ -93,19 +86,11 @@ reset-acts side h k id code held n = record {
 acts-shape : (side : Side) (h : History) (k : ℕ) (call : Call) → IsHistory side h → is_lawful side h (turns.Call call) ≡ true → (a : Answer) → Shape side h call a → OwnActs side h k (turns.Call call) a
 acts-shape side h k call i l a x = by a x
   where
-    or-first : (a b : Bool) → (a || b) ≡ false → a ≡ false
-    or-first true b e = e
-    or-first false b e = refl
-
-    or-last : (a b : Bool) → (a || b) ≡ false → b ≡ false
-    or-last true b e = absurd (cc e)
-    or-last false b e = e
-
     by : (b : Answer) → Shape side h call b → OwnActs side h k (turns.Call call) b
     by b (Nothing r n) = neither side h k (turns.Call call) r [] refl refl
     by b Nought = neither side h k (turns.Call call) (replies.Written 0) [] refl refl
     by b (Alone r t x n u m) =
-        neither side h k (turns.Call call) r (action_if t x) (none-if (sends_on k) t x (or-first (sends_on k x) (is_reset_of k x) (u k))) (none-if (is_reset_of k) t x (or-last (sends_on k x) (is_reset_of k x) (u k)))
+        neither side h k (turns.Call call) r (action_if t x) (none-if (sends_on k) t x (or-left (sends_on k x) (is_reset_of k x) (u k))) (none-if (is_reset_of k) t x (or-right (sends_on k x) (is_reset_of k x) (u k)))
     by b (Writing id bytes piece r g n e w s o) =
         on-stream side h k id (turns.Call call) r (send h id bytes) (sends-other h k id bytes) (sends-no-reset h k id bytes) (λ q. Writes (ap (is_closed h) (sym q) ∙ n))
     by b (Polling id s name r c o m v j) =

@@ -1,7 +1,8 @@
 -- The phases of a handshake: a session that a reply gives is new, and was asked for.
 use Rattle.std.specs.Prelude.{[], ◌&&◌, ◌+◌, ◌==◌, ◌∷◌, ◌||◌, ◌≡◌, Bool, List, None, Option, Some, codes, false, filter, filter_map, if◌then◌else◌, is_some, length, not, suc, true, unwrap_or, ℕ}
+use Rattle.std.specs.List.{list_any}
 use Rattle.std.specs.Option.{option_or}
-use Rattle.std.proofs.Common.{◌∙◌, ap, arith, refl, sym}
+use Rattle.std.proofs.Common.{◌∙◌, ap, arith, refl, subst, sym}
 use Rattle.std.proofs.lemmas.Bool.{eq-eqb, eqb-true}
 use Rattle.wt_meaning.specs.Findings.{first_of, settings_came}
 use Rattle.wt_meaning.specs.Handshakes.{acceptance_frame, head_left, is_refused, lacks_credit, last_begun, next_request, poll_rows, rejection, response_to, send, was_given}
@@ -13,7 +14,7 @@ use Rattle.wt_meaning.specs.Rows.{first_row}
 use Rattle.wt_meaning.specs.Windows.{is_established, last_request, queued_request, request_in, requests, session_in}
 use Rattle.wt_promise.proofs.Accepted.{or-true}
 use Rattle.wt_promise.proofs.Asks.{Asks, Begins, Else, ForRequest, GoesOn, Responds, asks-of, begun-kind, of-response}
-use Rattle.wt_promise.proofs.Tables.{by-row, by-value, no-row, rejects-pass}
+use Rattle.wt_promise.proofs.Tables.{by-row, by-value, fits, fits-own, no-row, rejects-pass}
 use Rattle.wt_promise.specs.Promise.{IsHistory}
 use Rattle.wt_turn.specs.declared.answer.Answer.{Answer}
 use Rattle.wt_turn.specs.declared.call.Call.{Call}
@@ -101,23 +102,48 @@ last-given (p ∷ h) k e = by (requests p) refl e (last-given h k)
 abbrev pub NewRequest : History → Answer → Type 0
 NewRequest h a = (k : ℕ) → request_in a.reply ≡ Some k → was_given h k ≡ false
 
-first-new : (h : History) (qs : List (ℕ × Fields)) (q : ℕ × Fields) → first_of (λ (x : ℕ × Fields). if was_given h x.0 then None else Some x) qs ≡ Some q → was_given h q.0 ≡ false
+-- it was queued, and SETTINGS came
+pub record Requested (side : Side) (h : History) (k : ℕ) : Type 0 where
+  pub settings : settings_came (findings side h) ≡ true
+  pub queued : list_any (λ (q : ℕ × Fields). q.0 == k) (filter_map queued_request (findings side h)) ≡ true
+  pub new : was_given h k ≡ false
+
+first-new : (h : History) (qs : List (ℕ × Fields)) (q : ℕ × Fields) → first_of (λ (x : ℕ × Fields). if was_given h x.0 then None else Some x) qs ≡ Some q
+    → (list_any (λ (x : ℕ × Fields). x.0 == q.0) qs ≡ true) × (was_given h q.0 ≡ false)
 first-new h [] q e = absurd (cc e)
 first-new h (x ∷ qs) q e = by (was_given h x.0) refl e (first-new h qs q)
   where
     by : (b : Bool) → was_given h x.0 ≡ b → option_or (if b then None else Some x) (first_of (λ (y : ℕ × Fields). if was_given h y.0 then None else Some y) qs) ≡ Some q
-        → (first_of (λ (y : ℕ × Fields). if was_given h y.0 then None else Some y) qs ≡ Some q → was_given h q.0 ≡ false) → was_given h q.0 ≡ false
-    by true i r again = again r
-    by false i r again = let same : x ≡ q = cc r in ap (λ (y : ℕ × Fields). was_given h y.0) (sym same) ∙ i
+        → (first_of (λ (y : ℕ × Fields). if was_given h y.0 then None else Some y) qs ≡ Some q → (list_any (λ (y : ℕ × Fields). y.0 == q.0) qs ≡ true) × (was_given h q.0 ≡ false))
+        → (list_any (λ (y : ℕ × Fields). y.0 == q.0) (x ∷ qs) ≡ true) × (was_given h q.0 ≡ false)
+    by true i r again = let a = again r in (rw a.0 (or-true (x.0 == q.0)), a.1)
+    by false i r again = let same : x ≡ q = cc r in
+        (ap (λ (b : Bool). b || list_any (λ (y : ℕ × Fields). y.0 == q.0) qs) (eq-eqb x.0 q.0 (ap (λ (y : ℕ × Fields). y.0) same)), ap (λ (y : ℕ × Fields). was_given h y.0) (sym same) ∙ i)
+
+incoming-gives : (side : Side) (h : History) (k : ℕ) → request_in (next side h (turns.Call calls.Incoming)).reply ≡ Some k → Requested side h k
+incoming-gives side h k =
+    (by-value P (next_request side h) (λ (q : ℕ × Fields). replies.Request q.0 q.1) [] _ (λ q e r. subst (Requested side h) (let same : q.0 ≡ k = cc r in same) (first (settings_came (findings side h)) refl q e))
+    (λ n. by-row P (not (is_open h)) _ [] [] (λ c e. absurd (cc e)) (λ c. no-row P (λ e. absurd (cc e))))).first
+  where
+    P : Answer → Type 0
+    P a = request_in a.reply ≡ Some k → Requested side h k
+
+    first : (b : Bool) → settings_came (findings side h) ≡ b → (q : ℕ × Fields)
+        → (if b then first_of (λ (x : ℕ × Fields). if was_given h x.0 then None else Some x) (filter_map queued_request (findings side h)) else None) ≡ Some q → Requested side h q.0
+    first true s q e = let a = first-new h (filter_map queued_request (findings side h)) q e in record { settings = s; queued = a.0; new = a.1 }
+    first false s q e = absurd (cc e)
+
+pub requested : (side : Side) (h : History) (turn : Turn) (k : ℕ) → request_in (next side h turn).reply ≡ Some k → Requested side h k
+requested side h (turns.Call c) k e = incoming-gives side h k (ap (λ (d : Call). request_in (next side h (turns.Call d)).reply) (sym (by c (next side h (turns.Call c)).reply (fits-own side h c) e)) ∙ e)
+  where
+    by : (d : Call) (r : Reply) → fits d r ≡ true → request_in r ≡ Some k → d ≡ calls.Incoming
+    by calls.Incoming r f q = refl
+    by d (replies.Request id headers) f q = absurd (cc f)
+    by d r f q = absurd (cc q)
+requested side h turn k e = absurd (cc e)
 
 pub incoming-new : (side : Side) (h : History) → NewRequest h (next side h (turns.Call calls.Incoming))
-incoming-new side h =
-    (by-value (NewRequest h) (next_request side h) (λ (q : ℕ × Fields). replies.Request q.0 q.1) [] _ (λ q e k r. let same : q.0 ≡ k = cc r in ap (was_given h) (sym same) ∙ first (settings_came (findings side h)) q e)
-    (λ n. by-row (NewRequest h) (not (is_open h)) _ [] [] (λ c k e. absurd (cc e)) (λ c. no-row (NewRequest h) (λ k e. absurd (cc e))))).first
-  where
-    first : (b : Bool) (q : ℕ × Fields) → (if b then first_of (λ (x : ℕ × Fields). if was_given h x.0 then None else Some x) (filter_map queued_request (findings side h)) else None) ≡ Some q → was_given h q.0 ≡ false
-    first true q e = first-new h (filter_map queued_request (findings side h)) q e
-    first false q e = absurd (cc e)
+incoming-new side h k e = (incoming-gives side h k e).new
 
 -- ---- a server's phases
 

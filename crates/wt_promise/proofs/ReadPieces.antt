@@ -10,7 +10,7 @@ use Rattle.wt_meaning.specs.Handshakes.{is_nothing}
 use Rattle.wt_meaning.specs.History.{History, Pair, contents, events, hands_out, is_handed_out, is_open, with_bytes}
 use Rattle.wt_meaning.specs.Meaning.{next}
 use Rattle.wt_meaning.specs.Moments.{findings}
-use Rattle.wt_promise.proofs.Accepted.{and-left}
+use Rattle.wt_promise.proofs.Accepted.{and-left, or-right}
 use Rattle.wt_promise.proofs.Grows.{is_peers}
 use Rattle.wt_promise.proofs.HandedOut.{handed-out, only-peers, verdict-stays}
 use Rattle.wt_promise.proofs.Tables.{by-row, by-value, no-row}
@@ -86,7 +86,7 @@ reads-some side h k id n turn r has e = by (id == k) refl
 abbrev nil : List ℕ
 nil = []
 
-if-nothing : (b : Bool) → (if b then nil else nil) ≡ nil
+pub if-nothing : (b : Bool) → (if b then nil else nil) ≡ nil
 if-nothing true = refl
 if-nothing false = refl
 
@@ -165,10 +165,6 @@ unread-before side (p ∷ h) i k e =
     let before = or-right (hands_out k p.answer.reply) (is_handed_out h k) e in
     let piece = (reads-piece side h k p.turn).of_given before in
     rw (unread-before side h i.2 k before, i.1, piece) refl
-  where
-    or-right : (a b : Bool) → (a || b) ≡ false → b ≡ false
-    or-right true b q = absurd (cc q)
-    or-right false b q = q
 
 pub reads-in-order : (side : Side) (h : History) → IsHistory side h → ReadsInOrder side h
 reads-in-order side [] i k = refl

@@ -1,5 +1,5 @@
 -- What the answer to a turn sends on a stream: a rest of its head, or what the reply of a write accepts.
-use Rattle.std.specs.Prelude.{[], ◌++◌, ◌==◌, ◌||◌, ◌∷◌, ◌≡◌, Bool, List, Option, Some, false, if◌then◌else◌, is_some, not, take, true, unwrap_or, ℕ}
+use Rattle.std.specs.Prelude.{[], ◌++◌, ◌==◌, ◌∷◌, ◌≡◌, Bool, List, Option, Some, false, if◌then◌else◌, is_some, not, take, true, unwrap_or, ℕ}
 use Rattle.std.proofs.Common.{◌∙◌, ap, refl, subst, sym}
 use Rattle.std.proofs.lemmas.Bool.{eq-eqb, eqb-true}
 use Rattle.std.proofs.lemmas.List.{append-nil}
@@ -12,9 +12,11 @@ use Rattle.wt_meaning.specs.Moments.{findings}
 use Rattle.wt_meaning.specs.Rows.{answer}
 use Rattle.wt_meaning.specs.Sends.{action_if, close_if_open, session_finish, session_gone_actions}
 use Rattle.wt_meaning.specs.Windows.{last_request, named}
+use Rattle.wt_promise.proofs.Accepted.{or-left}
 use Rattle.wt_promise.proofs.Actions.{none-gone, none-if}
 use Rattle.wt_promise.proofs.Flow.{clash}
 use Rattle.wt_promise.proofs.BytesOut.{bytes-append, bytes_on, none-on, sends}
+use Rattle.wt_promise.proofs.ReadPieces.{if-nothing}
 use Rattle.wt_promise.proofs.Shakes.{Finishes, Goes, GoesShuts, Rejects, Shake, Shuts, Still, head_stream, rest}
 use Rattle.wt_promise.proofs.Shapes.{Alone, Ending, Finishing, Handshaking, Nothing, Nought, Polling, Resetting, Shape, Writing, going, is_accept, says_nothing, shape, writes_on}
 use Rattle.wt_promise.proofs.Tables.{fits}
@@ -43,13 +45,6 @@ pub data Sent (side : Side) (h : History) (k : ℕ) (turn : Turn) (a : Answer) :
       → (hands_out k a.reply ≡ true → lacks_credit h k (head_left h k (stream_header k s)) ≡ false) → turn ≡ turns.Call (calls.PollOpening k) → Sent side h k turn a
 
 -- ---- the bytes of some actions
-
-abbrev nil : List ℕ
-nil = []
-
-pub if-nothing : (b : Bool) → (if b then nil else nil) ≡ nil
-if-nothing true = refl
-if-nothing false = refl
 
 pub send-bytes : (k id : ℕ) (bytes : List ℕ) → bytes_on k (send_of id bytes) ≡ (if id == k then bytes else [])
 send-bytes k id [] = sym (if-nothing (id == k))
@@ -190,11 +185,7 @@ written-hands k (replies.BiReady id) e = absurd (cc e)
 written-hands k r e = refl
 
 acts-sends : (k : ℕ) (x : Action) → acts_on k x ≡ false → sends k x ≡ false
-acts-sends k (actions.Send id p) e = by (id == k) e
-  where
-    by : (b : Bool) → (b || false) ≡ false → b ≡ false
-    by true q = absurd (cc q)
-    by false q = refl
+acts-sends k (actions.Send id p) e = or-left (id == k) false e
 acts-sends k x e = refl
 
 sent-shape : (side : Side) (h : History) (k : ℕ) (call : Call) (a : Answer) → Shape side h call a → Sent side h k (turns.Call call) a

@@ -1,5 +1,5 @@
 -- What the own answer of each call may be.
-use Rattle.std.specs.Prelude.{[], ◌&&◌, ◌++◌, ◌/◌, ◌==◌, ◌||◌, ◌∷◌, ◌≡◌, Bool, Contains, Err, List, None, Ok, Option, Result, Some, false, if◌then◌else◌, is_some, length, not, suc, take, true, zero, ℕ}
+use Rattle.std.specs.Prelude.{[], ◌&&◌, ◌++◌, ◌/◌, ◌==◌, ◌∷◌, ◌≡◌, Bool, Contains, Err, List, None, Ok, Option, Result, Some, false, if◌then◌else◌, is_some, length, not, suc, take, true, zero, ℕ}
 use Rattle.std.specs.Option.{option_or}
 use Rattle.std.proofs.Common.{ap, arith, refl, sym}
 use Rattle.std.proofs.lemmas.Bool.{eqb-true, not-false}
@@ -15,7 +15,7 @@ use Rattle.wt_meaning.specs.Sends.{action_if, session_finish, session_gone_actio
 use Rattle.wt_meaning.specs.Targets.{Target, target_of}
 use Rattle.wt_meaning.specs.Windows.{named}
 use Rattle.wt_message.specs.Datagram.{datagram_bytes}
-use Rattle.wt_promise.proofs.Accepted.{and-left, and-right, not-true}
+use Rattle.wt_promise.proofs.Accepted.{and-left, and-right, not-true, or-left}
 use Rattle.wt_promise.proofs.Shakes.{Shake, first-of, map-rows, shakes}
 use Rattle.wt_promise.proofs.Tables.{OfRows, by-row, by-session, by-value, no-row}
 use Rattle.wt_promise.specs.Promise.{accepted_by, acts_on, call_ends, handshake_ends, head_of, is_end, says_accepted}
@@ -219,11 +219,7 @@ shape side h (calls.ResetSend id code) =
     half side h (calls.ResetSend id code) (has_sending side h id) _
     (λ has. by-row (Shape side h (calls.ResetSend id code)) (is_done h id) replies.ClosedStream [] _ (λ n. Nothing replies.ClosedStream refl)
     (λ n. by-row (Shape side h (calls.ResetSend id code)) true replies.Done (action_if (is_open h) (actions.ResetOut id code)) []
-    (λ q. Resetting id code refl (and-left (is_handed_out h id) _ has) (left (is_reset h id) (was_finished h id && is_acknowledged (events h) id) n)) (λ q. done side h (calls.ResetSend id code))))
-  where
-    left : (a b : Bool) → (a || b) ≡ false → a ≡ false
-    left true b q = q
-    left false b q = refl
+    (λ q. Resetting id code refl (and-left (is_handed_out h id) _ has) (or-left (is_reset h id) (was_finished h id && is_acknowledged (events h) id) n)) (λ q. done side h (calls.ResetSend id code))))
 shape side h (calls.Read id size) =
     half side h (calls.Read id size) (has_receiving side h id) _
     (λ has. still side h (calls.Read id size) _ _ _ refl (still side h (calls.Read id size) _ _ _ refl (still side h (calls.Read id size) _ _ _ refl

@@ -10,7 +10,7 @@ use Rattle.wt_meaning.specs.Meaning.{next, own_answer}
 use Rattle.wt_meaning.specs.Moments.{findings}
 use Rattle.wt_meaning.specs.Sends.{actions_for, actions_for_all, control_actions, is_of_session, moment_actions, session_finish, session_gone_actions}
 use Rattle.wt_meaning.specs.Windows.{is_established, makes_gone, named}
-use Rattle.wt_promise.proofs.Accepted.{and-left, or-true}
+use Rattle.wt_promise.proofs.Accepted.{and-left, or-first, or-true}
 use Rattle.wt_promise.proofs.Actions.{any-next, none-control, none-if}
 use Rattle.wt_promise.proofs.Begun.{BegunFor}
 use Rattle.wt_promise.proofs.Behind.{Quiet, behind-append, behind-none, gone-quiet, neither-acts, quiet-join}
@@ -68,11 +68,7 @@ record Facts (h : History) (k : ℕ) (whole new : List Finding) : Type 0 where
   one : (s t : ℕ) → is_of_session h whole s k ≡ true → is_of_session h whole t k ≡ true → s ≡ t
 
 twice : (k s : ℕ) (f : Finding) (later : List Finding) → Once s (f ∷ later) → list_any (makes_gone s) (f ∷ []) ≡ true → list_any (makes_gone s) later ≡ true → ⊥
-twice k s f later o a b = clash (list_any (makes_gone s) later) b (o.0 (alone (makes_gone s f) a))
-  where
-    alone : (x : Bool) → (x || false) ≡ true → x ≡ true
-    alone true e = refl
-    alone false e = absurd (cc e)
+twice k s f later o a b = clash (list_any (makes_gone s) later) b (o.0 (or-first (makes_gone s f) false a refl))
 
 never : (h : History) (k : ℕ) (whole new : List Finding) → Facts h k whole new → (found : List Finding) (f : Finding) (later : List Finding) → whole ≡ (found ++ f ∷ []) ++ later → ((s : ℕ) → Once s (f ∷ later))
     → (list_any (closes_session k) (f ∷ later) ≡ true → list_any (closes_session k) new ≡ true) → NewReset h k (found ++ f ∷ []) (f ∷ []) → NewReset h k ((found ++ f ∷ []) ++ later) later → ⊥

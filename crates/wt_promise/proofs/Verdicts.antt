@@ -13,7 +13,7 @@ use Rattle.wt_meaning.specs.Meaning.{next}
 use Rattle.wt_meaning.specs.Moments.{findings, keeps, stream_fault}
 use Rattle.wt_meaning.specs.Sends.{admits}
 use Rattle.wt_meaning.specs.Windows.{named, queued_request}
-use Rattle.wt_promise.proofs.Accepted.{bi-accepted, uni-accepted}
+use Rattle.wt_promise.proofs.Accepted.{bi-accepted, or-first, uni-accepted}
 use Rattle.wt_promise.proofs.Few.{given-before, given-queued, has}
 use Rattle.wt_promise.proofs.Grows.{AClassified, AClosed, ADatagram, ADequeued, AFault, ASettings, Adds, Nothing, findings-add, findings-keep, first_of-append, first_of-stays, is_peers, news, of-stream-fault}
 use Rattle.wt_promise.proofs.HandedOut.{GivesOpened, admitted-classified, being-begun, gives-opened, only-peers, opened-local}
@@ -40,11 +40,7 @@ OneVerdict k test Good found = list_any test found ≡ true → (v : Verdict) ×
 -- where nothing new passes, the old verdict stays
 one-with : (k : ℕ) (test : Finding → Bool) (Good : Verdict → Type 0) (found new : List Finding) → list_any test new ≡ false → OneVerdict k test Good found → OneVerdict k test Good (found ++ new)
 one-with k test Good found new n g e =
-    let r = g (first (list_any test found) (list_any test new) (sym (list_any-append test found new) ∙ e) n) in (r.0, first_of-stays (verdict_in k) found new r.0 r.1, r.2)
-  where
-    first : (a b : Bool) → (a || b) ≡ true → b ≡ false → a ≡ true
-    first true b q m = refl
-    first false b q m = absurd (let r : true ≡ false = sym q ∙ m in cc r)
+    let r = g (or-first (list_any test found) (list_any test new) (sym (list_any-append test found new) ∙ e) n) in (r.0, first_of-stays (verdict_in k) found new r.0 r.1, r.2)
 
 -- where the stream's first verdict is new, it is that of the new finding
 one-new : (k : ℕ) (test : Finding → Bool) (Good : Verdict → Type 0) (found more : List Finding) (v : Verdict) (b : Bool) → is_classified found k ≡ false → Good v → OneVerdict k test Good (found ++ (Classified k v b ∷ more))
