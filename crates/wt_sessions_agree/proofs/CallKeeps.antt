@@ -72,7 +72,7 @@ module _ (side : Side) (offset : ℕ → ℕ) (h : History) (log : Log) (x : Sta
 
   -- ---- what came, and what went out
 
-  pub came-after : (log2 : Log) → events_of log2 ≡ events_of log → all_events_of log2 ≡ all_events_of log → ((k : ℕ) → streams.contents log2 k ≡ streams.contents log k)
+  came-after : (log2 : Log) → events_of log2 ≡ events_of log → all_events_of log2 ≡ all_events_of log → ((k : ℕ) → streams.contents log2 k ≡ streams.contents log k)
       → is_open after ≡ logs.is_open log2 → Agrees after log2
   came-after log2 at all bytes opens = record {
     events = called-events h c (next side h (turns.Call c)) ∙ x.came.events ∙ sym at;
@@ -81,7 +81,7 @@ module _ (side : Side) (offset : ℕ → ℕ) (h : History) (log : Log) (x : Sta
     contents = λ k. called-contents h c (next side h (turns.Call c)) k ∙ x.came.contents k ∙ sym (bytes k);
   }
 
-  pub out-after : (log2 : Log) → actions_of log2 ≡ newest_first all_sent (actions_of log) → SameOut (actions_out after) (actions_of log2)
+  out-after : (log2 : Log) → actions_of log2 ≡ newest_first all_sent (actions_of log) → SameOut (actions_out after) (actions_of log2)
   out-after log2 sent = subst (λ (as_ : List Action). SameOut (newest_first (join_all [] all_sent) (actions_out h)) as_) (sym sent) (same-out all_sent (actions_out h) (actions_of log) x.out)
 
   -- ---- what calls did
@@ -97,12 +97,12 @@ module _ (side : Side) (offset : ℕ → ℕ) (h : History) (log : Log) (x : Sta
         ap (list_any (ends_session s)) called ∙ ap (λ (b : Bool). b || list_any (ends_session s) (calls_of log)) (ended-by side h c hist lawful s)
         ∙ or-with (is_number s (gone_in h (turns.Call c) own.reply)) _ _ (x.calls.ended s)
 
-    pub named-after : first_session after ≡ drivers.first_session rs
+    named-after : first_session after ≡ drivers.first_session rs
     named-after =
         ap (λ (o : Option ℕ). option_or o (session_in own.reply)) x.named ∙ ap (option_or (drivers.first_session (calls_of log))) (sym (established-by side h c own.reply))
         ∙ sym (ap drivers.first_session called)
 
-    pub delivered-after : (k : ℕ) → was_given after k ≡ list_any (delivers k) rs
+    delivered-after : (k : ℕ) → was_given after k ≡ list_any (delivers k) rs
     delivered-after k = by (request_in own.reply) ∙ or-with _ _ _ (x.delivered k) ∙ ap (λ (b : Bool). b || list_any (delivers k) (calls_of log)) (sym same) ∙ sym (ap (list_any (delivers k)) called)
       where
         same : delivers k left ≡ elim (request_in own.reply) [ Some id ↦ id == k | None ↦ false ]
@@ -112,7 +112,7 @@ module _ (side : Side) (offset : ℕ → ℕ) (h : History) (log : Log) (x : Sta
         by None = refl
         by (Some id) = refl
 
-    pub request-after : unwrap_or (last_request after) 0 ≡ requested_stream rs
+    request-after : unwrap_or (last_request after) 0 ≡ requested_stream rs
     request-after =
         by (request_in own.reply) ∙ ap (λ (n : ℕ). elim (request_in own.reply) [ Some id ↦ id | None ↦ n ]) x.request
         ∙ ap (λ (o : Option ℕ). elim o [ Some id ↦ id | None ↦ requested_stream (calls_of log) ]) (sym (requested-by side h c own.reply)) ∙ sym (ap requested_stream called)
@@ -126,7 +126,7 @@ module _ (side : Side) (offset : ℕ → ℕ) (h : History) (log : Log) (x : Sta
         or-with (answers_stop k (turns.Call c) own.reply) _ _ (x.halves.given_up k)
         ∙ ap (λ (b : Bool). b || list_any (gives_up k) (calls_of log)) (sym (stopped-by side h c k own.reply)) ∙ sym (ap (list_any (gives_up k)) called)
 
-    pub read-after : (k : ℕ) → length (was_read after k) ≡ halves.total_read k rs
+    read-after : (k : ℕ) → length (was_read after k) ≡ halves.total_read k rs
     read-after k =
         let l = length-append (was_read h k) (read_by k (turns.Call c) own.reply) in
         let a = x.halves.read k in
@@ -135,7 +135,7 @@ module _ (side : Side) (offset : ℕ → ℕ) (h : History) (log : Log) (x : Sta
 
     -- ---- halves
 
-    pub priority-after : (k : ℕ) → is_done after k ≡ false → unwrap_or (first_of (λ (p : Pair). priority_by k p.turn p.answer.reply) after) (pos 0) ≡ sends.priority_of rs k
+    priority-after : (k : ℕ) → is_done after k ≡ false → unwrap_or (first_of (λ (p : Pair). priority_by k p.turn p.answer.reply) after) (pos 0) ≡ sends.priority_of rs k
     priority-after k d =
         by (priority_by k (turns.Call c) own.reply) (x.halves.priority k (done-before (record { turn = turns.Call c; answer = next side h (turns.Call c) }) h k d))
         ∙ ap (λ (o : Option ℤ). unwrap_or (option_or o (logs.newest (sends.priority_set k) (calls_of log))) (pos 0))
@@ -171,7 +171,7 @@ module _ (side : Side) (offset : ℕ → ℕ) (h : History) (log : Log) (x : Sta
       same = x.halves.reset k ∙ resets-apart k log ∙ ap (λ (b : Bool). b || list_any (unsent-reset k) (calls_of log)) (sym (x.out.reset k))
 
   module _ (log2 : Log) (called : calls_of log2 ≡ left ∷ calls_of log) (sent : actions_of log2 ≡ newest_first all_sent (actions_of log)) where
-    pub reset-after : (k : ℕ) → is_reset after k ≡ sends.is_reset log2 k
+    reset-after : (k : ℕ) → is_reset after k ≡ sends.is_reset log2 k
     reset-after k =
         ap (λ (b : Bool). b || told-resets after k) went
         ∙ reset-from k now (λ o a. any-join_all (is_reset_of k) (λ i p q. refl) [] all_sent
@@ -185,7 +185,7 @@ module _ (side : Side) (offset : ℕ → ℕ) (h : History) (log : Log) (x : Sta
         went : list_any (is_reset_of k) (actions_out after) ≡ (list_any (is_reset_of k) (actions_out h) || now)
         went = any-newest (is_reset_of k) (join_all [] all_sent) (actions_out h)
 
-    pub halves-after : HalvesAgree after log2
+    halves-after : HalvesAgree after log2
     halves-after = record {
       given_up = given_up-after (calls_of log2) called;
       reset = reset-after;
@@ -195,15 +195,15 @@ module _ (side : Side) (offset : ℕ → ℕ) (h : History) (log : Log) (x : Sta
 
     -- ---- openings
 
-    pub opening-after : (k : ℕ) → OpeningAgrees after log2 k
+    opening-after : (k : ℕ) → OpeningAgrees after log2 k
     opening-after k = opening-next side h hist log c lawful k (x.calls.accepted k) (x.unfailed k) (x.openings k) log2 (ap (opening-of k) called)
 
-    pub unfailed-after : (k : ℕ) → exists side after k ≡ false → list_any (fails_opening k) (calls_of log2) ≡ false
+    unfailed-after : (k : ℕ) → exists side after k ≡ false → list_any (fails_opening k) (calls_of log2) ≡ false
     unfailed-after k e = ap (list_any (fails_opening k)) called ∙ unfailed-next side h hist log c lawful k (x.calls.accepted k) (x.unfailed k) e
 
     -- ---- the whole, where the moment finds alike, and what of sessions and the handshake is left holds
 
-    pub calls-after : ((s : ℕ) → was_established (call_view log2) s ≡ is_established after s) → CallsAgree after (call_view log2)
+    calls-after : ((s : ℕ) → was_established (call_view log2) s ≡ is_established after s) → CallsAgree after (call_view log2)
     calls-after established = record { accepted = accepted-after (calls_of log2) called; ended = ended-after (calls_of log2) called; established = established }
 
     module _ (at : events_of log2 ≡ events_of log) (all : all_events_of log2 ≡ all_events_of log) (bytes : (k : ℕ) → streams.contents log2 k ≡ streams.contents log k)

@@ -59,7 +59,7 @@ ends-one k (OpeningFailed id) = by (id == k)
 ends-one k r = refl
 
 -- an opening ends by its failure, or as the stream is given
-pub ends-apart : (k : ℕ) (rs : List CallRecord) → list_any (ends_opening k) rs ≡ (list_any (fails_opening k) rs || list_any (accepts_stream k) rs)
+ends-apart : (k : ℕ) (rs : List CallRecord) → list_any (ends_opening k) rs ≡ (list_any (fails_opening k) rs || list_any (accepts_stream k) rs)
 ends-apart k [] = refl
 ends-apart k (r ∷ rs) = rw (ends-one k r, ends-apart k rs) (by (fails_opening k r) (accepts_stream k r) (list_any (fails_opening k) rs) (list_any (accepts_stream k) rs))
   where
@@ -302,7 +302,7 @@ bi-step side h k name r e s = by (is_usual r) refl s
 silent-step : (side : Side) (h : History) (k : ℕ) (c : Call) (r : Reply) → opening_ends k (turns.Call c) r ≡ false → is_silent r ≡ true → OpeningStep side h c k r
 silent-step side h k c r e u = Other (opens-none k c r u) e (quiet-one k (record_of side h c r) (silent-tells-not side h c r u))
 
-pub opening-step : (side : Side) (h : History) (k : ℕ) (c : Call) → OpeningStep side h c k (first_row (rows_of side h c)).reply
+opening-step : (side : Side) (h : History) (k : ℕ) (c : Call) → OpeningStep side h c k (first_row (rows_of side h c)).reply
 opening-step side h k (calls.PollOpening id) =
     (by-session (λ (a : Answer). OpeningStep side h (calls.PollOpening id) k a.reply) (named h None) (λ (s : ℕ). opening_for side h id (being_opened h id)) (Other refl refl (none k))
     (λ s q. poll-step side h k id (being_opened h id))).first

@@ -28,7 +28,7 @@ use Rattle.wt_turn.specs.declared.stream_error.StreamWriteError.TheVariants as w
 -- ---- which call may give which reply
 
 -- the opening failed
-abbrev pub is_opening_failed : Reply → Bool
+abbrev is_opening_failed : Reply → Bool
 is_opening_failed (replies.OpeningFailed e) = true
 is_opening_failed _ = false
 

@@ -38,7 +38,7 @@ use Rattle.wt_turn.specs.declared.stream_error.StreamReadExactError.TheVariants 
 use Rattle.wt_turn.specs.declared.turn.Turn.TheVariants as turns
 
 -- the reply is Done
-abbrev pub is_taken : Reply → Bool
+abbrev is_taken : Reply → Bool
 is_taken replies.Done = true
 is_taken _ = false
 
@@ -180,14 +180,14 @@ done-reads-not side h k (calls.EndSession name) = either (bytes_read k) 0 (is_op
 done-reads-not side h k c = refl
 
 -- no bytes were read
-abbrev pub gives_none : Reply → Bool
+abbrev gives_none : Reply → Bool
 gives_none (replies.Read (Some piece)) = false
 gives_none (replies.Exact piece) = false
 gives_none (replies.ExactFailed e piece) = false
 gives_none _ = true
 
 -- the call reads
-abbrev pub is_reader : Call → Bool
+abbrev is_reader : Call → Bool
 is_reader (calls.Read id size) = true
 is_reader (calls.ReadExact id size) = true
 is_reader _ = false
@@ -267,7 +267,7 @@ end-aside : (s : ℕ) → Aside (ends_session s) false
 end-aside s = record { polled = refl; started = λ r i. refl; response = λ a i. refl; over = refl; failed = refl }
 
 -- the call ends a session
-abbrev pub is_end : Call → Bool
+abbrev is_end : Call → Bool
 is_end (calls.EndSession name) = true
 is_end _ = false
 
@@ -317,7 +317,7 @@ response-polls calls.NotFound r = (refl, refl, refl)
 response-polls calls.TooManyRequests r = (refl, refl, refl)
 response-polls c r = absurd (cc r)
 
-pub rejected-request : (side : Side) (h : History) (c : Call) → IsHistory side h → is_lawful side h (turns.Call c) ≡ true → (first_row (rows_of side h c)).reply ≡ replies.Rejected
+rejected-request : (side : Side) (h : History) (c : Call) → IsHistory side h → is_lawful side h (turns.Call c) ≡ true → (first_row (rows_of side h c)).reply ≡ replies.Rejected
     → (s : ℕ) × (last_request h ≡ Some s)
 rejected-request side h c hist l e = by (rejecting c (ap (fits c) (sym e) ∙ fits-own side h c))
   where

@@ -35,7 +35,7 @@ use Rattle.wt_wire.specs.declared.side.Side.{Side}
 use Rattle.wt_turn.specs.declared.turn.Turn.TheVariants as turns
 
 -- what the newest pair's moment finds: a second one, of a reply that establishes a session, finds nothing
-pub found-one : (side : Side) (p : Pair) (h : History) → Known side (p ∷ h) (findings side h) → is_open h ≡ true
+found-one : (side : Side) (p : Pair) (h : History) → Known side (p ∷ h) (findings side h) → is_open h ≡ true
     → findings side (p ∷ h) ≡ after_checks side (p ∷ h) (checks side (p ∷ h)) (findings side h)
 unfolding findings
 found-one side p h known o =
@@ -53,7 +53,7 @@ ends-alike h log c reply xs log2 o e =
     ∙ closes-alike h log xs o ∙ ap not (sym e)
 
 -- likewise before the answer's actions are joined
-pub own-alike : (h : History) (log : Log) (c : Call) (a : Answer) (log2 : Log) → is_open h ≡ logs.is_open log → list_any logs.ends_by log2 ≡ (list_any closes a.actions || list_any logs.ends_by log)
+own-alike : (h : History) (log : Log) (c : Call) (a : Answer) (log2 : Log) → is_open h ≡ logs.is_open log → list_any logs.ends_by log2 ≡ (list_any closes a.actions || list_any logs.ends_by log)
     → is_open (with_pair h (turns.Call c) a) ≡ logs.is_open log2
 own-alike h log c a log2 o e = closes-alike h log a.actions o ∙ ap not (sym e)
 
@@ -61,18 +61,18 @@ own-alike h log c a log2 o e = closes-alike h log a.actions o ∙ ap not (sym e)
 
 module _ (side : Side) (offset : ℕ → ℕ) (h : History) (log : Log) (x : Stands side offset h log) (c : Call) where
   -- the call's own answer, and the history with it
-  abbrev pub own : Answer
+  abbrev own : Answer
   own = own_answer side h (turns.Call c)
 
-  abbrev pub with_own : History
+  abbrev with_own : History
   with_own = with_pair h (turns.Call c) own
 
   -- what the call leaves in the log
-  abbrev pub left : CallRecord
+  abbrev left : CallRecord
   left = record_of side h c own.reply
 
   -- the log at the call's moment
-  abbrev pub at : Log
+  abbrev at : Log
   at = Called left ∷ with_actions own.actions log
 
   -- ---- both find the connection open, or neither
@@ -84,7 +84,7 @@ module _ (side : Side) (offset : ℕ → ℕ) (h : History) (log : Log) (x : Sta
   at-open = own-alike h log c own at x.came.openness at-ends
 
   -- an open connection was open before
-  pub open-before : is_open with_own ≡ true → is_open h ≡ true
+  open-before : is_open with_own ≡ true → is_open h ≡ true
   open-before o = by (list_any closes own.actions) (list_any ends_by h) o
     where
       by : (a b : Bool) → not ((false || a) || b) ≡ true → not b ≡ true

@@ -118,7 +118,7 @@ module _ (side : Side) (offset : ℕ → ℕ) (h : History) (log : Log) (x : Sta
       ≡ nat_lt (streams.stream_count side log kind) (outgoing.streams_allowed side log kind)
   may-by kind e = rw (count-is kind, open-events h (x.came.openness ∙ e), x.came.all_events, eqb-sym kind (local_uni side)) refl
 
-  pub next-id : (kind : ℕ) → next_id side h kind ≡ outgoing.next_id side log kind
+  next-id : (kind : ℕ) → next_id side h kind ≡ outgoing.next_id side log kind
   next-id kind = ap (λ (n : ℕ). 4 * n + kind) (count-is kind)
 
   module _ (kind s : ℕ) where

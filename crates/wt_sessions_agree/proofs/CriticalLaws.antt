@@ -45,7 +45,7 @@ step-keeps side h Keeps holds ls step found table does t = by (fault_of found) r
     by None e =
         let q : table.progress.fault ≡ None = sym (holds found table t).fault ∙ e in subst (λ (o : Option ErrorCode). Keeps (after_checks side h ls found) (unless_ended o step table)) (sym q) (does e)
 
-pub step-agrees : (side : Side) (h : History) (ls : List Check) (step : StreamTable → StreamTable) (found : List Finding) (table : StreamTable)
+step-agrees : (side : Side) (h : History) (ls : List Check) (step : StreamTable → StreamTable) (found : List Finding) (table : StreamTable)
     → (fault_of found ≡ None → IsTable (after_checks side h ls found) (step table)) → IsTable found table → IsTable (after_checks side h ls found) (unless_ended table.progress.fault step table)
 step-agrees side h = step-keeps side h IsTable (λ found table holds. holds)
 

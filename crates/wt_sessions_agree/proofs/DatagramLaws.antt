@@ -149,7 +149,7 @@ module _ (h : History) (calls : CallView) where
       by true p false q true r again = rw (q, gs d.session, r, p) again
       by true p false q false r again = rw (q, gs d.session, r, p, ws d.session, p) again
 
-  pub place-agrees : (found : List Finding) (table : StreamTable) (s : ℕ) → CallsAgree h calls → IsTable found table → Received h calls found
+  place-agrees : (found : List Finding) (table : StreamTable) (s : ℕ) → CallsAgree h calls → IsTable found table → Received h calls found
       → is_admitted (dispatched_streams calls table) s ≡ (not (is_gone h found s) && nat_lt (datagrams_in_window h found s) 16)
   place-agrees found table s c t r =
       ap (λ (b : Bool). not b && has_room (dispatched_streams calls table) s (map (λ (d : Admitted). d.session) (tables.waiting_datagrams calls table))) (gone-agrees h calls found table s c t)

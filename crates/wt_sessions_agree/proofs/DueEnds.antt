@@ -45,7 +45,7 @@ use Rattle.wt_turn.specs.declared.call.Call.TheVariants as calls
 use Rattle.wt_turn.specs.declared.turn.Turn.TheVariants as turns
 
 -- what goes out for the streams of a session that isn't gone is the same
-abbrev pub GoneAlike : Side → History → Log → Type 0
+abbrev GoneAlike : Side → History → Log → Type 0
 GoneAlike side h log = (s : ℕ) → is_gone h (findings side h) s ≡ false → session_gone_actions side h (findings side h) s ≡ ending_actions side log s
 
 -- ---- a client's own stream
@@ -144,7 +144,7 @@ ends-living : (side : Side) (offset : ℕ → ℕ) (h : History) (log : Log) →
     → (s : ℕ) → is_living side log s ≡ true → session_gone_actions side h (findings side h) s ≡ ending_actions side log s
 ends-living side offset h log x gone s l = gone s (gone-is side offset h log s x ∙ not-true (is_session_gone side log s) (and-right _ (not (is_session_gone side log s)) l))
 
-pub ends-agree : (side : Side) (offset : ℕ → ℕ) (h : History) (log : Log) → IsHistory side h → Stands side offset h log → GoneAlike side h log → EndsAgree side h log
+ends-agree : (side : Side) (offset : ℕ → ℕ) (h : History) (log : Log) → IsHistory side h → Stands side offset h log → GoneAlike side h log → EndsAgree side h log
 ends-agree Client offset h log i x gone = record {
   living = ends-living Client offset h log x gone;
   requested = λ d. absurd (never-due offset h log i x d);
@@ -164,7 +164,7 @@ ends-agree Server offset h log i x gone = record {
 
 -- ---- and what goes out for gone sessions is the same
 
-pub gone-stands : (side : Side) (offset : ℕ → ℕ) (h : History) (log : Log) → Stands side offset h log → MembersIn side h (call_view log) (findings side h) → GoneAlike side h log
+gone-stands : (side : Side) (offset : ℕ → ℕ) (h : History) (log : Log) → Stands side offset h log → MembersIn side h (call_view log) (findings side h) → GoneAlike side h log
 gone-stands side offset h log x m =
     gone-alike side h (findings side h) (transport_view side log) (call_view log) (stream_table side log) x.table x.calls
     (halves-seen side h log x.came.events x.came.all_events x.out x.halves.given_up x.halves.reset) m

@@ -38,7 +38,7 @@ use Rattle.wt_turn.specs.declared.turn.Turn.TheVariants as turns
 
 -- ---- what an entry's moment sends
 
-abbrev pub sent-entry : Side → Log → Entry → List Action
+abbrev sent-entry : Side → Log → Entry → List Action
 sent-entry side log e = if is_moment e && logs.is_open (e ∷ log) then pending_actions side (e ∷ log) else []
 
 pub flush-as : (side : Side) (log : Log) (e : Entry) → log_and_flush side log e ≡ with_actions (sent-entry side log e) (e ∷ log)

@@ -121,7 +121,7 @@ module _ (side : Side) (h : History) (log : Log) (k : ℕ) (a : HalfAgrees h log
   -- ---- the end of a sending half
 
   -- done in both or in none
-  pub done-agrees : is_done h k ≡ ladders.is_done log k
+  done-agrees : is_done h k ≡ ladders.is_done log k
   done-agrees = rw (a.reset, a.finished, a.events) refl
 
   pub stopped-agrees : ladders.stopped side log k ≡ effect_of side h log (calls.Stopped k) (first_row (stopped h k))

@@ -41,7 +41,7 @@ use Rattle.wt_turn.specs.declared.call.Call.TheVariants as calls
 -- ---- a server's request
 
 -- the first of these requests, as the history has it
-abbrev pub request-of : List Classified → Option (ℕ × Fields)
+abbrev request-of : List Classified → Option (ℕ × Fields)
 request-of [] = None
 request-of (c ∷ later) = Some (c.id, request_fields_of c.verdict)
 

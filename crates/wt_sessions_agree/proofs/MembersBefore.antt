@@ -119,7 +119,7 @@ module _ (side : Side) (h : History) (turn : Turn) (hist : IsHistory side h) (la
   }
 
   -- so after it
-  pub good-after : (xs : List Action) (calls : CallView) → MembersIn side (after xs) calls (findings side h) → Good side (after xs) calls (findings side (after xs))
+  good-after : (xs : List Action) (calls : CallView) → MembersIn side (after xs) calls (findings side h) → Good side (after xs) calls (findings side (after xs))
   good-after xs calls members =
       findings-keep side (record { turn = turn; answer = answer (own_answer side h turn).reply xs }) h (Good side (after xs) calls) (good-kept side (after xs) calls) (good-before xs calls members)
 

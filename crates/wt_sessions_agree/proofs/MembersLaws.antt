@@ -37,7 +37,7 @@ has-with j k (x ∷ xs) = by (k == x) (nat_lt k x) refl (has-with j k xs)
     by false true e q = refl
     by false false e q = ap (λ (b : Bool). x == j || b) q ∙ or-turned (x == j) (k == j) (has_id j xs)
 
-pub has-with-ids : (j : ℕ) (ks ids : List ℕ) → has_id j (with_ids ks ids) ≡ (has_id j ks || has_id j ids)
+has-with-ids : (j : ℕ) (ks ids : List ℕ) → has_id j (with_ids ks ids) ≡ (has_id j ks || has_id j ids)
 has-with-ids j [] ids = refl
 has-with-ids j (k ∷ ks) ids =
     has-with-ids j ks (with_id k ids) ∙ ap (λ (b : Bool). has_id j ks || b) (has-with j k ids) ∙ or-turned (has_id j ks) (k == j) (has_id j ids) ∙ or-assoc (k == j) (has_id j ks) (has_id j ids)
@@ -75,7 +75,7 @@ with-ascends k (x ∷ xs) g = by (k == x) (nat_lt k x) refl refl (with-ascends k
                 let same : k ≡ x = let m = ltb-false k x f in let n = ltb-false x k q in omega (arith, m, n) in
                 absurd (let r : true ≡ false = sym (eq-eqb k x same) ∙ e in cc r)
 
-pub with-ids-ascend : (ks ids : List ℕ) → Ascends ids → Ascends (with_ids ks ids)
+with-ids-ascend : (ks ids : List ℕ) → Ascends ids → Ascends (with_ids ks ids)
 with-ids-ascend [] ids g = g
 with-ids-ascend (k ∷ ks) ids g = with-ids-ascend ks (with_id k ids) (with-ascends k ids g)
 
@@ -132,7 +132,7 @@ is-above a k (x ∷ xs) g e = by (x == k) refl e (is-above a k xs g.1)
     by false q r again = again r
 
 -- lists that ascend are the same where the same is among them
-pub same-ids : (xs ys : List ℕ) → Ascends xs → Ascends ys → ((k : ℕ) → has_id k xs ≡ has_id k ys) → xs ≡ ys
+same-ids : (xs ys : List ℕ) → Ascends xs → Ascends ys → ((k : ℕ) → has_id k xs ≡ has_id k ys) → xs ≡ ys
 same-ids [] [] f g e = refl
 same-ids [] (y ∷ ys) f g e = absurd (let q : false ≡ (y == y || has_id y ys) = e y in let r : (y == y) ≡ true = eq-eqb y y refl in let s : false ≡ true = rw r at q in cc s)
 same-ids (x ∷ xs) [] f g e = absurd (let q : (x == x || has_id x xs) ≡ false = e x in let r : (x == x) ≡ true = eq-eqb x x refl in let s : true ≡ false = rw r at q in cc s)
@@ -251,7 +251,7 @@ module _ (side : Side) (h : History) (found : List Finding) (calls : CallView) (
       by false e = refl
 
   -- in the same order
-  pub streams-alike : filter (is_of_session h found s) (stream_ids side h) ≡ streams_of (dispatched_streams calls table) s
+  streams-alike : filter (is_of_session h found s) (stream_ids side h) ≡ streams_of (dispatched_streams calls table) s
   streams-alike =
       same-ids (filter (is_of_session h found s) (stream_ids side h)) (streams_of (dispatched_streams calls table) s)
       (filter-ascends (is_of_session h found s) (stream_ids side h) (numbers-ascend 0 (4 * (stream_count side h 0 + stream_count side h 1 + stream_count side h 2 + stream_count side h 3))))
@@ -267,7 +267,7 @@ acts-alike false a = refl
 both-alike : (b c : Bool) (x y : Action) → sends.action_if b x ++ sends.action_if c y ≡ tables.action_if b x ++ tables.action_if c y
 both-alike b c x y = rw (acts-alike b x, acts-alike c y) refl
 
-pub ends-alike : (side : Side) (h : History) (t : TransportView) → HalvesSeen side h t → (k : ℕ) → stream_gone_actions side h k ≡ stream_ends t k
+ends-alike : (side : Side) (h : History) (t : TransportView) → HalvesSeen side h t → (k : ℕ) → stream_gone_actions side h k ≡ stream_ends t k
 ends-alike side h t seen k = rw (seen.receives k, seen.sends k) (both-alike _ _ _ _)
 
 all-alike : (f g : ℕ → List Action) → ((k : ℕ) → f k ≡ g k) → (ids : List ℕ) → flat_map f ids ≡ flat_map g ids

@@ -44,7 +44,7 @@ use Rattle.wt_wire.specs.declared.error.ErrorCode.TheVariants as h3
 
 -- ---- findings after findings
 
-pub all-append : (side : Side) (h : History) (before xs ys : List Finding) → actions_for_all side h before (xs ++ ys) ≡ actions_for_all side h before xs ++ actions_for_all side h (before ++ xs) ys
+all-append : (side : Side) (h : History) (before xs ys : List Finding) → actions_for_all side h before (xs ++ ys) ≡ actions_for_all side h before xs ++ actions_for_all side h (before ++ xs) ys
 all-append side h before [] ys = ap (λ (l : List Finding). actions_for_all side h l ys) (sym (append-nil before))
 all-append side h before (x ∷ xs) ys =
     ap (λ (l : List Action). actions_for side h before x ++ l)
@@ -63,7 +63,7 @@ abbrev Quiet : Side → History → List Finding → Type 0
 Quiet side h xs = (before : List Finding) → actions_for_all side h before xs ≡ close_actions (fault_of xs)
 
 -- the check is neither of a stream nor of a session
-abbrev pub is_quiet : Check → Bool
+abbrev is_quiet : Check → Bool
 is_quiet (ReadDatagram n piece) = true
 is_quiet LocalStop = true
 is_quiet ReadSettings = true
@@ -149,7 +149,7 @@ faults-act : (o : Option ErrorCode) (p : DriverProgress) → (with_fault o p).ac
 faults-act None p = refl
 faults-act (Some code) p = refl
 
-pub datagrams-acts : (t : TransportView) (calls : CallView) (table : StreamTable) → (take_datagrams t calls table).progress.actions ≡ table.progress.actions
+datagrams-acts : (t : TransportView) (calls : CallView) (table : StreamTable) → (take_datagrams t calls table).progress.actions ≡ table.progress.actions
 datagrams-acts t calls table = by t.ready
   where
     admitted : (b : Bool) (session : ℕ) (payload : List ℕ) (u : StreamTable) → (admit_datagram b session payload u).progress.actions ≡ u.progress.actions
@@ -186,7 +186,7 @@ in-order-acts (f ∷ fs) n table = in-order-acts fs n.1 (unless_ended table.prog
     by None = n.0 table
     by (Some code) = refl
 
-pub critical-acts : (t : TransportView) (table : StreamTable) → (in_order (critical_steps t) table).progress.actions ≡ table.progress.actions
+critical-acts : (t : TransportView) (table : StreamTable) → (in_order (critical_steps t) table).progress.actions ≡ table.progress.actions
 critical-acts t table = in-order-acts (critical_steps t) (own, (controlled, (encoded, (decoded, tt)))) table
   where
     stopped : (b : Bool) (p : DriverProgress) → (critical_if b p).actions ≡ p.actions

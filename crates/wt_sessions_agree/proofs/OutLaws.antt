@@ -34,12 +34,12 @@ any-out test n xs as_ bs e = any-newest test (join_all [] xs) as_ ∙ rw (any-jo
 -- ---- bytes
 
 -- the bytes that the action sends on the stream
-abbrev pub bytes-of : ℕ → Action → List ℕ
+abbrev bytes-of : ℕ → Action → List ℕ
 bytes-of k (actions.Send id piece) = if id == k then piece else []
 bytes-of k _ = []
 
 -- the bytes that these send on the stream, joined
-abbrev pub sent-in : ℕ → List Action → List ℕ
+abbrev sent-in : ℕ → List Action → List ℕ
 sent-in k [] = []
 sent-in k (a ∷ later) = bytes-of k a ++ sent-in k later
 
@@ -108,7 +108,7 @@ pub acted : (xs : List Action) (log : Log) → actions_of (with_actions xs log) 
 acted [] log = refl
 acted (x ∷ xs) log = acted xs (Sent x ∷ log)
 
-pub newest-apart : (xs before : List Action) → newest_first xs before ≡ newest_first xs [] ++ before
+newest-apart : (xs before : List Action) → newest_first xs before ≡ newest_first xs [] ++ before
 newest-apart [] before = refl
 newest-apart (x ∷ xs) before = newest-apart xs (x ∷ before) ∙ sym (append_assoc (newest_first xs []) (x ∷ []) before) ∙ ap (λ (as_ : List Action). as_ ++ before) (sym (newest-apart xs (x ∷ [])))
 

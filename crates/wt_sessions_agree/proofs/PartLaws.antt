@@ -65,7 +65,7 @@ response-then bytes end fields at e = by (whole_walk response_decides 0 bytes).s
     by (Some w) q r = rw q r
     by None q r = absurd (unfinished end (whole_walk response_decides 0 bytes).state (whole_walk response_decides 0 bytes).between r)
 
-pub response-stays : (bytes more : List ℕ) (end later : StreamEnd) (fields : Fields) (at : ℕ) → response_walk_of bytes end ≡ responses.Response fields at
+response-stays : (bytes more : List ℕ) (end later : StreamEnd) (fields : Fields) (at : ℕ) → response_walk_of bytes end ≡ responses.Response fields at
     → response_walk_of (bytes ++ more) later ≡ responses.Response fields at
 response-stays bytes more end later fields at e =
     let r = response-then bytes end fields at e in
@@ -86,7 +86,7 @@ contents-add p h k = by (is_open h) p.turn
 -- ---- a unidirectional stream is no request
 
 -- the verdict is a request
-abbrev pub is-request : Verdict → Bool
+abbrev is-request : Verdict → Bool
 is-request (verdicts.Request headers offset) = true
 is-request _ = false
 
@@ -220,7 +220,7 @@ queues-has k (Classified id (verdicts.Request headers offset) true ∷ found) e 
 queues-has k (x ∷ found) e = queues-has k found e
 
 -- a request that was given
-pub given-request : (side : Side) (h : History) → IsHistory side h → (k : ℕ) → was_given h k ≡ true → RequestOf (findings side h) k
+given-request : (side : Side) (h : History) → IsHistory side h → (k : ℕ) → was_given h k ≡ true → RequestOf (findings side h) k
 given-request side h i k e = queued-verdict side h k (queues-has k (findings side h) (given-queued side h i k e))
 
 -- ---- where a session's part begins

@@ -95,7 +95,7 @@ module _ (side : Side) (h : History) (o : is_open h ≡ true) (r : ready-of side
           rw e (three (is_connected (events h)) (nat_le 1 (unis_allowed (events h))) (nat_le 25 total) connected allowed (le-more 25 (credit (events h) (local_uni side)) total covered c))
   grows _ l = r
 
-pub ready-stays : (side : Side) (h : History) (turn : Turn) (a : Answer) → is_lawful side h turn ≡ true → is_ready side h ≡ true → is_ready side (with_pair h turn a) ≡ true
+ready-stays : (side : Side) (h : History) (turn : Turn) (a : Answer) → is_lawful side h turn ≡ true → is_ready side h ≡ true → is_ready side (with_pair h turn a) ≡ true
 ready-stays side h turn a l r = by (is_open h) refl
   where
     by : (b : Bool) → is_open h ≡ b → ready-of side (if b then with_event (event_of turn) (events h) else events h) ≡ true

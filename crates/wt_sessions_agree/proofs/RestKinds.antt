@@ -48,7 +48,7 @@ pub data Finds (side : Side) (h : History) (found : List Finding) : Check → Li
 abbrev pub NoFault : List Finding → Type 0
 NoFault found = fault_of found ≡ None
 
-pub fault-before : (found new : List Finding) → NoFault (found ++ new) → NoFault found
+fault-before : (found new : List Finding) → NoFault (found ++ new) → NoFault found
 fault-before found new e = by (fault_of found) refl
   where
     by : (o : Option ErrorCode) → fault_of found ≡ o → o ≡ None
@@ -138,7 +138,7 @@ finds-end : (side : Side) (h : History) (found : List Finding) (c : Check) (stre
 finds-end side h found c None e = Nothing c
 finds-end side h found c (Some stream) e = finds-if side h found c (not (is_running (end_of (events h) stream.0))) h3.ClosedCriticalStream e
 
-pub finds-one : (side : Side) (h : History) (found : List Finding) (c : Check) → NoFault (found_by side h found c) → Finds side h found c (found_by side h found c)
+finds-one : (side : Side) (h : History) (found : List Finding) (c : Check) → NoFault (found_by side h found c) → Finds side h found c (found_by side h found c)
 finds-one side h found (Dequeue k) e = finds-dequeued side h found k (is_dequeued found k) (is_ready side h) (nat_lt (unclassified_before found k) 4) refl refl
 finds-one side h found (Classify k) e = finds-classified side h found k (is_dequeued found k && not (is_classified found k)) e
 finds-one side h found (ReadDatagram n piece) e = finds-read side h found n piece (is_ready side h) (length (filter is_datagram found) == n) (datagram_of piece) refl e
@@ -237,7 +237,7 @@ module _ (side : Side) (h : History) (kind : ℕ) (small : kind < 4) where
   plain-more found f i n same (Taken d c) = taken-more found f i d c
   plain-more found f i n same (Left d r) = left-more found f i n same d r
 
-  pub still-kept : (i : ℕ) → KeptOn side h (λ (found : List Finding). Still side h found kind i)
+  still-kept : (i : ℕ) → KeptOn side h (λ (found : List Finding). Still side h found kind i)
   still-kept i c found _ (Nothing _) s = subst (λ (l : List Finding). Still side h l kind i) (sym (append-nil found)) s
   still-kept i c found _ (Dequeues k q) (Taken d e) = taken-more found (Dequeued k) i d e
   still-kept i c found _ (Dequeues k q) (Left d r) = left-more found (Dequeued k) i (by (k == 4 * i + kind) refl) (plain-stuck found (Dequeued k) (λ j. refl)) d r

@@ -35,7 +35,7 @@ pub data Quiet (side : Side) (h : History) (found : List Finding) : List Check �
   Empty : Quiet side h found []
   And : (c : Check) (cs : List Check) → found_by side h found c ≡ [] → Quiet side h found cs → Quiet side h found (c ∷ cs)
 
-pub quiet-append : (side : Side) (h : History) (found : List Finding) (cs ds : List Check) → Quiet side h found cs → Quiet side h found ds → Quiet side h found (cs ++ ds)
+quiet-append : (side : Side) (h : History) (found : List Finding) (cs ds : List Check) → Quiet side h found cs → Quiet side h found ds → Quiet side h found (cs ++ ds)
 quiet-append side h found _ ds Empty r = r
 quiet-append side h found _ ds (And c cs e q) r = And c (cs ++ ds) e (quiet-append side h found cs ds q r)
 
@@ -54,7 +54,7 @@ more-faulty side h (c ∷ cs) found code e = rw e refl
 -- ---- datagrams
 
 -- the first n datagrams were read
-abbrev pub AllRead : Side → History → ℕ → List Finding → Type 0
+abbrev AllRead : Side → History → ℕ → List Finding → Type 0
 AllRead side h n found = is_ready side h ≡ true → n ≤ length (filter is_datagram found)
 
 counted : (found new : List Finding) → length (filter is_datagram (found ++ new)) ≡ length (filter is_datagram found) + length (filter is_datagram new)

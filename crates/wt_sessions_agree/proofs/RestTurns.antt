@@ -42,7 +42,7 @@ use Rattle.wt_wire.specs.declared.error.ErrorCode.TheVariants as h3
 -- ---- a lawful history
 
 -- what is established with a pair was known before its moment
-pub known-before : (side : Side) (p : Pair) (h : History) → IsHistory side (p ∷ h) → Known side (p ∷ h) (findings side h)
+known-before : (side : Side) (p : Pair) (h : History) → IsHistory side (p ∷ h) → Known side (p ∷ h) (findings side h)
 known-before side p h i k e = by side i (established-begun side (p ∷ h) i k e)
   where
     by : (s : Side) → IsHistory s (p ∷ h) → BegunFor s (p ∷ h) k → (is_of_peer s k && not (is_classified (findings s h) k)) ≡ false
@@ -55,7 +55,7 @@ moments-once side h (replies.Session id) found known = at-rest side h found know
 moments-once side h r found known = refl
 
 -- so what a pair finds is found by one
-pub findings-once : (side : Side) (p : Pair) (h : History) → IsHistory side (p ∷ h) → is_open h ≡ true → findings side (p ∷ h) ≡ after_checks side (p ∷ h) (checks side (p ∷ h)) (findings side h)
+findings-once : (side : Side) (p : Pair) (h : History) → IsHistory side (p ∷ h) → is_open h ≡ true → findings side (p ∷ h) ≡ after_checks side (p ∷ h) (checks side (p ∷ h)) (findings side h)
 unfolding findings
 findings-once side p h i o =
     ap (λ (b : Bool). if b then after_moments side (p ∷ h) p.answer.reply (findings side h) else findings side h) o
@@ -71,7 +71,7 @@ first-rest side = record {
   critical = And _ _ refl (And _ _ refl (And _ _ refl (And _ _ refl (And _ _ refl Empty))));
 }
 
-pub rest-of : (side : Side) (h : History) → IsHistory side h → is_open h ≡ true → AtRest side h (findings side h)
+rest-of : (side : Side) (h : History) → IsHistory side h → is_open h ≡ true → AtRest side h (findings side h)
 rest-of side [] i o = first-rest side
 rest-of side (p ∷ h) i o =
     let same = findings-once side p h i (open-before p h o) in

@@ -88,7 +88,7 @@ module _ (h : History) (offset : ℕ → ℕ) (y : Session) (m : ℕ) (is : y.id
         ap (λ (o : Option Session). cons_option o (filter_map (session_at after offset2) (ids_from 0 (suc i) c))) (others (4 * i + 0) (apart i (λ q. omega (arith, q, lt))))
         ∙ ap (cons_option (session_at h offset (4 * i + 0))) (behind-same (suc i) c (omega (arith, lt)))
 
-    pub inserted : (i c : ℕ) → i ≤ m → m < i + c → with_session y (filter_map (session_at h offset) (ids_from 0 i c)) ≡ filter_map (session_at after offset2) (ids_from 0 i c)
+    inserted : (i c : ℕ) → i ≤ m → m < i + c → with_session y (filter_map (session_at h offset) (ids_from 0 i c)) ≡ filter_map (session_at after offset2) (ids_from 0 i c)
     inserted i zero le lt = absurd (omega (arith, le, lt))
     inserted i (suc c) le lt = by (i == m) refl (inserted (suc i) c)
       where

@@ -30,7 +30,7 @@ use Rattle.wt_turn.specs.declared.turn.Turn.TheVariants as turns
 
 -- ---- each request is answered, or a response is due
 
-pub answered-is : (h : History) → Phase h → all_answered h ≡ not (is_asked h)
+answered-is : (h : History) → Phase h → all_answered h ≡ not (is_asked h)
 answered-is h f = by (has_request h) (is_waiting h) f.count (all_answered h) refl
   where
     by : (q w : Bool) → given_count h ≡ answered_count h + (bit q + bit w) → (b : Bool) → (given_count h == answered_count h) ≡ b → b ≡ not (q || w)
@@ -82,7 +82,7 @@ failed-shut side (p ∷ h) i e = shut-later p h (by (fails_incoming p.turn p.ans
         incoming-shut side h (ap (fails_incoming (turns.Call calls.Incoming)) (sym a) ∙ ap (λ (y : Turn). fails_incoming y p.answer.reply) (sym t) ∙ q)
 
 -- and then no response is due any more
-pub failed-idle : (h : History) → IsHistory Server h → has_failed h ≡ true → is_asked h ≡ false
+failed-idle : (h : History) → IsHistory Server h → has_failed h ≡ true → is_asked h ≡ false
 failed-idle [] i e = absurd (cc e)
 failed-idle (p ∷ h) i e = by (fails_incoming p.turn p.answer.reply) refl e (failed-idle h i.2)
   where

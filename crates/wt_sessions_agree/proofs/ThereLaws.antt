@@ -29,7 +29,7 @@ use Rattle.wt_turn.specs.declared.reply.Reply.TheVariants as replies
 
 -- ---- what counted came
 
-pub peers-most : (side : Side) (h : History) (kind : ℕ) → peer_count side (events h) kind ≤ peer_count side (all_events h) kind
+peers-most : (side : Side) (h : History) (kind : ℕ) → peer_count side (events h) kind ≤ peer_count side (all_events h) kind
 peers-most side [] kind = omega arith
 peers-most side (p ∷ h) kind = by (is_open h) (event_of p.turn) (peers-most side h kind)
   where
@@ -145,7 +145,7 @@ module _ (side : Side) (h : History) where
   moments-there r found there = after-there (checks side h) found checks-there there
 
 -- a stream that was dequeued is there
-pub dequeued-there : (side : Side) (h : History) (k : ℕ) → is_dequeued (findings side h) k ≡ true → exists side h k ≡ true
+dequeued-there : (side : Side) (h : History) (k : ℕ) → is_dequeued (findings side h) k ≡ true → exists side h k ≡ true
 unfolding findings
 dequeued-there side [] k e = absurd (cc e)
 dequeued-there side (p ∷ h) k e = by (is_open h) (λ j d. exists-stays side p h j (dequeued-there side h j d)) k e

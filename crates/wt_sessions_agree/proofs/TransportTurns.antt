@@ -75,7 +75,7 @@ module _ (side : Side) (offset : ℕ → ℕ) (h : History) (log : Log) (x : Sta
     alike : SeesAlike side (bare ∷ h) (transport_view side (e ∷ log)) (call_view (e ∷ log)) offset
     alike = sees-alike side offset (bare ∷ h) (e ∷ log) at bytes calls (sessions-after side offset h log x turn plain [] (e ∷ log) called (count-after side offset h log x turn plain []))
 
-    pub entry-sends : is_open (bare ∷ h) ≡ true → (is_moment e && logs.is_open (e ∷ log)) ≡ true → pending_actions side (e ∷ log) ≡ moment_actions side (bare ∷ h)
+    entry-sends : is_open (bare ∷ h) ≡ true → (is_moment e && logs.is_open (e ∷ log)) ≡ true → pending_actions side (e ∷ log) ≡ moment_actions side (bare ∷ h)
     entry-sends opened moment = sends-alike side offset bare h hist log e opened moment at out alike seen orderly good x.table
 
 -- ---- what a turn keeps of the streams of sessions
@@ -143,7 +143,7 @@ module _ (side : Side) (offset : ℕ → ℕ) (h : History) (log : Log) (x : Sta
         finds-nothing side offset h log x hist turn single lawful entry after-is called acted
         (ap (λ (b : Bool). if b then pending_actions side (entry ∷ log) else []) m ∙ sym (none-now side h turn shut)) ends (ordered (entry ∷ log) called) members-after found m
 
-    pub event-late : is_open h ≡ false → TurnAgrees side h log turn
+    event-late : is_open h ≡ false → TurnAgrees side h log turn
     event-late o =
         silent (closed-more h first o) (ap (λ (b : Bool). is_moment (event_entry b e) && logs.is_open (event_entry b e ∷ log)) (sym x.came.openness ∙ o)) (found-same side pair h o)
 
@@ -153,11 +153,11 @@ module _ (side : Side) (offset : ℕ → ℕ) (h : History) (log : Log) (x : Sta
         ap (λ (c : Bool). is_moment (event_entry c e) && logs.is_open (event_entry c e ∷ log)) (sym x.came.openness ∙ o) ∙ ap (λ (c : Bool). not (c || list_any logs.ends_by log)) (sym same-end ∙ l)
 
     -- a loss, where its moment finds nothing
-    pub event-loses : loses turn ≡ true → is_open h ≡ true → after_checks side (pair ∷ h) (checks side (pair ∷ h)) (findings side h) ≡ findings side h → TurnAgrees side h log turn
+    event-loses : loses turn ≡ true → is_open h ≡ true → after_checks side (pair ∷ h) (checks side (pair ∷ h)) (findings side h) ≡ findings side h → TurnAgrees side h log turn
     event-loses l o idle = silent (ap (λ (b : Bool). not ((b || false) || list_any ends_by h)) l) (moment-here o true l) (found-then side pair h refl o ∙ idle)
 
     -- any other event
-    pub event-turn : loses turn ≡ false → TurnAgrees side h log turn
+    event-turn : loses turn ≡ false → TurnAgrees side h log turn
     event-turn l = by (is_open h) refl
       where
         by : (b : Bool) → is_open h ≡ b → TurnAgrees side h log turn

@@ -41,7 +41,7 @@ done-log : (side : Side) (log : Log) (turn : Turn) → is_single turn ≡ true �
 done-log side log (turns.Call c) s = absurd (cc s)
 done-log side log turn s = refl
 
-pub turn-same : (side : Side) (h : History) (log : Log) (turn : Turn) → is_single turn ≡ true → actions_of (log_after side log turn) ≡ newest_first (sends-now side h turn) (actions_of log)
+turn-same : (side : Side) (h : History) (log : Log) (turn : Turn) → is_single turn ≡ true → actions_of (log_after side log turn) ≡ newest_first (sends-now side h turn) (actions_of log)
     → answers.answer_to side log turn ≡ next side h turn
 turn-same side h log turn s e = done-log side log turn s ∙ ap (answer replies.Done) (since-is log (log_after side log turn) (sends-now side h turn) e) ∙ sym (done-next side h turn s)
 

@@ -34,7 +34,7 @@ use Rattle.wt_turn.specs.declared.connection_error.ConnectionError.TheVariants a
 -- ---- streams
 
 -- a waiting stream as the history has it
-abbrev pub stream-pair : Waiting → ℕ × ℕ
+abbrev stream-pair : Waiting → ℕ × ℕ
 stream-pair w = (w.id, w.session)
 
 module _ (calls : CallView) (a g g2 : ℕ → Bool) (acc : (k : ℕ) → calls.accepted k ≡ a k) (gone : (s : ℕ) → g2 s ≡ g s) where
@@ -42,7 +42,7 @@ module _ (calls : CallView) (a g g2 : ℕ → Bool) (acc : (k : ℕ) → calls.a
   Waits found = map stream-pair (filter (λ (w : Waiting). not (g2 w.session)) (filter_map (waits_in calls) (filter_map classified_in found)))
       ≡ filter (λ (w : ℕ × ℕ). not (a w.0) && not (g w.1)) (filter_map admitted_stream found)
 
-  pub waits-found : (found : List Finding) → Waits found
+  waits-found : (found : List Finding) → Waits found
   waits-found [] = refl
   waits-found (finds.Classified id (verdicts.WebTransport s o) true ∷ found) = by (a id) (g s) refl refl (waits-found found)
     where
@@ -52,14 +52,14 @@ module _ (calls : CallView) (a g g2 : ℕ → Bool) (acc : (k : ℕ) → calls.a
       by false false e f again = rw (acc id, e, gone s, f) (ap (λ (l : List (ℕ × ℕ)). (id, s) ∷ l) again)
   waits-found (_ ∷ found) = waits-found found
 
-pub waiting-agree : (h : History) (calls : CallView) (found : List Finding) (table : StreamTable) → CallsAgree h calls → IsTable found table
+waiting-agree : (h : History) (calls : CallView) (found : List Finding) (table : StreamTable) → CallsAgree h calls → IsTable found table
     → map stream-pair (tables.waiting_streams calls table) ≡ waiting_streams h found
 waiting-agree h calls found table c t =
     ap (λ (cs : List Classified). map stream-pair (filter (λ (w : Waiting). not (tables.is_gone calls table w.session)) (filter_map (waits_in calls) cs))) (sym t.classified)
     ∙ waits-found calls (is_handed_out h) (is_gone h found) (tables.is_gone calls table) c.accepted (λ s. gone-agrees h calls found table s c t) found
 
 -- the id of a stream that is there
-abbrev pub id-of : Option Waiting → Option ℕ
+abbrev id-of : Option Waiting → Option ℕ
 id-of None = None
 id-of (Some w) = Some w.id
 
@@ -186,7 +186,7 @@ waiting-pairs side h s =
     ∙ drop-pairs (received_count h s) (filter (is_of s) (filter_map admitted_in (findings side h)))
 
 -- the next datagram of a session that isn't gone is the first that is left
-pub next-left : (side : Side) (offset : ℕ → ℕ) (h : History) (log : Log) (s : ℕ) → Stands side offset h log → is_session_gone side log s ≡ false
+next-left : (side : Side) (offset : ℕ → ℕ) (h : History) (log : Log) (s : ℕ) → Stands side offset h log → is_session_gone side log s ≡ false
     → next_datagram side log s ≡ first_of (λ (d : Admitted). Some d) (left_datagrams side h s)
 next-left side offset h log s x g =
     left-waiting (call_view log) (is_session_gone side log) s g (stream_table side log).datagrams

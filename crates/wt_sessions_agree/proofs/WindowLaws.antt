@@ -47,7 +47,7 @@ module _ (calls : CallView) (a g g2 p q : ℕ → Bool) (acc : (k : ℕ) → cal
   Counts found = length (filter p (map (λ (w : Waiting). w.session) (filter (λ (w : Waiting). not (g2 w.session)) (filter_map (waits_in calls) (filter_map classified_in found)))))
       ≡ length (filter (λ (w : ℕ × ℕ). q w.1) (filter (λ (w : ℕ × ℕ). not (a w.0) && not (g w.1)) (filter_map admitted_stream found)))
 
-  pub window-count : (found : List Finding) → Counts found
+  window-count : (found : List Finding) → Counts found
   window-count [] = refl
   window-count (finds.Classified id (verdicts.WebTransport s o) true ∷ found) = by (a id) (g s) (p s) refl refl refl (window-count found)
     where
@@ -58,7 +58,7 @@ module _ (calls : CallView) (a g g2 p q : ℕ → Bool) (acc : (k : ℕ) → cal
       by false false false e f r again = rw (acc id, e, gone s, f, pq s f, r) again
   window-count (_ ∷ found) = window-count found
 
-pub window-agrees : (h : History) (calls : CallView) (found : List Finding) (table : StreamTable) (s : ℕ) → CallsAgree h calls → IsTable found table
+window-agrees : (h : History) (calls : CallView) (found : List Finding) (table : StreamTable) (s : ℕ) → CallsAgree h calls → IsTable found table
     → has_room (dispatched_streams calls table) s (map (λ (w : Waiting). w.session) (tables.waiting_streams calls table)) ≡ nat_lt (streams_in_window h found s) 16
 window-agrees h calls found table s c t =
     ap (λ (n : ℕ). nat_lt n 16) (ap (λ (cs : List Classified). length
@@ -82,7 +82,7 @@ module _ (g g2 : ℕ → Bool) (gone : (s : ℕ) → g2 s ≡ g s) where
       length (filter (λ (k : ℕ). not (g2 k)) (filter_map queued_id (filter_map classified_in found)))
       ≡ length (filter (λ (q : ℕ × List (List ℕ × List ℕ)). not (g q.0)) (filter_map queued_request found))
 
-  pub held-count : (found : List Finding) → Held found
+  held-count : (found : List Finding) → Held found
   held-count [] = refl
   held-count (finds.Classified id (verdicts.Request f o) true ∷ found) = by (g id) refl (held-count found)
     where
