@@ -76,6 +76,16 @@ module _ (side : Side) (offset : ℕ → ℕ) (h : History) (log : Log) (x : Sta
   and-three true b c = refl
   and-three false b c = refl
 
+  -- a turn that brings something on a stream
+  grouped : (k : ℕ) → ((is_connected (all_events_of log) && (streams.can_receive side log k && is_running (end_of (all_events_of log) k))) && not (is_some (loss_of (all_events_of log))))
+      ≡ (arrivals.may_receive side log k && not (is_some (loss_of (all_events_of log))))
+  grouped k =
+      ap (λ (b : Bool). b && not (is_some (loss_of (all_events_of log))))
+      (and-three (is_connected (all_events_of log)) (streams.can_receive side log k) (is_running (end_of (all_events_of log) k)))
+
+  most : (a b c : Bool) → (a && not (is_some (loss_of (all_events_of log))) && (b && c)) ≡ ((a && b && c) && not (is_some (loss_of (all_events_of log))))
+  most a b c = last-moved a (not (is_some (loss_of (all_events_of log)))) (b && c) ∙ ap (λ (y : Bool). y && not (is_some (loss_of (all_events_of log)))) (and-three a b c)
+
   -- ---- turns of the transport
 
   lost-by : (s : Side) → side ≡ s → (has_begun s h && not (is_lost h) && (is_client s || is_connected (all_events h))) ≡ (arrivals.may_be_lost s log && not (is_some (loss_of (all_events_of log))))
@@ -145,26 +155,8 @@ module _ (side : Side) (offset : ℕ → ℕ) (h : History) (log : Log) (x : Sta
   lawful-agrees turns.PeerUni = coming _ _ (ap (λ (n : ℕ). nat_lt n (2 ^ 60)) (count-is side offset h log x (peer_uni side)))
   lawful-agrees turns.PeerBi = coming _ _ (ap (λ (n : ℕ). nat_lt n (2 ^ 60)) (count-is side offset h log x (peer_bi side)))
   lawful-agrees (turns.Bytes id piece) = rw (receiving id) (coming _ _ refl ∙ grouped id)
-    where
-      grouped : (k : ℕ) → ((is_connected (all_events_of log) && (streams.can_receive side log k && is_running (end_of (all_events_of log) k))) && not (is_some (loss_of (all_events_of log))))
-          ≡ (arrivals.may_receive side log k && not (is_some (loss_of (all_events_of log))))
-      grouped k =
-          ap (λ (b : Bool). b && not (is_some (loss_of (all_events_of log))))
-          (and-three (is_connected (all_events_of log)) (streams.can_receive side log k) (is_running (end_of (all_events_of log) k)))
   lawful-agrees (turns.End id) = rw (receiving id) (coming _ _ refl ∙ grouped id)
-    where
-      grouped : (k : ℕ) → ((is_connected (all_events_of log) && (streams.can_receive side log k && is_running (end_of (all_events_of log) k))) && not (is_some (loss_of (all_events_of log))))
-          ≡ (arrivals.may_receive side log k && not (is_some (loss_of (all_events_of log))))
-      grouped k =
-          ap (λ (b : Bool). b && not (is_some (loss_of (all_events_of log))))
-          (and-three (is_connected (all_events_of log)) (streams.can_receive side log k) (is_running (end_of (all_events_of log) k)))
   lawful-agrees (turns.Reset id code) = rw (receiving id) (coming _ _ refl ∙ grouped id)
-    where
-      grouped : (k : ℕ) → ((is_connected (all_events_of log) && (streams.can_receive side log k && is_running (end_of (all_events_of log) k))) && not (is_some (loss_of (all_events_of log))))
-          ≡ (arrivals.may_receive side log k && not (is_some (loss_of (all_events_of log))))
-      grouped k =
-          ap (λ (b : Bool). b && not (is_some (loss_of (all_events_of log))))
-          (and-three (is_connected (all_events_of log)) (streams.can_receive side log k) (is_running (end_of (all_events_of log) k)))
   lawful-agrees (turns.Stop id code) = rw (sends-is id, awaiting id) (coming _ _ refl ∙ by (is_connected (all_events_of log)) (streams.can_send side log id))
     where
       by : (a b : Bool) → ((a && (b && (not (is_some (stop_of (all_events_of log) id)) && not (is_acknowledged (all_events_of log) id)))) && not (is_some (loss_of (all_events_of log))))
@@ -186,15 +178,9 @@ module _ (side : Side) (offset : ℕ → ℕ) (h : History) (log : Log) (x : Sta
   lawful-agrees (turns.MaxUni total) =
       rw (le-lt (unis_allowed (all_events h)) total, le-lt total (2 ^ 60), x.came.all_events)
           (most (is_connected (all_events_of log)) (not (nat_lt total (unis_allowed (all_events_of log)))) (not (nat_lt (2 ^ 60) total)))
-    where
-      most : (a b c : Bool) → (a && not (is_some (loss_of (all_events_of log))) && (b && c)) ≡ ((a && b && c) && not (is_some (loss_of (all_events_of log))))
-      most a b c = last-moved a (not (is_some (loss_of (all_events_of log)))) (b && c) ∙ ap (λ (y : Bool). y && not (is_some (loss_of (all_events_of log)))) (and-three a b c)
   lawful-agrees (turns.MaxBi total) =
       rw (le-lt (bis_allowed (all_events h)) total, le-lt total (2 ^ 60), x.came.all_events)
           (most (is_connected (all_events_of log)) (not (nat_lt total (bis_allowed (all_events_of log)))) (not (nat_lt (2 ^ 60) total)))
-    where
-      most : (a b c : Bool) → (a && not (is_some (loss_of (all_events_of log))) && (b && c)) ≡ ((a && b && c) && not (is_some (loss_of (all_events_of log))))
-      most a b c = last-moved a (not (is_some (loss_of (all_events_of log)))) (b && c) ∙ ap (λ (y : Bool). y && not (is_some (loss_of (all_events_of log)))) (and-three a b c)
   lawful-agrees (turns.MaxData id total) =
       rw (sends-is id, le-lt (credit (all_events h) id) total, x.came.all_events)
           (most (is_connected (all_events_of log)) (streams.can_send side log id) (not (nat_lt total (credit (all_events_of log) id))) (nat_lt total (2 ^ 62)))

@@ -55,10 +55,6 @@ sent-newest : (k : ℕ) (xs before : List Action) → sent_on (newest_first xs b
 sent-newest k [] before = sym (append-nil (sent_on before k))
 sent-newest k (x ∷ xs) before = sent-newest k xs (x ∷ before) ∙ ap (λ (bytes : List ℕ). bytes ++ sent-in k xs) (one-more k x before) ∙ append_assoc (sent_on before k) (bytes-of k x) (sent-in k xs)
 
-sent-append : (k : ℕ) (xs ys : List Action) → sent-in k (xs ++ ys) ≡ sent-in k xs ++ sent-in k ys
-sent-append k [] ys = refl
-sent-append k (x ∷ xs) ys = ap (λ (bytes : List ℕ). bytes-of k x ++ bytes) (sent-append k xs ys) ∙ sym (append_assoc (bytes-of k x) (sent-in k xs) (sent-in k ys))
-
 sent-two : (k : ℕ) (x y : Action) → sent-in k (join_one (x ∷ []) y) ≡ bytes-of k x ++ (bytes-of k y ++ [])
 sent-two k (actions.Send i p) (actions.Send j q) = by (i == j) refl
   where
