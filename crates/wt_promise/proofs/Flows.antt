@@ -3,7 +3,6 @@ use Rattle.std.specs.Prelude.{[], ◌++◌, ◌==◌, ◌||◌, ◌∷◌, ◌�
 use Rattle.std.specs.List.{list_any}
 use Rattle.std.specs.Option.{option_or}
 use Rattle.std.proofs.Common.{◌∙◌, ap, refl, subst, sym}
-use Rattle.std.proofs.lemmas.Bool.{eqb-true}
 use Rattle.std.proofs.lemmas.List.{append-nil}
 use Rattle.wt_meaning.specs.Calls.{being_opened, opened_by, stream_header}
 use Rattle.wt_meaning.specs.Findings.{first_of}
@@ -14,7 +13,6 @@ use Rattle.wt_meaning.specs.Meaning.{next, own_answer}
 use Rattle.wt_meaning.specs.Moments.{findings}
 use Rattle.wt_meaning.specs.Sends.{admits}
 use Rattle.wt_meaning.specs.Windows.{named}
-use Rattle.wt_promise.proofs.Accepted.{bi-accepted, uni-accepted}
 use Rattle.wt_promise.proofs.Asks.{Asks, Begins, Else, ForRequest, GoesOn, Responds, asks-of, of-connect, of-response}
 use Rattle.wt_promise.proofs.Begun.{PolledStream, begun, begun-for, begun-now, begun-same, first-begun, last_stream, polled-stream, stream-zero}
 use Rattle.wt_promise.proofs.BytesOut.{bytes_on, out-add}
@@ -27,18 +25,16 @@ use Rattle.wt_promise.proofs.Sent.{Given, Opening, Polled, Quiet, Sent, Wrote, s
 use Rattle.wt_promise.proofs.Shakes.{head_stream}
 use Rattle.wt_promise.proofs.Shapes.{going, is_accept}
 use Rattle.wt_promise.proofs.Stays.{named-stays}
-use Rattle.wt_promise.proofs.Tables.{fits, fits-own}
-use Rattle.wt_promise.proofs.Verdicts.{admitted-later, admitted-peers}
+use Rattle.wt_promise.proofs.Tables.{fits-own}
+use Rattle.wt_promise.proofs.Verdicts.{accept-admits, admitted-later, admitted-peers}
 use Rattle.wt_promise.specs.Promise.{IsHistory, accepted, accepted_by, begun_on, frame_or, head_of, head_on, header_for, header_on}
 use Rattle.wt_seam_spec.specs.Streams.{local_uni}
 use Rattle.wt_turn.specs.declared.answer.Answer.{Answer}
 use Rattle.wt_turn.specs.declared.call.Call.{Call}
-use Rattle.wt_turn.specs.declared.reply.Reply.{Reply}
 use Rattle.wt_turn.specs.declared.turn.Turn.{Turn}
 use Rattle.wt_wire.specs.declared.side.Side.{Side}
 use Rattle.wt_wire.specs.declared.side.Side.TheVariants.{Client, Server}
 use Rattle.wt_turn.specs.declared.call.Call.TheVariants as calls
-use Rattle.wt_turn.specs.declared.reply.Reply.TheVariants as replies
 use Rattle.wt_turn.specs.declared.turn.Turn.TheVariants as turns
 
 -- ---- whose head goes out
@@ -82,24 +78,9 @@ opening-head side p h i k s name n t o m =
         by (Some c) q = absurd (begun-not-opened side h i.2 k (begun-for side h i.2 k c q) name opens)
 
 -- an accepted stream has none
-pub uni-admits : (side : Side) (h : History) (k : ℕ) (name : Option ℕ) (r : Reply) → (next side h (turns.Call (calls.AcceptUni name))).reply ≡ r → fits (calls.AcceptUni name) r ≡ true → hands_out k r ≡ true → (s : ℕ) × (list_any (admits s k) (findings side h) ≡ true)
-uni-admits side h k name (replies.Uni id) q f e = let a = uni-accepted side h name id q in (a.0, ap (λ (j : ℕ). list_any (admits a.0 j) (findings side h)) (sym (eqb-true id k e)) ∙ a.2.header)
-uni-admits side h k name (replies.Bi id) q f e = absurd (cc f)
-uni-admits side h k name (replies.SendReady id) q f e = absurd (cc f)
-uni-admits side h k name (replies.BiReady id) q f e = absurd (cc f)
-uni-admits side h k name r q f e = absurd (cc e)
-
-pub bi-admits : (side : Side) (h : History) (k : ℕ) (name : Option ℕ) (r : Reply) → (next side h (turns.Call (calls.AcceptBi name))).reply ≡ r → fits (calls.AcceptBi name) r ≡ true → hands_out k r ≡ true → (s : ℕ) × (list_any (admits s k) (findings side h) ≡ true)
-bi-admits side h k name (replies.Bi id) q f e = let a = bi-accepted side h name id q in (a.0, ap (λ (j : ℕ). list_any (admits a.0 j) (findings side h)) (sym (eqb-true id k e)) ∙ a.2.header)
-bi-admits side h k name (replies.Uni id) q f e = absurd (cc f)
-bi-admits side h k name (replies.SendReady id) q f e = absurd (cc f)
-bi-admits side h k name (replies.BiReady id) q f e = absurd (cc f)
-bi-admits side h k name r q f e = absurd (cc e)
-
-accept-admits : (side : Side) (h : History) (k : ℕ) (turn : Turn) → is_accept turn ≡ true → hands_out k (next side h turn).reply ≡ true → (s : ℕ) × (list_any (admits s k) (findings side h) ≡ true)
-accept-admits side h k (turns.Call (calls.AcceptUni name)) w e = uni-admits side h k name (next side h (turns.Call (calls.AcceptUni name))).reply refl (fits-own side h (calls.AcceptUni name)) e
-accept-admits side h k (turns.Call (calls.AcceptBi name)) w e = bi-admits side h k name (next side h (turns.Call (calls.AcceptBi name))).reply refl (fits-own side h (calls.AcceptBi name)) e
-accept-admits side h k turn w e = absurd (cc w)
+turn-admits : (side : Side) (h : History) (k : ℕ) (turn : Turn) → is_accept turn ≡ true → hands_out k (next side h turn).reply ≡ true → (s : ℕ) × (list_any (admits s k) (findings side h) ≡ true)
+turn-admits side h k (turns.Call call) w e = accept-admits side h k call (next side h (turns.Call call)).reply refl (fits-own side h call) w e
+turn-admits side h k turn w e = absurd (cc w)
 
 accepted-head : (side : Side) (p : Pair) (h : History) → IsHistory side (p ∷ h) → (k s : ℕ) → (k == local_uni side) ≡ false → list_any (admits s k) (findings side h) ≡ true → head_on side (p ∷ h) k ≡ []
 accepted-head side p h i k s n e = head-other side (p ∷ h) k n ∙ ap (λ (x : Option Call). frame_or x (header_on (p ∷ h) k (opened (p ∷ h)))) (none (begun_on (p ∷ h) k) refl) ∙ ap (header_on (p ∷ h) k) (unopened (opened (p ∷ h)) refl)
@@ -168,7 +149,7 @@ flow-after side p h i k n earlier = step (sent-own side h k p.turn)
       where
         by : (b : Bool) → hands_out k own.reply ≡ b → Flow head (out (p ∷ h) k) (accepted (p ∷ h) k) (is_handed_out (p ∷ h) k)
         by false z = silent false x y z before
-        by true z = let a = accept-admits side h k p.turn w z in silent true x y z (flow-given head (out h k) (accepted h k) (is_handed_out h k) true (accepted-head side p h i k a.0 n a.1) before)
+        by true z = let a = turn-admits side h k p.turn w z in silent true x y z (flow-given head (out h k) (accepted h k) (is_handed_out h k) true (accepted-head side p h i k a.0 n a.1) before)
     step (Wrote g x w) =
         from (bytes_on k own.actions) (bytes_on k own.actions) (hands_out k own.reply) refl (sym x) refl (flow-write head (out h k) (accepted h k) (bytes_on k own.actions) (is_handed_out h k) (hands_out k own.reply || is_handed_out h k) g before)
     step (Polled c q g s x y z) =

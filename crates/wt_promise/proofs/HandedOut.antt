@@ -1,5 +1,5 @@
--- A stream that was handed out was classified, or isn't the peer's.
-use Rattle.std.specs.Prelude.{[], ◌*◌, ◌++◌, ◌+◌, ◌==◌, ◌∷◌, ◌||◌, ◌≡◌, Bool, List, None, Option, Some, false, if◌then◌else◌, is_some, not, true, ℕ}
+-- Only streams of the peer are classified, and a stream that this end opens isn't the peer's.
+use Rattle.std.specs.Prelude.{[], ◌*◌, ◌++◌, ◌+◌, ◌==◌, ◌∷◌, ◌≡◌, Bool, List, None, Option, Some, false, if◌then◌else◌, is_some, true, ℕ}
 use Rattle.std.specs.List.{list_any}
 use Rattle.std.specs.Option.{option_or}
 use Rattle.std.proofs.Common.{◌∙◌, ap, refl, sym}
@@ -8,22 +8,19 @@ use Rattle.std.proofs.lemmas.Bool.{eqb-true}
 use Rattle.wt_meaning.specs.Calls.{being_opened, in_session, open_stream, opened_by, opening_ends, opening_for, opening_rows, stream_header}
 use Rattle.wt_meaning.specs.Findings.{Classified, Finding, first_of, is_classified, verdict_in, verdict_of}
 use Rattle.wt_meaning.specs.Handshakes.{head_left, is_refused, lacks_credit, send}
-use Rattle.wt_meaning.specs.History.{History, Pair, hands_out, is_handed_out, may_open, next_id, stream_count}
+use Rattle.wt_meaning.specs.History.{History, Pair, hands_out, may_open, next_id, stream_count}
 use Rattle.wt_meaning.specs.Meaning.{next}
 use Rattle.wt_meaning.specs.Moments.{findings, stream_fault}
 use Rattle.wt_meaning.specs.Rows.{first_row}
 use Rattle.wt_meaning.specs.Sends.{admits}
 use Rattle.wt_meaning.specs.Windows.{is_gone, named}
-use Rattle.wt_promise.proofs.Accepted.{bi-accepted, or-true, uni-accepted}
 use Rattle.wt_promise.proofs.Grows.{AClassified, ADatagram, AClosed, ADequeued, AFault, ASettings, Adds, Nothing, findings-add, findings-keep, first_of-append, first_of-stays, is_peers, news, of-stream-fault}
-use Rattle.wt_promise.proofs.Tables.{by-row, by-session, fits, fits-own, no-row}
+use Rattle.wt_promise.proofs.Tables.{by-row, by-session, no-row}
 use Rattle.wt_promise.specs.Promise.{IsHistory}
 use Rattle.wt_proto.specs.declared.verdict.Verdict.{Verdict}
 use Rattle.wt_seam_spec.specs.Streams.{local_bi, local_uni}
 use Rattle.wt_turn.specs.declared.answer.Answer.{Answer}
-use Rattle.wt_turn.specs.declared.call.Call.{Call}
 use Rattle.wt_turn.specs.declared.connection_error.ConnectionError.{ConnectionError}
-use Rattle.wt_turn.specs.declared.reply.Reply.{Reply}
 use Rattle.wt_turn.specs.declared.turn.Turn.{Turn}
 use Rattle.wt_wire.specs.Ids.{is_bidirectional}
 use Rattle.wt_wire.specs.declared.side.Side.{Side}
@@ -71,13 +68,6 @@ only-peers side (p ∷ h) k e = findings-keep side p h (OnlyPeers side k) (λ fo
 
 pub verdict-stays : (side : Side) (p : Pair) (h : History) (k : ℕ) (v : Verdict) → verdict_of (findings side h) k ≡ Some v → verdict_of (findings side (p ∷ h)) k ≡ Some v
 verdict-stays side p h k v e = ap (λ (found : List Finding). verdict_of found k) (findings-add side p h) ∙ first_of-stays (verdict_in k) (findings side h) (news side p h) v e
-
-pub classified-stays : (side : Side) (p : Pair) (h : History) (k : ℕ) → is_classified (findings side h) k ≡ true → is_classified (findings side (p ∷ h)) k ≡ true
-classified-stays side p h k e = by (verdict_of (findings side h) k) refl e
-  where
-    by : (o : Option Verdict) → verdict_of (findings side h) k ≡ o → is_some o ≡ true → is_classified (findings side (p ∷ h)) k ≡ true
-    by None i q = absurd (cc q)
-    by (Some v) i q = ap is_some (verdict-stays side p h k v i)
 
 -- an admitted stream is classified
 pub admitted-classified : (s k : ℕ) (found : List Finding) → list_any (admits s k) found ≡ true → is_classified found k ≡ true
@@ -135,17 +125,6 @@ opened-local side (p ∷ h) i k e = by (opened_by k p.turn p.answer.reply) refl 
 
 -- ---- handed out
 
--- the stream was classified, or isn't the peer's
-abbrev pub Settled : Side → History → ℕ → Type 0
-Settled side h k = (is_classified (findings side h) k || not (is_peers side k)) ≡ true
-
-pub settled-stays : (side : Side) (p : Pair) (h : History) (k : ℕ) → Settled side h k → Settled side (p ∷ h) k
-settled-stays side p h k e = by (is_classified (findings side h) k) refl e
-  where
-    by : (b : Bool) → is_classified (findings side h) k ≡ b → (b || not (is_peers side k)) ≡ true → Settled side (p ∷ h) k
-    by true i q = ap (λ (b : Bool). b || not (is_peers side k)) (classified-stays side p h k i)
-    by false i q = ap (λ (b : Bool). is_classified (findings side (p ∷ h)) k || b) q ∙ or-true (is_classified (findings side (p ∷ h)) k)
-
 -- what a poll of an opening gives is the stream that it names, which is being opened
 abbrev pub GivesOpened : Side → History → ℕ → ℕ → Answer → Type 0
 GivesOpened side h k id a = hands_out k a.reply ≡ true → ((id == k) ≡ true) × (is_some (being_opened h id) ≡ true)
@@ -174,31 +153,3 @@ being-begun h k e = by (list_any (λ (p : Pair). opening_ends k p.turn p.answer.
     by : (b : Bool) → is_some (if b then None else first_of (λ (p : Pair). opened_by k p.turn p.answer.reply) h) ≡ true → is_some (first_of (λ (p : Pair). opened_by k p.turn p.answer.reply) h) ≡ true
     by true q = absurd (cc q)
     by false q = q
-
--- a reply that hands out a stream is one of four calls'
-hands : (side : Side) (h : History) → IsHistory side h → (k : ℕ) (call : Call) (r : Reply) → (next side h (turns.Call call)).reply ≡ r → fits call r ≡ true → hands_out k r ≡ true → Settled side h k
-hands side h i k (calls.AcceptUni name) (replies.Uni id) q f e =
-    let a = uni-accepted side h name id q in ap (λ (b : Bool). b || not (is_peers side k)) (ap (is_classified (findings side h)) (sym (eqb-true id k e)) ∙ admitted-classified a.0 id (findings side h) a.2.header)
-hands side h i k (calls.AcceptBi name) (replies.Bi id) q f e =
-    let a = bi-accepted side h name id q in ap (λ (b : Bool). b || not (is_peers side k)) (ap (is_classified (findings side h)) (sym (eqb-true id k e)) ∙ admitted-classified a.0 id (findings side h) a.2.header)
-hands side h i k (calls.PollOpening id) r q f e =
-    let g = (by-session (GivesOpened side h k id) (named h None) (λ (s : ℕ). opening_for side h id (being_opened h id)) (λ x. absurd (cc x)) (λ s x. record { first = gives-opened side h k id (being_opened h id) refl })).first (ap (hands_out k) q ∙ e) in
-    let n = opened-local side h i k (ap (λ (j : ℕ). is_some (first_of (λ (p : Pair). opened_by j p.turn p.answer.reply) h)) (sym (eqb-true id k g.0)) ∙ being-begun h id g.1) in
-    rw n (or-true (is_classified (findings side h) k))
-hands side h i k call (replies.Uni id) q f e = absurd (cc f)
-hands side h i k call (replies.Bi id) q f e = absurd (cc f)
-hands side h i k call (replies.SendReady id) q f e = absurd (cc f)
-hands side h i k call (replies.BiReady id) q f e = absurd (cc f)
-hands side h i k call r q f e = absurd (cc e)
-
-pub handed-out : (side : Side) (h : History) → IsHistory side h → (k : ℕ) → is_handed_out h k ≡ true → Settled side h k
-handed-out side [] i k e = absurd (cc e)
-handed-out side (p ∷ h) i k e = by (hands_out k p.answer.reply) refl e (handed-out side h i.2 k)
-  where
-    here : (turn : Turn) → hands_out k (next side h turn).reply ≡ true → Settled side h k
-    here (turns.Call call) q = hands side h i.2 k call (next side h (turns.Call call)).reply refl (fits-own side h call) q
-    here turn q = absurd (cc q)
-
-    by : (b : Bool) → hands_out k p.answer.reply ≡ b → (b || is_handed_out h k) ≡ true → (is_handed_out h k ≡ true → Settled side h k) → Settled side (p ∷ h) k
-    by true q r again = settled-stays side p h k (here p.turn (ap (λ (a : Answer). hands_out k a.reply) (sym i.1) ∙ q))
-    by false q r again = settled-stays side p h k (again r)

@@ -10,10 +10,11 @@ use Rattle.wt_meaning.specs.Handshakes.{is_nothing}
 use Rattle.wt_meaning.specs.History.{History, Pair, contents, events, hands_out, is_handed_out, is_open, with_bytes}
 use Rattle.wt_meaning.specs.Meaning.{next}
 use Rattle.wt_meaning.specs.Moments.{findings}
-use Rattle.wt_promise.proofs.Accepted.{and-left, or-right}
+use Rattle.wt_promise.proofs.Accepted.{and-left, or-right, or-true}
 use Rattle.wt_promise.proofs.Grows.{is_peers}
-use Rattle.wt_promise.proofs.HandedOut.{handed-out, only-peers, verdict-stays}
+use Rattle.wt_promise.proofs.HandedOut.{admitted-classified, only-peers, opened-local, verdict-stays}
 use Rattle.wt_promise.proofs.Tables.{by-row, by-value, no-row}
+use Rattle.wt_promise.proofs.Verdicts.{ByAccept, ByOpening, HandedBy, handed-by}
 use Rattle.wt_promise.specs.Promise.{IsHistory, ReadsInOrder}
 use Rattle.wt_proto.specs.declared.verdict.Verdict.{Verdict}
 use Rattle.wt_seam_spec.specs.Reports.{end_of}
@@ -146,6 +147,11 @@ contents-add p h k = by (is_open h) p.turn
     by true (turns.Bytes id piece) = here (id == k) piece
     by true turn = ([], sym (append-nil (contents h k)))
 
+-- a stream that was handed out was classified, or isn't the peer's
+settled : (side : Side) (h : History) → IsHistory side h → (k : ℕ) → HandedBy side h k → (is_classified (findings side h) k || not (is_peers side k)) ≡ true
+settled side h i k (ByAccept s e) = ap (λ (b : Bool). b || not (is_peers side k)) (admitted-classified s k (findings side h) e)
+settled side h i k (ByOpening e) = rw (opened-local side h i k e) (or-true (is_classified (findings side h) k))
+
 -- a stream that was handed out keeps its verdict, or has none
 verdict-same : (side : Side) (p : Pair) (h : History) (k : ℕ) → (is_classified (findings side h) k || not (is_peers side k)) ≡ true → verdict_of (findings side (p ∷ h)) k ≡ verdict_of (findings side h) k
 verdict-same side p h k e = by (verdict_of (findings side h) k) refl e
@@ -179,5 +185,5 @@ reads-in-order side (p ∷ h) i k = by (is_handed_out h k) refl (reads-in-order 
     by : (b : Bool) → is_handed_out h k ≡ b → take (length (was_read h k)) (drop (body_start (verdict_of (findings side h) k)) (contents h k)) ≡ was_read h k
         → take (length (was_read (p ∷ h) k)) (drop (body_start (verdict_of (findings side (p ∷ h)) k)) (contents (p ∷ h) k)) ≡ was_read (p ∷ h) k
     by false e again = rw (unread-before side h i.2 k e, r.of_given e) refl
-    by true e again = rw (verdict-same side p h k (handed-out side h i.2 k e), r.piece, c.1)
+    by true e again = rw (verdict-same side p h k (settled side h i.2 k (handed-by side h i.2 k e)), r.piece, c.1)
         (one-piece-more (body_start (verdict_of (findings side h) k)) r.count (was_read h k) (contents h k) c.0 again)

@@ -12,16 +12,16 @@ use Rattle.wt_meaning.specs.Lawful.{has_request, is_first, is_lawful, is_respons
 use Rattle.wt_meaning.specs.Meaning.{next, own_answer, with_pair}
 use Rattle.wt_meaning.specs.Moments.{findings}
 use Rattle.wt_meaning.specs.Rows.{first_row}
-use Rattle.wt_meaning.specs.Sends.{admits, moment_actions}
+use Rattle.wt_meaning.specs.Sends.{moment_actions}
 use Rattle.wt_meaning.specs.Windows.{is_established, is_gone, last_request, lives, named, session_in}
 use Rattle.wt_promise.proofs.Accepted.{and-left, and-right, not-true, or-true}
+use Rattle.wt_promise.proofs.Asks.{Asks, Begins, Else, ForRequest, GoesOn, Responds, asks}
 use Rattle.wt_promise.proofs.Actions.{AnyPiece, any-next}
 use Rattle.wt_promise.proofs.Begun.{BegunFor, PolledStream, polled-stream}
 use Rattle.wt_promise.proofs.Behind.{neither-acts}
 use Rattle.wt_promise.proofs.ControlKept.{begun-not-control, begun-opening, control-kept, control-not-opened, not-peers, polled-k}
 use Rattle.wt_promise.proofs.Few.{APoll, AnAccept, SessionCall, gone-later, session-call}
 use Rattle.wt_promise.proofs.Flow.{clash}
-use Rattle.wt_promise.proofs.Flows.{bi-admits, uni-admits}
 use Rattle.wt_promise.proofs.Fresh.{client-begun}
 use Rattle.wt_promise.proofs.Grows.{is_peers, news}
 use Rattle.wt_promise.proofs.HandedOut.{GivesOpened, gives-opened, opened-local}
@@ -36,7 +36,7 @@ use Rattle.wt_promise.proofs.Shakes.{head_stream}
 use Rattle.wt_promise.proofs.Sessions.{Accepted, Connected, PollGives, poll-gives}
 use Rattle.wt_promise.proofs.Stays.{any-newest}
 use Rattle.wt_promise.proofs.Tables.{by-session, fits, fits-own}
-use Rattle.wt_promise.proofs.Verdicts.{admitted-later, admitted-peers}
+use Rattle.wt_promise.proofs.Verdicts.{accept-admits, admitted-later, admitted-peers}
 use Rattle.wt_promise.proofs.WasReset.{Admitted, ByHand, Closed, Later, Opened, WasReset, WithSession, opened-first, was-reset}
 use Rattle.wt_promise.specs.Promise.{IsHistory, acts_on, sends_on}
 use Rattle.wt_seam_spec.specs.Streams.{local_uni}
@@ -97,17 +97,19 @@ unreset-now side h i k b f (WithSession s (Opened name o n) g) = begun-not-opene
 
 -- the session of a stream that is polled isn't established
 polled-new : (side : Side) (h : History) (turn : Turn) (c : Call) (k : ℕ) → IsHistory side h → is_lawful side h turn ≡ true → polls turn ≡ true → going h turn ≡ Some c → head_stream h c ≡ k → is_established h k ≡ false
-polled-new Client h (turns.Call calls.Handshake) c k i l p g e = client-waits h i l k
-polled-new Client h (turns.Call (calls.Connect options lookup outcome)) c k i l p g e = first h l
+polled-new Client h turn c k i l p g e = by (asks Client h turn l)
   where
     first : (x : History) → is_first x ≡ true → is_established x k ≡ false
     first [] q = refl
     first (y ∷ x) q = absurd (cc q)
-polled-new Client h (turns.Call (calls.Accept headers)) c k i l p g e = absurd (let m = and-right (not (is_first h)) false l in cc m)
-polled-new Client h (turns.Call calls.Forbidden) c k i l p g e = absurd (let m = and-right (not (is_first h)) false l in cc m)
-polled-new Client h (turns.Call calls.NotFound) c k i l p g e = absurd (let m = and-right (not (is_first h)) false l in cc m)
-polled-new Client h (turns.Call calls.TooManyRequests) c k i l p g e = absurd (let m = and-right (not (is_first h)) false l in cc m)
-polled-new Server h turn c k i l p g e = by turn l p
+
+    by : Asks Client h turn (next Client h turn).reply → is_established h k ≡ false
+    by (Begins d x t q f n m) = first h f
+    by (ForRequest x t a n) = absurd (cc x)
+    by (Responds d x t r q n) = absurd (cc x)
+    by (GoesOn t w n) = client-waits h i w k
+    by (Else a b m x n) = absurd (clash (polls turn) p a)
+polled-new Server h turn c k i l p g e = by (asks Server h turn l)
   where
     polled : PolledStream Server h c
     polled = polled-stream Server h turn c i l p g
@@ -119,18 +121,12 @@ polled-new Server h turn c k i l p g e = by turn l p
     new : (has_request h || is_waiting h) ≡ true → is_established h k ≡ false
     new w = let a = (phase h i).asked w in ap (is_established h) (sym (last c polled.0 e) ∙ ap (λ (o : Option ℕ). unwrap_or o 0) a.1) ∙ a.2
 
-    of-request : has_request h ≡ true → is_established h k ≡ false
-    of-request q = new (ap (λ (b : Bool). b || is_waiting h) q)
-
-    by : (t : Turn) → is_lawful Server h t ≡ true → polls t ≡ true → is_established h k ≡ false
-    by (turns.Call calls.Handshake) m q = new (ap (λ (b : Bool). has_request h || b) m ∙ or-true (has_request h))
-    by (turns.Call (calls.Connect options lookup outcome)) m q = absurd (cc m)
-    by (turns.Call (calls.Accept headers)) m q = of-request (and-right (not (is_first h)) (has_request h) m)
-    by (turns.Call calls.Forbidden) m q = of-request (and-right (not (is_first h)) (has_request h) m)
-    by (turns.Call calls.NotFound) m q = of-request (and-right (not (is_first h)) (has_request h) m)
-    by (turns.Call calls.TooManyRequests) m q = of-request (and-right (not (is_first h)) (has_request h) m)
-    by t m q = absurd (cc q)
-polled-new side h turn c k i l p g e = absurd (cc p)
+    by : Asks Server h turn (next Server h turn).reply → is_established h k ≡ false
+    by (Begins d x t q f n m) = absurd (cc x)
+    by (ForRequest x t a n) = absurd (clash (polls turn) p (ap polls t))
+    by (Responds d x t r q n) = new (ap (λ (b : Bool). b || is_waiting h) q)
+    by (GoesOn t w n) = new (ap (λ (b : Bool). has_request h || b) w ∙ or-true (has_request h))
+    by (Else a b m x n) = absurd (clash (polls turn) p a)
 
 -- ---- a stream that is being opened isn't handed out
 
@@ -141,14 +137,8 @@ opened-this side h k id r q e =
 
 -- a reply that hands out a stream of this end ends its opening
 ends-by : (side : Side) (h : History) (k : ℕ) (call : Call) (r : Reply) → (next side h (turns.Call call)).reply ≡ r → fits call r ≡ true → is_peers side k ≡ false → hands_out k r ≡ true → opening_ends k (turns.Call call) r ≡ true
-ends-by side h k (calls.AcceptUni name) r q f n e = absurd (accept-peers (uni-admits side h k name r q f e))
-  where
-    accept-peers : (s : ℕ) × (list_any (admits s k) (findings side h) ≡ true) → ⊥
-    accept-peers a = clash (is_peers side k) (admitted-peers side h a.0 k a.1) n
-ends-by side h k (calls.AcceptBi name) r q f n e = absurd (accept-peers (bi-admits side h k name r q f e))
-  where
-    accept-peers : (s : ℕ) × (list_any (admits s k) (findings side h) ≡ true) → ⊥
-    accept-peers a = clash (is_peers side k) (admitted-peers side h a.0 k a.1) n
+ends-by side h k (calls.AcceptUni name) r q f n e = absurd (let a = accept-admits side h k (calls.AcceptUni name) r q f refl e in clash (is_peers side k) (admitted-peers side h a.0 k a.1) n)
+ends-by side h k (calls.AcceptBi name) r q f n e = absurd (let a = accept-admits side h k (calls.AcceptBi name) r q f refl e in clash (is_peers side k) (admitted-peers side h a.0 k a.1) n)
 ends-by side h k (calls.PollOpening id) (replies.SendReady j) q f n e = opened-this side h k id (replies.SendReady j) q e
 ends-by side h k (calls.PollOpening id) (replies.BiReady j) q f n e = opened-this side h k id (replies.BiReady j) q e
 ends-by side h k call (replies.Uni id) q f n e = absurd (cc f)

@@ -17,6 +17,7 @@ use Rattle.wt_promise.proofs.Accepted.{bi-accepted, or-first, uni-accepted}
 use Rattle.wt_promise.proofs.Few.{given-before, given-queued, has}
 use Rattle.wt_promise.proofs.Grows.{AClassified, AClosed, ADatagram, ADequeued, AFault, ASettings, Adds, Nothing, findings-add, findings-keep, first_of-append, first_of-stays, is_peers, news, of-stream-fault}
 use Rattle.wt_promise.proofs.HandedOut.{GivesOpened, admitted-classified, being-begun, gives-opened, only-peers, opened-local}
+use Rattle.wt_promise.proofs.Shapes.{is_accept}
 use Rattle.wt_promise.proofs.Tables.{by-session, fits, fits-own}
 use Rattle.wt_promise.specs.Promise.{IsHistory}
 use Rattle.wt_proto.specs.declared.verdict.Verdict.{Verdict}
@@ -168,12 +169,22 @@ handed-stays side p h k (ByOpening e) = ByOpening (by (opened_by k p.turn p.answ
     by None = e
     by (Some name) = refl
 
+-- what an accept gives was admitted
+pub accept-admits : (side : Side) (h : History) (k : ℕ) (call : Call) (r : Reply) → (next side h (turns.Call call)).reply ≡ r → fits call r ≡ true → is_accept (turns.Call call) ≡ true → hands_out k r ≡ true
+    → (s : ℕ) × (list_any (admits s k) (findings side h) ≡ true)
+accept-admits side h k (calls.AcceptUni name) (replies.Uni id) q f w e = let a = uni-accepted side h name id q in (a.0, ap (λ (j : ℕ). list_any (admits a.0 j) (findings side h)) (sym (eqb-true id k e)) ∙ a.2.header)
+accept-admits side h k (calls.AcceptBi name) (replies.Bi id) q f w e = let a = bi-accepted side h name id q in (a.0, ap (λ (j : ℕ). list_any (admits a.0 j) (findings side h)) (sym (eqb-true id k e)) ∙ a.2.header)
+accept-admits side h k (calls.PollOpening id) r q f w e = absurd (cc w)
+accept-admits side h k call (replies.Uni id) q f w e = absurd (cc f)
+accept-admits side h k call (replies.Bi id) q f w e = absurd (cc f)
+accept-admits side h k call (replies.SendReady id) q f w e = absurd (cc f)
+accept-admits side h k call (replies.BiReady id) q f w e = absurd (cc f)
+accept-admits side h k call r q f w e = absurd (cc e)
+
 -- the call of a reply that hands the stream out
 pub hands-by : (side : Side) (h : History) (k : ℕ) (call : Call) (r : Reply) → (next side h (turns.Call call)).reply ≡ r → fits call r ≡ true → hands_out k r ≡ true → HandedBy side h k
-hands-by side h k (calls.AcceptUni name) (replies.Uni id) q f e =
-    let a = uni-accepted side h name id q in ByAccept a.0 (ap (λ (j : ℕ). list_any (admits a.0 j) (findings side h)) (sym (eqb-true id k e)) ∙ a.2.header)
-hands-by side h k (calls.AcceptBi name) (replies.Bi id) q f e =
-    let a = bi-accepted side h name id q in ByAccept a.0 (ap (λ (j : ℕ). list_any (admits a.0 j) (findings side h)) (sym (eqb-true id k e)) ∙ a.2.header)
+hands-by side h k (calls.AcceptUni name) r q f e = let a = accept-admits side h k (calls.AcceptUni name) r q f refl e in ByAccept a.0 a.1
+hands-by side h k (calls.AcceptBi name) r q f e = let a = accept-admits side h k (calls.AcceptBi name) r q f refl e in ByAccept a.0 a.1
 hands-by side h k (calls.PollOpening id) r q f e =
     let g = (by-session (GivesOpened side h k id) (named h None) (λ (s : ℕ). opening_for side h id (being_opened h id)) (λ x. absurd (cc x)) (λ s x. record { first = gives-opened side h k id (being_opened h id) refl })).first (ap (hands_out k) q ∙ e) in
     ByOpening (ap (λ (j : ℕ). is_some (first_of (λ (p : Pair). opened_by j p.turn p.answer.reply) h)) (sym (eqb-true id k g.0)) ∙ being-begun h id g.1)
