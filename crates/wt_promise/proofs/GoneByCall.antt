@@ -1,31 +1,29 @@
 -- A session that a call makes gone: what goes out for its streams is in the call's own actions.
-use Rattle.std.specs.Prelude.{[], ◌&&◌, ◌==◌, ◌||◌, ◌∷◌, ◌≡◌, Bool, List, None, Option, Some, codes, false, if◌then◌else◌, is_some, nat_lt, not, true, unwrap_or, ℕ}
+use Rattle.std.specs.Prelude.{[], ◌&&◌, ◌==◌, ◌||◌, ◌∷◌, ◌≡◌, Bool, List, None, Option, Some, false, if◌then◌else◌, nat_lt, not, true, unwrap_or, ℕ}
 use Rattle.std.specs.List.{list_any}
 use Rattle.std.proofs.Common.{◌∙◌, ap, refl, subst, sym}
 use Rattle.std.proofs.Math.Bool.{or-false}
 use Rattle.std.proofs.lemmas.Bool.{eqb-true}
 use Rattle.std.proofs.lemmas.List.Folds.{list_any-append}
-use Rattle.url.specs.Parser.{parse_url}
 use Rattle.wt_meaning.specs.Calls.{rows_of}
 use Rattle.wt_meaning.specs.Findings.{Classified, Finding}
-use Rattle.wt_meaning.specs.Handshakes.{connect_on, head_left, is_refused, lacks_credit, last_begun, poll_rows, rejection, response_to}
-use Rattle.wt_meaning.specs.History.{History, Pair, events, is_open, was_finished}
+use Rattle.wt_meaning.specs.Handshakes.{last_begun, poll_rows}
+use Rattle.wt_meaning.specs.History.{History, Pair, is_open}
 use Rattle.wt_meaning.specs.Lawful.{is_response}
 use Rattle.wt_meaning.specs.Meaning.{own_answer}
 use Rattle.wt_meaning.specs.Moments.{findings, keeps}
 use Rattle.wt_meaning.specs.Rows.{first_row}
 use Rattle.wt_meaning.specs.Sends.{admits, session_finish, session_gone_actions}
-use Rattle.wt_meaning.specs.Targets.{target_of}
 use Rattle.wt_meaning.specs.Windows.{gone_in, is_gone, is_gone_by_call, is_number, last_request, makes_gone, named, streams_in_window}
-use Rattle.wt_message.specs.FixedBytes.{response_bytes}
 use Rattle.wt_promise.proofs.Accepted.{and-left, not-true}
 use Rattle.wt_promise.proofs.Datagrams.{numbered}
 use Rattle.wt_promise.proofs.Grows.{AClassified, AClosed, ADatagram, ADequeued, AFault, ASettings, Adds, Nothing, findings-keep, of-stream-fault}
 use Rattle.wt_promise.proofs.Owed.{has-left, has-right}
 use Rattle.wt_promise.proofs.ResultKept.{APolled, AResponse, Rejecting, is-rejection, rejecting}
-use Rattle.wt_promise.proofs.Tables.{accepts-pass, by-row, connect-passes, fits, fits-own, is_rejected, no-row}
+use Rattle.wt_promise.proofs.Shakes.{Finishes, Goes, GoesShuts, Rejects, Shake, Shut, Shuts, Still, gives_on, head_stream, shakes}
+use Rattle.wt_promise.proofs.Tables.{fits, fits-own, is_rejected}
 use Rattle.wt_promise.proofs.Waiting.{named-established}
-use Rattle.wt_seam_spec.specs.Reports.{is_acknowledged, stop_of}
+use Rattle.wt_promise.specs.Promise.{head_of}
 use Rattle.wt_turn.specs.declared.action.Action.{Action}
 use Rattle.wt_turn.specs.declared.answer.Answer.{Answer}
 use Rattle.wt_turn.specs.declared.call.Call.{Call}
@@ -40,48 +38,35 @@ use Rattle.wt_turn.specs.declared.turn.Turn.TheVariants as turns
 abbrev Tells : Side → History → ℕ → (Action → Bool) → Answer → Type 0
 Tells side h s test a = is_rejected a.reply ≡ true → last_request h ≡ Some s → list_any test (session_gone_actions side h (findings side h) s) ≡ true → list_any test a.actions ≡ true
 
-rejection-tells : (test : Action → Bool) (side : Side) (h : History) (s : ℕ) (digits : List ℕ) → is_open h ≡ true → Tells side h s test (first_row (rejection side h digits))
-rejection-tells test side h s digits o =
-    (by-row P (not (is_open h)) replies.Rejected [] _ (λ c. absurd (let r = rw o at c in cc r))
-    (λ c. by-row P (is_refused h r left) replies.Rejected _ _ (λ d q l t. has-left test (session_gone_actions side h (findings side h) r) _ (mine l t))
-    (λ d. by-row P (lacks_credit h r left) replies.Pending _ _ (λ e q. absurd (cc q))
-    (λ e. by-row P (not (was_finished h r)) replies.Pending _ _ (λ f q. absurd (cc q))
-    (λ f. by-row P (is_some (stop_of (events h) r) || is_acknowledged (events h) r) replies.Rejected _ [] (λ g q l t. has-left test (session_gone_actions side h (findings side h) r) _ (mine l t)) (λ g. no-row P (λ q. absurd (cc q)))))))).first
+shake-tells : (test : Action → Bool) (side : Side) (h : History) (s : ℕ) (c : Call) (frame : List ℕ) → is_open h ≡ true → (a : Answer) → Shake side h c frame a → Tells side h s test a
+shake-tells test side h s c frame o a x = by a x
   where
-    P : Answer → Type 0
-    P = Tells side h s test
+    spared : (r : Reply) → gives_on r ≡ true → is_rejected r ≡ true → ⊥
+    spared replies.Rejected f q = cc f
+    spared r f q = cc q
 
-    r : ℕ
-    r = unwrap_or (last_request h) 0
+    mine : (d : Call) → is_response d ≡ true → last_request h ≡ Some s → list_any test (session_gone_actions side h (findings side h) s) ≡ true → list_any test (session_gone_actions side h (findings side h) (head_stream h d)) ≡ true
+    mine (calls.Connect options lookup outcome) i l t = absurd (cc i)
+    mine d i l t = ap (λ (y : Option ℕ). list_any test (session_gone_actions side h (findings side h) (unwrap_or y 0))) l ∙ t
 
-    left : List ℕ
-    left = head_left h r (response_bytes digits)
-
-    mine : last_request h ≡ Some s → list_any test (session_gone_actions side h (findings side h) s) ≡ true → list_any test (session_gone_actions side h (findings side h) r) ≡ true
-    mine l t = ap (λ (x : Option ℕ). list_any test (session_gone_actions side h (findings side h) (unwrap_or x 0))) l ∙ t
-
--- a reply that isn't Rejected tells nothing
-not-rejected : (test : Action → Bool) (side : Side) (h : History) (s : ℕ) (a : Answer) → not (is_rejected a.reply) ≡ true → Tells side h s test a
-not-rejected test side h s a n q = absurd (let r = rw q at n in cc r)
-
-abbrev spared : Reply → Bool
-spared r = not (is_rejected r)
+    by : (b : Answer) → Shake side h c frame b → Tells side h s test b
+    by b (Shut i n) = absurd (let q : true ≡ false = sym o ∙ n in cc q)
+    by b (Still r f) = λ q. absurd (spared r f q)
+    by b (Shuts r code f m) = λ q. absurd (spared r f q)
+    by b (Goes r f) = λ q. absurd (spared r f q)
+    by b (GoesShuts r code f m) = λ q. absurd (spared r f q)
+    by b (Finishes i m) = λ q. absurd (cc q)
+    by b (Rejects i t code m) = λ q l e. has-left test (session_gone_actions side h (findings side h) (head_stream h c)) _ (mine c i l e)
 
 polls-tell : (test : Action → Bool) (side : Side) (h : History) (s : ℕ) (begun : Option Call) → is_open h ≡ true → Tells side h s test (first_row (poll_rows side h begun))
 polls-tell test side h s None o = λ q. absurd (cc q)
-polls-tell test side h s (Some (calls.Connect options lookup outcome)) o =
-    not-rejected test side h s (first_row (connect_on side h (target_of (parse_url None options.0) options.1 lookup outcome))) (connect-passes spared refl (λ e. refl) (λ n. refl) side h (target_of (parse_url None options.0) options.1 lookup outcome)).first
-polls-tell test side h s (Some (calls.Accept headers)) o = not-rejected test side h s (first_row (response_to side h (calls.Accept headers))) (accepts-pass spared refl (λ e. refl) (λ n. refl) side h headers).first
-polls-tell test side h s (Some calls.Forbidden) o = rejection-tells test side h s (codes "403") o
-polls-tell test side h s (Some calls.NotFound) o = rejection-tells test side h s (codes "404") o
-polls-tell test side h s (Some calls.TooManyRequests) o = rejection-tells test side h s (codes "429") o
-polls-tell test side h s (Some c) o = λ q. absurd (cc q)
+polls-tell test side h s (Some c) o = shake-tells test side h s c (head_of (Some c)) o _ (shakes side h c).first
 
 responses-tell : (test : Action → Bool) (side : Side) (h : History) (s : ℕ) (c : Call) → is_open h ≡ true → is_response c ≡ true → Tells side h s test (first_row (rows_of side h c))
 responses-tell test side h s (calls.Accept headers) o r = polls-tell test side h s (Some (calls.Accept headers)) o
-responses-tell test side h s calls.Forbidden o r = rejection-tells test side h s (codes "403") o
-responses-tell test side h s calls.NotFound o r = rejection-tells test side h s (codes "404") o
-responses-tell test side h s calls.TooManyRequests o r = rejection-tells test side h s (codes "429") o
+responses-tell test side h s calls.Forbidden o r = polls-tell test side h s (Some calls.Forbidden) o
+responses-tell test side h s calls.NotFound o r = polls-tell test side h s (Some calls.NotFound) o
+responses-tell test side h s calls.TooManyRequests o r = polls-tell test side h s (Some calls.TooManyRequests) o
 responses-tell test side h s c o r = absurd (cc r)
 
 rejected-by : (test : Action → Bool) (side : Side) (h : History) (s : ℕ) (call : Call) → is_open h ≡ true → Tells side h s test (first_row (rows_of side h call))

@@ -5,30 +5,29 @@ use Rattle.std.specs.Option.{option_or}
 use Rattle.std.proofs.Common.{◌∙◌, ap, refl, sym}
 use Rattle.std.proofs.Math.Nat.{mul-add-mod_self_left}
 use Rattle.std.proofs.lemmas.Bool.{eqb-true}
-use Rattle.wt_meaning.specs.Calls.{being_opened, in_session, open_stream, opened_by, opening_ends, opening_for, opening_rows, stream_header}
+use Rattle.wt_meaning.specs.Calls.{being_opened, opened_by, opening_ends, opening_for, opening_rows, stream_header}
 use Rattle.wt_meaning.specs.Findings.{Classified, Finding, first_of, is_classified, verdict_in, verdict_of}
 use Rattle.wt_meaning.specs.Handshakes.{head_left, is_refused, lacks_credit, send}
-use Rattle.wt_meaning.specs.History.{History, Pair, hands_out, may_open, next_id, stream_count}
+use Rattle.wt_meaning.specs.History.{History, Pair, hands_out, stream_count}
 use Rattle.wt_meaning.specs.Meaning.{next}
 use Rattle.wt_meaning.specs.Moments.{findings, stream_fault}
 use Rattle.wt_meaning.specs.Rows.{first_row}
 use Rattle.wt_meaning.specs.Sends.{admits}
-use Rattle.wt_meaning.specs.Windows.{is_gone, named}
+use Rattle.wt_meaning.specs.Windows.{named}
+use Rattle.wt_promise.proofs.Fresh.{Bi, OpenTurn, Uni, open-turn}
 use Rattle.wt_promise.proofs.Grows.{AClassified, ADatagram, AClosed, ADequeued, AFault, ASettings, Adds, Nothing, findings-add, findings-keep, first_of-append, first_of-stays, is_peers, news, of-stream-fault}
+use Rattle.wt_promise.proofs.Opened.{opens-for}
 use Rattle.wt_promise.proofs.Tables.{by-row, by-session, no-row}
 use Rattle.wt_promise.specs.Promise.{IsHistory}
 use Rattle.wt_proto.specs.declared.verdict.Verdict.{Verdict}
 use Rattle.wt_seam_spec.specs.Streams.{local_bi, local_uni}
 use Rattle.wt_turn.specs.declared.answer.Answer.{Answer}
-use Rattle.wt_turn.specs.declared.connection_error.ConnectionError.{ConnectionError}
 use Rattle.wt_turn.specs.declared.turn.Turn.{Turn}
 use Rattle.wt_wire.specs.Ids.{is_bidirectional}
 use Rattle.wt_wire.specs.declared.side.Side.{Side}
 use Rattle.wt_wire.specs.declared.side.Side.TheVariants.{Client, Server}
 use Rattle.wt_proto.specs.declared.verdict.Verdict.TheVariants as verdicts
-use Rattle.wt_turn.specs.declared.call.Call.TheVariants as calls
 use Rattle.wt_turn.specs.declared.reply.Reply.TheVariants as replies
-use Rattle.wt_turn.specs.declared.turn.Turn.TheVariants as turns
 
 -- ---- only streams of the peer are classified
 
@@ -89,39 +88,20 @@ apart : (side : Side) (n : ℕ) → (is_peers side (4 * n + local_uni side) ≡ 
 apart Client n = (rw (mul-add-mod_self_left 4 n 2) refl, rw (mul-add-mod_self_left 4 n 0) refl)
 apart Server n = (rw (mul-add-mod_self_left 4 n 3) refl, rw (mul-add-mod_self_left 4 n 1) refl)
 
--- the stream that the answer begins to open isn't the peer's
-abbrev OpensLocal : Side → ℕ → Turn → Answer → Type 0
-OpensLocal side k turn a = is_some (opened_by k turn a.reply) ≡ true → is_peers side k ≡ false
-
-opens-local : (side : Side) (h : History) (k kind : ℕ) (turn : Turn) → ((id : ℕ) → is_some (opened_by k turn (replies.Opening id)) ≡ true → (id == k) ≡ true) → is_peers side (next_id side h kind) ≡ false
-    → (opened_by k turn replies.NoSession ≡ None) → ((e : ConnectionError) → opened_by k turn (replies.Failed e) ≡ None) → opened_by k turn replies.Pending ≡ None
-    → (name : Option ℕ) → OpensLocal side k turn (first_row (in_session name (open_stream side h kind)))
-opens-local side h k kind turn same p n f w name =
-    (by-session (OpensLocal side k turn) name (open_stream side h kind) (λ e. absurd (let r = rw n at e in cc r))
-    (λ s q. by-row (OpensLocal side k turn) (is_gone h (findings side h) s) _ [] _ (λ i e. absurd (let r = rw f at e in cc r))
-    (λ i. by-row (OpensLocal side k turn) _ _ [] _ (λ j e. absurd (let r = rw f at e in cc r))
-    (λ j. by-row (OpensLocal side k turn) (may_open side h kind) (replies.Opening (next_id side h kind)) _ []
-    (λ m e. ap (is_peers side) (sym (eqb-true (next_id side h kind) k (same (next_id side h kind) e))) ∙ p) (λ m. no-row (OpensLocal side k turn) (λ e. absurd (let r = rw w at e in cc r))))))).first
-
 pub opened-local : (side : Side) (h : History) → IsHistory side h → (k : ℕ) → is_some (first_of (λ (p : Pair). opened_by k p.turn p.answer.reply) h) ≡ true → is_peers side k ≡ false
 opened-local side [] i k e = absurd (cc e)
 opened-local side (p ∷ h) i k e = by (opened_by k p.turn p.answer.reply) refl e (opened-local side h i.2 k)
   where
-    if-some : (b : Bool) (name : Option ℕ) → is_some (if b then Some name else None) ≡ true → b ≡ true
-    if-some true name q = refl
-    if-some false name q = absurd (cc q)
-
-    here : (turn : Turn) → OpensLocal side k turn (next side h turn)
-    here (turns.Call (calls.OpenUni name)) =
-        opens-local side h k (local_uni side) (turns.Call (calls.OpenUni name)) (λ id q. if-some (id == k) name q) (apart side (stream_count side h (local_uni side))).0 refl (λ x. refl) refl (named h name)
-    here (turns.Call (calls.OpenBi name)) =
-        opens-local side h k (local_bi side) (turns.Call (calls.OpenBi name)) (λ id q. if-some (id == k) name q) (apart side (stream_count side h (local_bi side))).1 refl (λ x. refl) refl (named h name)
-    here turn = λ q. absurd (cc q)
+    here : (name : Option ℕ) (turn : Turn) → OpenTurn k name turn (next side h turn).reply → is_peers side k ≡ false
+    here name turn (Uni id e t r) =
+        let o = opens-for side h name (local_uni side) id (ap (λ (x : Turn). (next side h x).reply) (sym t) ∙ r) in ap (is_peers side) (sym (o.is_next ∙ e)) ∙ (apart side (stream_count side h (local_uni side))).0
+    here name turn (Bi id e t r) =
+        let o = opens-for side h name (local_bi side) id (ap (λ (x : Turn). (next side h x).reply) (sym t) ∙ r) in ap (is_peers side) (sym (o.is_next ∙ e)) ∙ (apart side (stream_count side h (local_bi side))).1
 
     by : (o : Option (Option ℕ)) → opened_by k p.turn p.answer.reply ≡ o → is_some (option_or o (first_of (λ (q : Pair). opened_by k q.turn q.answer.reply) h)) ≡ true
         → (is_some (first_of (λ (q : Pair). opened_by k q.turn q.answer.reply) h) ≡ true → is_peers side k ≡ false) → is_peers side k ≡ false
     by None q r again = again r
-    by (Some name) q r again = here p.turn (ap (λ (a : Answer). is_some (opened_by k p.turn a.reply)) (sym i.1) ∙ ap is_some q)
+    by (Some name) q r again = here name p.turn (open-turn k name p.turn (next side h p.turn).reply (ap (λ (a : Answer). opened_by k p.turn a.reply) (sym i.1) ∙ q))
 
 -- ---- handed out
 

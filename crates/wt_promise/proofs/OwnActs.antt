@@ -21,7 +21,7 @@ use Rattle.wt_promise.proofs.Behind.{Quiet, behind-append, behind-none, gone-qui
 use Rattle.wt_promise.proofs.Flow.{clash}
 use Rattle.wt_promise.proofs.Shapes.{going}
 use Rattle.wt_promise.proofs.Sessions.{is_connect}
-use Rattle.wt_promise.proofs.Shakes.{Finishes, Goes, GoesShuts, Rejects, Shake, Shuts, Still, head_stream, rest}
+use Rattle.wt_promise.proofs.Shakes.{Finishes, Goes, GoesShuts, Rejects, Shake, Shut, Shuts, Still, head_stream, rest}
 use Rattle.wt_promise.specs.Promise.{IsHistory, acts_on, head_of, sends_on}
 use Rattle.wt_seam_spec.specs.Reports.{end_of, is_running}
 use Rattle.wt_turn.specs.declared.action.Action.{Action}
@@ -209,6 +209,7 @@ shake-acts side h k turn c p g asked a x = by a x
         front e = or-first (list_any (is_reset_of k) gone) (list_any (is_reset_of k) more) (sym (list_any-append (is_reset_of k) gone more) ∙ e) z
 
     by : (b : Answer) → Shake side h c (head_of (Some c)) b → OwnActs side h k turn b
+    by b (Shut i o) = neither side h k turn replies.Rejected [] refl refl
     by b (Still r f) = neither side h k turn r [] refl refl
     by b (Shuts r code f m) = neither side h k turn r (close_if_open h code) (closes-plain (sends_on k) (λ n. refl) code) (closes-plain (is_reset_of k) (λ n. refl) code)
     by b (Goes r f) = on-stream side h k s turn r own (own-sends c (head_of (Some c))) (own-resets c (head_of (Some c))) (λ e. Polls c p g e)

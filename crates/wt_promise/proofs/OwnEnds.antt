@@ -19,7 +19,7 @@ use Rattle.wt_promise.proofs.Grows.{findings-add, news}
 use Rattle.wt_promise.proofs.OnlyOwed.{Due, all-four, moment-due}
 use Rattle.wt_promise.proofs.OpenStays.{of, same-findings}
 use Rattle.wt_promise.proofs.OwnActs.{Asked, asked-of}
-use Rattle.wt_promise.proofs.Shakes.{Finishes, Goes, GoesShuts, Rejects, Shake, Shuts, Still, first-of, head_stream, rest}
+use Rattle.wt_promise.proofs.Shakes.{Finishes, Goes, GoesShuts, Rejects, Shake, Shut, Shuts, Still, first-of, head_stream, rest}
 use Rattle.wt_promise.proofs.Shapes.{Alone, Ending, Finishing, Handshaking, Nothing, Nought, Polling, Resetting, Shape, Writing, shape}
 use Rattle.wt_promise.proofs.Stays.{of-session-stays}
 use Rattle.wt_promise.specs.Promise.{ByCall, IsHistory, OnlyOwedGoesOut, Told, call_ends, handshake_ends, head_of, is_end, makes_it_gone, tells_gone}
@@ -108,6 +108,7 @@ shake-due side h call c e asked a x = by a x
     stream d i s l = ap (λ (o : Option ℕ). unwrap_or o 0) l
 
     by : (b : Answer) → Shake side h c (head_of (Some c)) b → OwnDue side h call b
+    by b (Shut i o) = λ as_. tt
     by b (Still r f) = λ as_. tt
     by b (Shuts r code f m) = shuts r code m
     by b (Goes r f) = goes c (head_of (Some c)) r

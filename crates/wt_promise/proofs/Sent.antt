@@ -17,9 +17,8 @@ use Rattle.wt_promise.proofs.Actions.{none-gone, none-if}
 use Rattle.wt_promise.proofs.Flow.{clash}
 use Rattle.wt_promise.proofs.BytesOut.{bytes-append, bytes_on, none-on, sends}
 use Rattle.wt_promise.proofs.ReadPieces.{if-nothing}
-use Rattle.wt_promise.proofs.Shakes.{Finishes, Goes, GoesShuts, Rejects, Shake, Shuts, Still, head_stream, rest}
+use Rattle.wt_promise.proofs.Shakes.{Finishes, Goes, GoesShuts, Rejects, Shake, Shut, Shuts, Still, gives_on, head_stream, rest}
 use Rattle.wt_promise.proofs.Shapes.{Alone, Ending, Finishing, Handshaking, Nothing, Nought, Polling, Resetting, Shape, Writing, going, is_accept, says_nothing, shape, writes_on}
-use Rattle.wt_promise.proofs.Tables.{fits}
 use Rattle.wt_promise.specs.Promise.{accepted_by, acts_on, head_of, says_accepted}
 use Rattle.wt_seam_spec.specs.Joined.{send_of}
 use Rattle.wt_seam_spec.specs.Reports.{stop_of}
@@ -87,7 +86,7 @@ polled-accepts k (turns.Call (calls.Write id bytes)) r p = absurd (cc p)
 polled-accepts k (turns.Call (calls.WriteAll id bytes)) r p = absurd (cc p)
 polled-accepts k turn r p = refl
 
-handshake-hands : (k : ℕ) (r : Reply) → fits calls.Handshake r ≡ true → hands_out k r ≡ false
+handshake-hands : (k : ℕ) (r : Reply) → gives_on r ≡ true → hands_out k r ≡ false
 handshake-hands k (replies.Uni id) f = absurd (cc f)
 handshake-hands k (replies.Bi id) f = absurd (cc f)
 handshake-hands k (replies.SendReady id) f = absurd (cc f)
@@ -110,20 +109,21 @@ sent-shake side h k turn c p g a x = by a x
     last true code = close-bytes h k code
     last false code = refl
 
-    quietly : (r : Reply) (as_ : List Action) → fits calls.Handshake r ≡ true → bytes_on k as_ ≡ [] → Sent side h k turn (answer r as_)
+    quietly : (r : Reply) (as_ : List Action) → gives_on r ≡ true → bytes_on k as_ ≡ [] → Sent side h k turn (answer r as_)
     quietly r as_ f b = Quiet b (polled-accepts k turn r p) (handshake-hands k r f)
 
-    part : (r : Reply) (as_ : List Action) → fits calls.Handshake r ≡ true → bytes_on k as_ ≡ bytes_on k own → Sent side h k turn (answer r as_)
+    part : (r : Reply) (as_ : List Action) → gives_on r ≡ true → bytes_on k as_ ≡ bytes_on k own → Sent side h k turn (answer r as_)
     part r as_ f e = sent-head side h k turn c r as_ p g (e ∙ sent c (head_of (Some c))) (polled-accepts k turn r p) (handshake-hands k r f)
 
     by : (b : Answer) → Shake side h c (head_of (Some c)) b → Sent side h k turn b
+    by b (Shut i o) = Quiet refl (polled-accepts k turn replies.Rejected p) refl
     by b (Still r f) = quietly r [] f refl
     by b (Shuts r code f m) = quietly r (close_if_open h code) f (close-bytes h k code)
     by b (Goes r f) = part r own f refl
     by b (GoesShuts r code f m) = part r (own ++ close_if_open h code) f (front-bytes k own (close_if_open h code) (close-bytes h k code))
     by b (Finishes i m) = part replies.Pending (own ++ actions.Finish (head_stream h c) ∷ []) refl (front-bytes k own (actions.Finish (head_stream h c) ∷ []) refl)
     by b (Rejects i t code m) =
-        quietly replies.Rejected _ refl (no-bytes k (session_gone_actions side h (findings side h) (head_stream h c)) (if t then close_if_open h code else []) (gone-bytes side h k (head_stream h c)) (last t code))
+        Quiet (no-bytes k (session_gone_actions side h (findings side h) (head_stream h c)) (if t then close_if_open h code else []) (gone-bytes side h k (head_stream h c)) (last t code)) (polled-accepts k turn replies.Rejected p) refl
 
 -- ---- every call
 

@@ -1,5 +1,5 @@
 -- What the own answer of a connect or a response that goes on may be.
-use Rattle.std.specs.Prelude.{[], ◌++◌, ◌∷◌, ◌≡◌, Bool, Contains, Err, List, None, Ok, Option, Result, Some, codes, if◌then◌else◌, not, true, unwrap_or, ℕ}
+use Rattle.std.specs.Prelude.{[], ◌++◌, ◌||◌, ◌∷◌, ◌≡◌, Bool, Contains, Err, List, None, Ok, Option, Result, Some, codes, false, if◌then◌else◌, not, true, unwrap_or, ℕ}
 use Rattle.std.proofs.Common.{arith, refl, subst, sym}
 use Rattle.url.specs.Parser.{parse_url}
 use Rattle.wt_meaning.specs.Handshakes.{acceptance_frame, close_by, connect_fault, connect_on, head_left, is_opened, is_refused, is_success, lacks_credit, none_lives, poll_rows, rejection, response_ended, response_fault, response_incomplete, response_rows, send}
@@ -11,7 +11,8 @@ use Rattle.wt_meaning.specs.Sends.{action_if, close_if_open, session_gone_action
 use Rattle.wt_meaning.specs.Targets.{Target, target_of}
 use Rattle.wt_meaning.specs.Windows.{last_request}
 use Rattle.wt_message.specs.FixedBytes.{response_bytes}
-use Rattle.wt_promise.proofs.Tables.{OfRows, by-row, by-value, fits, no-row}
+use Rattle.wt_promise.proofs.Accepted.{not-true}
+use Rattle.wt_promise.proofs.Tables.{OfRows, by-row, by-value, is_plain, is_session, no-row}
 use Rattle.wt_promise.specs.Promise.{fault_closes, frame_of, handshake_ends, head_of, rejection_ends}
 use Rattle.wt_proto.specs.ResponseWalk.{response_walk_of}
 use Rattle.wt_proto.specs.declared.response_walk.ResponseWalk.{ResponseWalk}
@@ -47,11 +48,16 @@ rest h c frame = opening h c ++ send h (head_stream h c) (head_left h (head_stre
 abbrev pub MayEnd : History → Call → Action → Type 0
 MayEnd h c x = Contains (handshake_ends h (Some c)) x
 
+-- it is no rejection
+abbrev pub gives_on : Reply → Bool
+gives_on r = is_plain r || is_session r
+
 pub data Shake (side : Side) (h : History) (c : Call) (frame : List ℕ) : Answer → Type 0 where
-  Still : (r : Reply) → fits calls.Handshake r ≡ true → Shake side h c frame (answer r [])
-  Shuts : (r : Reply) (code : ℕ) → fits calls.Handshake r ≡ true → MayEnd h c (actions.Close code []) → Shake side h c frame (answer r (close_if_open h code))
-  Goes : (r : Reply) → fits calls.Handshake r ≡ true → Shake side h c frame (answer r (rest h c frame))
-  GoesShuts : (r : Reply) (code : ℕ) → fits calls.Handshake r ≡ true → MayEnd h c (actions.Close code []) → Shake side h c frame (answer r (rest h c frame ++ close_if_open h code))
+  Shut : is_response c ≡ true → is_open h ≡ false → Shake side h c frame (answer replies.Rejected [])
+  Still : (r : Reply) → gives_on r ≡ true → Shake side h c frame (answer r [])
+  Shuts : (r : Reply) (code : ℕ) → gives_on r ≡ true → MayEnd h c (actions.Close code []) → Shake side h c frame (answer r (close_if_open h code))
+  Goes : (r : Reply) → gives_on r ≡ true → Shake side h c frame (answer r (rest h c frame))
+  GoesShuts : (r : Reply) (code : ℕ) → gives_on r ≡ true → MayEnd h c (actions.Close code []) → Shake side h c frame (answer r (rest h c frame ++ close_if_open h code))
   Finishes : is_response c ≡ true → ((s : ℕ) → last_request h ≡ Some s → MayEnd h c (actions.Finish s)) → Shake side h c frame (answer replies.Pending (rest h c frame ++ actions.Finish (head_stream h c) ∷ []))
   Rejects : is_response c ≡ true → (b : Bool) (code : ℕ) → MayEnd h c (actions.Close code [])
       → Shake side h c frame (answer replies.Rejected (session_gone_actions side h (findings side h) (head_stream h c) ++ (if b then close_if_open h code else [])))
@@ -81,18 +87,18 @@ over-in None = (1, omega arith, refl)
 over-in (Some k) = (2, omega arith, refl)
 
 -- a rejection, from what holds of what it may be
-rejected : (P : Answer → Type 0) (side : Side) (h : History) (digits : List ℕ) → ((r : Reply) → fits calls.Handshake r ≡ true → P (answer r []))
+rejected : (P : Answer → Type 0) (side : Side) (h : History) (digits : List ℕ) → (is_open h ≡ false → P (answer replies.Rejected [])) → P (answer replies.Pending [])
     → P (answer replies.Pending (send h (unwrap_or (last_request h) 0) (head_left h (unwrap_or (last_request h) 0) (response_bytes digits))))
     → P (answer replies.Pending (send h (unwrap_or (last_request h) 0) (head_left h (unwrap_or (last_request h) 0) (response_bytes digits)) ++ actions.Finish (unwrap_or (last_request h) 0) ∷ []))
     → ((b : Bool) (code : ℕ) → Contains (rejection_ends (last_request h)) (actions.Close code [])
     → P (answer replies.Rejected (session_gone_actions side h (findings side h) (unwrap_or (last_request h) 0) ++ (if b then close_if_open h code else []))))
     → OfRows P (rejection side h digits)
-rejected P side h digits still goes finishes rejects =
-    by-row P (not (is_open h)) replies.Rejected [] _ (λ q. still replies.Rejected refl)
+rejected P side h digits shut still goes finishes rejects =
+    by-row P (not (is_open h)) replies.Rejected [] _ (λ q. shut (not-true (is_open h) q))
     (λ q. by-row P (is_refused h s left) replies.Rejected _ _ (λ x. rejects true 0x104 (refused-in (last_request h)))
     (λ x. by-row P (lacks_credit h s left) replies.Pending (send h s left) _ (λ y. goes)
     (λ y. by-row P (not (was_finished h s)) replies.Pending (send h s left ++ actions.Finish s ∷ []) _ (λ z. finishes)
-    (λ z. by-row P _ replies.Rejected _ [] (λ w. rejects (none_lives side h) 0 (over-in (last_request h))) (λ w. no-row P (still replies.Pending refl))))))
+    (λ z. by-row P _ replies.Rejected _ [] (λ w. rejects (none_lives side h) 0 (over-in (last_request h))) (λ w. no-row P still)))))
   where
     s : ℕ
     s = unwrap_or (last_request h) 0
@@ -123,10 +129,10 @@ abbrev connect_ends : History → List Action
 connect_ends h = actions.Close 0 [] ∷ fault_closes (response_fault (response_walk_of (contents h 0) (end_of (events h) 0)))
 
 -- one that goes on, from what holds of what it may be
-connected : (P : Answer → Type 0) (side : Side) (h : History) (t : Result Target ConnectingError) → ((r : Reply) → fits calls.Handshake r ≡ true → P (answer r []))
-    → ((r : Reply) (code : ℕ) → fits calls.Handshake r ≡ true → Contains (connect_ends h) (actions.Close code []) → P (answer r (close_if_open h code)))
-    → ((r : Reply) → fits calls.Handshake r ≡ true → P (answer r (action_if (not (is_opened h)) (actions.Opened 0) ++ send h 0 (head_left h 0 (frame_of t)))))
-    → ((r : Reply) (code : ℕ) → fits calls.Handshake r ≡ true → Contains (connect_ends h) (actions.Close code [])
+connected : (P : Answer → Type 0) (side : Side) (h : History) (t : Result Target ConnectingError) → ((r : Reply) → gives_on r ≡ true → P (answer r []))
+    → ((r : Reply) (code : ℕ) → gives_on r ≡ true → Contains (connect_ends h) (actions.Close code []) → P (answer r (close_if_open h code)))
+    → ((r : Reply) → gives_on r ≡ true → P (answer r (action_if (not (is_opened h)) (actions.Opened 0) ++ send h 0 (head_left h 0 (frame_of t)))))
+    → ((r : Reply) (code : ℕ) → gives_on r ≡ true → Contains (connect_ends h) (actions.Close code [])
     → P (answer r ((action_if (not (is_opened h)) (actions.Opened 0) ++ send h 0 (head_left h 0 (frame_of t))) ++ close_if_open h code)))
     → OfRows P (connect_on side h t)
 connected P side h (Err e) still shuts goes both = no-row P (still replies.Pending refl)
@@ -171,9 +177,9 @@ shakes side h (calls.Connect options lookup outcome) =
     (λ r f. Still r f) (λ r code f m. Shuts r code f m) (λ r f. Goes r f) (λ r code f m. GoesShuts r code f m)
 shakes side h (calls.Accept headers) = accepted side h headers
 shakes side h calls.Forbidden =
-    rejected (Shake side h calls.Forbidden (response_bytes (codes "403"))) side h (codes "403") (λ r f. Still r f) (Goes replies.Pending refl) (Finishes refl (finish-in (last_request h))) (λ b code m. Rejects refl b code m)
+    rejected (Shake side h calls.Forbidden (response_bytes (codes "403"))) side h (codes "403") (Shut refl) (Still replies.Pending refl) (Goes replies.Pending refl) (Finishes refl (finish-in (last_request h))) (λ b code m. Rejects refl b code m)
 shakes side h calls.NotFound =
-    rejected (Shake side h calls.NotFound (response_bytes (codes "404"))) side h (codes "404") (λ r f. Still r f) (Goes replies.Pending refl) (Finishes refl (finish-in (last_request h))) (λ b code m. Rejects refl b code m)
+    rejected (Shake side h calls.NotFound (response_bytes (codes "404"))) side h (codes "404") (Shut refl) (Still replies.Pending refl) (Goes replies.Pending refl) (Finishes refl (finish-in (last_request h))) (λ b code m. Rejects refl b code m)
 shakes side h calls.TooManyRequests =
-    rejected (Shake side h calls.TooManyRequests (response_bytes (codes "429"))) side h (codes "429") (λ r f. Still r f) (Goes replies.Pending refl) (Finishes refl (finish-in (last_request h))) (λ b code m. Rejects refl b code m)
+    rejected (Shake side h calls.TooManyRequests (response_bytes (codes "429"))) side h (codes "429") (Shut refl) (Still replies.Pending refl) (Goes replies.Pending refl) (Finishes refl (finish-in (last_request h))) (λ b code m. Rejects refl b code m)
 shakes side h c = no-row (Shake side h c []) (Still replies.Pending refl)
