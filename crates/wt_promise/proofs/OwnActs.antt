@@ -196,7 +196,7 @@ shake-acts side h k turn c p g asked a x = by a x
     rejected more i m z = record {
       sends = λ e. absurd (clash (list_any (sends_on k) (gone ++ more)) e (none-append (sends_on k) gone more (gone-sends-not side h (findings side h) s k) m));
       resets = λ e. GoneBy (asked i).0 (ap (λ (j : ℕ). is_of_session h (findings side h) j k) (same c i (asked i).0 (asked i).1) ∙ reset-of-session side h (findings side h) s k (front e))
-        (ap (is_number (asked i).0) (asked i).1 ∙ eq-eqb (asked i).0 (asked i).0 refl);
+          (ap (is_number (asked i).0) (asked i).1 ∙ eq-eqb (asked i).0 (asked i).0 refl);
       once = λ e. reset-new side h (findings side h) s k (front e);
       quiet = behind-append (is_reset_of k) (acts_on k) gone more (gone-quiet side h (findings side h) s k) (behind-none (is_reset_of k) (acts_on k) more z) (λ e. neither-acts k more m z);
     }

@@ -213,10 +213,12 @@ established_now x s = record s {
 
 -- what a call did
 abbrev pub after_call : CallRecord → DriverState → DriverState
-after_call (StreamAccepted id session) s = record s { dispatched = record s.dispatched {
-  streams = filter (λ (w : Waiting). not (id == w.id)) s.dispatched.streams;
-  members = with_member_now session id s.dispatched.members;
-} }
+after_call (StreamAccepted id session) s = record s {
+  dispatched = record s.dispatched {
+    streams = filter (λ (w : Waiting). not (id == w.id)) s.dispatched.streams;
+    members = with_member_now session id s.dispatched.members;
+  };
+}
 after_call (OpeningStarted id session) s = record s { dispatched = record s.dispatched { members = with_member_now session id s.dispatched.members } }
 after_call (DatagramReceived index) s = record s { dispatched = record s.dispatched { datagrams = filter (λ (x : Admitted). not (index == x.index)) s.dispatched.datagrams } }
 after_call (RequestDelivered id) s = record s { dispatched = record s.dispatched { requests = filter (λ (c : Classified). not (id == c.id)) s.dispatched.requests } }

@@ -302,7 +302,7 @@ rejects-some : (side : Side) (h : History) (o : Option Call) → (first_row (pol
 rejects-some side h None e = absurd (cc e)
 rejects-some side h (Some (calls.Connect options lookup outcome)) e =
     absurd (let q = (connect-passes spared refl (λ e. refl) (λ n. refl) side h (target_of (parse_url None options.0) options.1 lookup outcome)).first in let r : false ≡ true = ap spared (sym e) ∙ q in
-        cc r)
+    cc r)
 rejects-some side h (Some (calls.Accept headers)) e = (calls.Accept headers, refl, refl)
 rejects-some side h (Some calls.Forbidden) e = (calls.Forbidden, refl, refl)
 rejects-some side h (Some calls.NotFound) e = (calls.NotFound, refl, refl)

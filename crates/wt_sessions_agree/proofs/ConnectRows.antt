@@ -91,7 +91,7 @@ module _ (offset : ℕ → ℕ) (h : History) (log : Log) (x : Stands Client off
   request-some own b bytes free shut true f None g true k =
       let e : ladders.send_request Client log 0 own (b ∷ bytes) ≡ ladders.await_response Client log 0 (own ++ send_of 0 (b ∷ bytes)) = rw (f, g, k) refl in
       let r : first_row (request_rows Client h own (b ∷ bytes)) ≡ first_row (response_rows Client h (own ++ send h 0 (b ∷ bytes)) (response_walk_of (contents h 0) (end_of (events h) 0)))
-            = rw (lacks-is Client offset h log x 0 (b ∷ bytes) f, k, x.came.openness, f, x.came.events, g) refl in
+      = rw (lacks-is Client offset h log x 0 (b ∷ bytes) f, k, x.came.openness, f, x.came.events, g) refl in
       let q : send h 0 (b ∷ bytes) ≡ send_of 0 (b ∷ bytes) = send-is Client offset h log x 0 (b ∷ bytes) f ∙ ap (send_of 0) (covered-out Client offset h log x 0 (b ∷ bytes) k) in
       e ∙ ap (λ (as_ : List Action). ladders.await_response Client log 0 (own ++ as_)) (sym q) ∙ response-agrees (own ++ send h 0 (b ∷ bytes))
       ∙ ap (λ a. effect_of Client h log calls.Handshake a) (sym r)
@@ -126,7 +126,7 @@ module _ (offset : ℕ → ℕ) (h : History) (log : Log) (x : Stands Client off
       let n : local_count (actions_of log) 0 ≡ 0 = zero-is (local_count (actions_of log) 0) z in
       let e : ladders.open_request Client log t.frame ≡ ladders.send_request Client log 0 (actions.Opened 0 ∷ []) (effects.head_left log 0 t.frame) = rw (k, z, f, first-id n) refl in
       let w : first_row (connect_rows Client h t) ≡ first_row (request_rows Client h (actions.Opened 0 ∷ []) (effects.head_left log 0 t.frame))
-            = rw (may-open Client offset h log x 0, k, q, r, x.out.opened 0, z, x.came.openness, f, x.came.events, c, head-is Client offset h log x 0 t.frame) refl in
+      = rw (may-open Client offset h log x 0, k, q, r, x.out.opened 0, z, x.came.openness, f, x.came.events, c, head-is Client offset h log x 0 t.frame) refl in
       e ∙ request-agrees (actions.Opened 0 ∷ []) (effects.head_left log 0 t.frame) (λ code g. absurd (let u = facts.unstopped n in cc (sym g ∙ u))) (λ g. absurd (cc (sym f ∙ g)))
       ∙ ap (λ a. effect_of Client h log calls.Handshake a) (sym w)
 

@@ -219,10 +219,10 @@ module _ (side : Side) (offset : ℕ → ℕ) (h : History) (log : Log) (x : Sta
   opening-of k (IsOpening name s b n o) =
       let e : ladders.poll_opening side log k ≡ ladders.continue_opening side log k s (effects.head_left log k (ladders.stream_header k s)) = rw o refl in
       let r : opening_for side h k (being_opened h k) ≡ opening_rows side h k s (effects.head_left log k (ladders.stream_header k s))
-            = rw (b, n) (ap (opening_rows side h k s) (head-is k (stream_header k s) ∙ ap (effects.head_left log k) (header-is k s))) in
+      = rw (b, n) (ap (opening_rows side h k s) (head-is k (stream_header k s) ∙ ap (effects.head_left log k) (header-is k s))) in
       e ∙ opening-by k s (effects.head_left log k (ladders.stream_header k s)) name b n (logs.is_open log && drivers.is_living side log s) refl
-          (handshakes.is_refused log k (effects.head_left log k (ladders.stream_header k s))) refl (is_covered log k (effects.head_left log k (ladders.stream_header k s))) refl
-          (is_bidirectional k) refl
+      (handshakes.is_refused log k (effects.head_left log k (ladders.stream_header k s))) refl (is_covered log k (effects.head_left log k (ladders.stream_header k s))) refl
+      (is_bidirectional k) refl
       ∙ ap (λ (rows : List Row). effect_of side h log (calls.PollOpening k) (first_row rows)) (sym r)
 
   pub opening-agrees : (k : ℕ) → ladders.poll_opening side log k ≡ effect_of side h log (calls.PollOpening k) (first_row (opening_for side h k (being_opened h k)))

@@ -116,7 +116,7 @@ own-stop-agrees : (side : Side) (h : History) (v : TransportView) (found : List 
     → IsTable (after_checks side h (LocalStop ∷ []) found) (on_progress (critical_if (v.is_stopped (local_uni v.side))) table)
 own-stop-agrees side h v found table g t f =
     rw (check-step side h LocalStop [] found (fault_if (is_some (stop_of (events h) (local_uni side))) h3.ClosedCriticalStream) f refl, g.own, g.stopped (local_uni side))
-        (critical-table found table (is_some (stop_of (events h) (local_uni side))) f t)
+    (critical-table found table (is_some (stop_of (events h) (local_uni side))) f t)
 
 encoder-end-agrees : (side : Side) (h : History) (v : TransportView) (found : List Finding) (table : StreamTable) → ViewsAgree side h v → IsTable found table → fault_of found ≡ None
     → IsTable (after_checks side h (EncoderEnd ∷ []) found) (on_progress (check_qpack v (first_at encoder_start table.classified)) table)
@@ -184,6 +184,9 @@ critical-agrees side h v found table g t =
     (control-agrees side h v _ _ g a) a in
     let c = step-agrees side h (EncoderEnd ∷ []) (λ (table : StreamTable). on_progress (check_qpack v (first_at encoder_start table.classified)) table) _ _ (encoder-end-agrees side h v _ _ g b) b in
     let d = step-agrees side h (DecoderEnd ∷ []) (λ (table : StreamTable). on_progress (check_qpack v (first_at decoder_start table.classified)) table) _ _ (decoder-end-agrees side h v _ _ g c) c in
-    rw (checks-append side h (LocalStop ∷ []) (ReadSettings ∷ ControlFault ∷ EncoderEnd ∷ DecoderEnd ∷ []) found, checks-append side h (ReadSettings ∷ ControlFault ∷ []) (EncoderEnd ∷ DecoderEnd ∷ [])
-        (after_checks side h (LocalStop ∷ []) found),
-        checks-append side h (EncoderEnd ∷ []) (DecoderEnd ∷ []) (after_checks side h (ReadSettings ∷ ControlFault ∷ []) (after_checks side h (LocalStop ∷ []) found))) d
+    rw (
+      checks-append side h (LocalStop ∷ []) (ReadSettings ∷ ControlFault ∷ EncoderEnd ∷ DecoderEnd ∷ []) found,
+      checks-append side h (ReadSettings ∷ ControlFault ∷ []) (EncoderEnd ∷ DecoderEnd ∷ [])
+          (after_checks side h (LocalStop ∷ []) found),
+      checks-append side h (EncoderEnd ∷ []) (DecoderEnd ∷ []) (after_checks side h (ReadSettings ∷ ControlFault ∷ []) (after_checks side h (LocalStop ∷ []) found)),
+    ) d

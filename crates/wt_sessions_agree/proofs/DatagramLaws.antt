@@ -179,13 +179,13 @@ module _ (h : History) (calls : CallView) where
           → length (filter (tables.shares_window (dispatched_streams calls table) s) (map (λ (d : Admitted). d.session) (tables.waiting_datagrams calls table))) ≡ datagrams_in_window h found s
       windows true e g =
           ap (λ (b : Bool). length (filter (λ (o : ℕ). if b then o == s else not (was_established calls o)) (map (λ (d : Admitted). d.session) (tables.waiting_datagrams calls table))))
-              (c.established s ∙ e)
+          (c.established s ∙ e)
           ∙ count-own (tables.is_gone calls table) s (gone s ∙ g) table.datagrams ∙ own-left
           ∙ sym (ap (λ (b : Bool). if b then length (waiting_datagrams h found s) else length (filter (λ (d : ℕ × List ℕ). shares_window h found s d.0) (filter_map admitted_datagram found))) e)
       windows false e g =
           let q : datagrams_in_window h found s ≡ length (filter (λ (d : ℕ × List ℕ). not (is_established h d.0) && not (is_gone h found d.0)) (filter_map admitted_datagram found)) = rw e refl in
           ap (λ (b : Bool). length (filter (λ (o : ℕ). if b then o == s else not (was_established calls o)) (map (λ (d : Admitted). d.session) (tables.waiting_datagrams calls table))))
-              (c.established s ∙ e)
+          (c.established s ∙ e)
           ∙ count-early (tables.is_gone calls table) (is_gone h found) (was_established calls) gone c.established table.datagrams
           (ap (list_all (λ (d : Admitted). is_left calls d || is_established h d.session)) (sym t.datagrams) ∙ r.early) ∙ early-left ∙ sym q
 
@@ -275,8 +275,13 @@ module _ (h : History) (calls : CallView) where
         by : (d : Result (ℕ × List ℕ) ErrorCode) → datagram_of piece ≡ d → IsTable (after_checks side h (datagram_checks n (piece ∷ ds)) found) (take_each calls (piece ∷ ds) table)
         by (Err code) q =
             let g : fault_of (found ++ Faulted code ∷ []) ≡ Some code = first-append fault_in found (Faulted code) ∙ ap (λ (o : Option ErrorCode). option_or o (Some code)) f in
-            rw (stepped (Err code) q, taken (Err code) q, checks-faulty side h (datagram_checks (suc n) ds) (found ++ Faulted code ∷ []) code g, take-faulty ds
-                (take_parsed calls (Err code) table) code refl)
+            rw (
+              stepped (Err code) q,
+              taken (Err code) q,
+              checks-faulty side h (datagram_checks (suc n) ds) (found ++ Faulted code ∷ []) code g,
+              take-faulty ds
+                  (take_parsed calls (Err code) table) code refl,
+            )
             (fault-fields found table code f t)
         by (Ok d) q =
             let b : Bool = is_admitted (dispatched_streams calls table) (4 * d.0) in
@@ -287,7 +292,7 @@ module _ (h : History) (calls : CallView) where
             let u = again (suc n) (found ++ DatagramRead n (4 * d.0) d.1 b ∷ []) (admit_datagram b (4 * d.0) d.1 table) (omega (arith, p)) (received-more found n (4 * d.0) d.1 b m r)
             (read-table found table n (4 * d.0) d.1 b m t) in
             rw (stepped (Ok d) q, taken (Ok d) q, k) (subst (λ (i : ℕ). IsTable (after_checks side h (datagram_checks (suc n) ds) (found ++ DatagramRead n (4 * d.0) d.1 b ∷ []))
-                (take_each calls (drop i ds) (admit_datagram b (4 * d.0) d.1 table))) z u)
+            (take_each calls (drop i ds) (admit_datagram b (4 * d.0) d.1 table))) z u)
           where
             counted : (b : Bool) (s : ℕ) (payload : List ℕ) → (admit_datagram b s payload table).progress.datagrams ≡ suc table.progress.datagrams
             counted true s payload = refl
@@ -329,4 +334,4 @@ datagrams-agree side h t calls ds found table same all c r holds = by (is_ready 
         let q : t.ready ≡ true = same ∙ e in
         let z : table.progress.datagrams - 0 ≡ table.progress.datagrams = omega arith in
         rw (q, all) (subst (λ (i : ℕ). IsTable (after_checks side h (datagram_checks 0 ds) found) (take_each calls (drop i ds) table)) z
-            (take-agrees h calls side e c ds 0 found table (omega arith) r holds))
+        (take-agrees h calls side e c ds 0 found table (omega arith) r holds))

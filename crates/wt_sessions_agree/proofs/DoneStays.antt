@@ -46,9 +46,9 @@ module _ (p : Pair) (h : History) (k : ℕ) where
       by true e f g a i = absurd (let q : is_done (p ∷ h) k ≡ true = ap (λ (b : Bool). b || (was_finished (p ∷ h) k && is_acknowledged (events (p ∷ h)) k)) (reset-stays e) in cc (sym q ∙ d))
       by false e true g true i = absurd (
           let q : is_done (p ∷ h) k ≡ true
-                =
-                    ap (λ (b : Bool). is_reset (p ∷ h) k || (b && is_acknowledged (events (p ∷ h)) k)) (finish-stays g) ∙ ap (λ (b : Bool). is_reset (p ∷ h) k || b) (acknowledged-stays i)
-                    ∙ or-true (is_reset (p ∷ h) k) in
+          =
+          ap (λ (b : Bool). is_reset (p ∷ h) k || (b && is_acknowledged (events (p ∷ h)) k)) (finish-stays g) ∙ ap (λ (b : Bool). is_reset (p ∷ h) k || b) (acknowledged-stays i)
+          ∙ or-true (is_reset (p ∷ h) k) in
           cc (sym q ∙ d))
       by false e true g false i = refl
       by false e false g a i = refl

@@ -225,6 +225,6 @@ body-agrees (Some _) = refl
 pub unread-agrees : (side : Side) (offset : ℕ → ℕ) (h : History) (log : Log) (k : ℕ) → Stands side offset h log → unread side h k ≡ ladders.unread_body side log k
 unread-agrees side offset h log k s =
     ap (λ (n : ℕ). drop (n + length (was_read h k)) (contents h k))
-        (body-agrees (verdict_of (findings side h) k) ∙ ap ladders.body_start (verdicts-agree k (findings side h) (stream_table side log) s.table))
+    (body-agrees (verdict_of (findings side h) k) ∙ ap ladders.body_start (verdicts-agree k (findings side h) (stream_table side log) s.table))
     ∙ ap (λ (n : ℕ). drop (ladders.body_start (tables.verdict_of k (stream_table side log).classified) + n) (contents h k)) (s.halves.read k)
     ∙ ap (drop (ladders.body_start (tables.verdict_of k (stream_table side log).classified) + ladders.total_read k (calls_of log))) (s.came.contents k)

@@ -92,8 +92,17 @@ module _ (side : Side) (offset : ℕ → ℕ) (h : History) (log : Log) (x : Sta
       by true o true g v k = rw (x.came.openness, o, refused-is side offset h log x s left, g, f) refl
       by true o false g false k = rw (x.came.openness, o, refused-is side offset h log x s left, g, lacks-is side offset h log x s left o, k, send-is side offset h log x s left o, p) refl
       by true o false g true k =
-          rw (x.came.openness, o, refused-is side offset h log x s left, g, lacks-is side offset h log x s left o,
-          k, send-is side offset h log x s left o, covered-out side offset h log x s left k, starts) refl
+          rw (
+            x.came.openness,
+            o,
+            refused-is side offset h log x s left,
+            g,
+            lacks-is side offset h log x s left o,
+            k,
+            send-is side offset h log x s left o,
+            covered-out side offset h log x s left k,
+            starts,
+          ) refl
 
   pub reject-agrees : (c : Call) (waiting : CallRecord) (s : ℕ) (left : List ℕ) → pending_record c ≡ waiting → unwrap_or (last_request h) 0 ≡ s
       → session_gone_actions side h (findings side h) s ≡ ending_actions side log s → none_lives side h ≡ has_no_session side log
@@ -104,8 +113,19 @@ module _ (side : Side) (offset : ℕ → ℕ) (h : History) (log : Log) (x : Sta
           → (is_some (stop_of (events_of log) s) || is_acknowledged (events_of log) s) ≡ d
           → (a : Bool) → has_no_session side log ≡ a → reject_response side log s left waiting ≡ effect_of side h log c (first_row (rejection_rows side h s left))
       out o g k false b d e a n =
-          rw (x.came.openness, o, refused-is side offset h log x s left, g, lacks-is side offset h log x s left o,
-          k, x.out.finished s, b, send-is side offset h log x s left o, covered-out side offset h log x s left k, p) refl
+          rw (
+            x.came.openness,
+            o,
+            refused-is side offset h log x s left,
+            g,
+            lacks-is side offset h log x s left o,
+            k,
+            x.out.finished s,
+            b,
+            send-is side offset h log x s left o,
+            covered-out side offset h log x s left k,
+            p,
+          ) refl
       out o g k true b true e true n =
           rw (x.came.openness, o, refused-is side offset h log x s left, g, lacks-is side offset h log x s left o, k, x.out.finished s, b, x.came.events, e, gone, none, n, last) refl
       out o g k true b true e false n =

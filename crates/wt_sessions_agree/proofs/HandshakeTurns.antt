@@ -100,7 +100,6 @@ is_end (calls.EndSession name) = true
 is_end _ = false
 
 module _ (side : Side) (h : History) (req : ℕ) where
-
   done-passes : (c : Call) → is_end c ≡ false → after_record req (done_record side h c) ≡ None
   done-passes (calls.ResetSend id code) e = either (after_record req) None (is_open h) Polled (ResetUnsent id code) refl refl
   done-passes (calls.SetPriority id priority) e = either (after_record req) None (is_done h id) Polled (PrioritySet id priority) refl refl
@@ -220,7 +219,7 @@ module _ (side : Side) (offset : ℕ → ℕ) (h : History) (log : Log) (st : St
   other c p q e =
       let x : Reply = (first_row (rows_of side h c)).reply in
       subst (λ (s : HandshakeState). Shaken side h s c x)
-          (sym (same-state (calls_of log) (record_of side h c x) (other-passes side h (requested_stream (calls_of log)) c x p q e (other-replies side h c p q)))) (quiet c x p q)
+      (sym (same-state (calls_of log) (record_of side h c x) (other-passes side h (requested_stream (calls_of log)) c x p q e (other-replies side h c p q)))) (quiet c x p q)
 
   -- ---- a request
 
@@ -350,13 +349,13 @@ module _ (side : Side) (offset : ℕ → ℕ) (h : History) (log : Log) (st : St
       by : (b : Bool) → (s == requested_stream (calls_of log)) ≡ b → Shaken side h (new_state (calls_of log) (RequestRejected s)) (calls.EndSession name) replies.Done
       by false e =
           subst (λ (x : HandshakeState). Shaken side h x (calls.EndSession name) replies.Done)
-              (sym (same-state (calls_of log) (RequestRejected s) (ap (λ (b : Bool). if b then Some handshakes.Answered else None) e)))
+          (sym (same-state (calls_of log) (RequestRejected s) (ap (λ (b : Bool). if b then Some handshakes.Answered else None) e)))
           (quiet (calls.EndSession name) replies.Done refl refl)
       by true e =
           let q : s ≡ requested_stream (calls_of log) = eqb-true s (requested_stream (calls_of log)) e in
           let k = established-idle side h i s (named-established h name s n) (q ∙ sym st.request) in
           subst (λ (x : HandshakeState). Shaken side h x (calls.EndSession name) replies.Done) (sym (rejected-state (calls_of log) s q))
-              (record { waiting = k.0; requested = k.1; failed = λ e. none; begun = tt })
+          (record { waiting = k.0; requested = k.1; failed = λ e. none; begun = tt })
 
   ended : (name : Option ℕ) → ShakenBy (calls.EndSession name) (first_row (rows_of side h (calls.EndSession name))).reply
   ended name = by (named h name) refl

@@ -43,5 +43,5 @@ kind-keeps side h t calls v kind count small same seen admits Keeps kept found t
     by true e =
         let q : t.ready ≡ true = same ∙ e in
         let u : filter (is_unclassified table) (ids_from kind 0 count) ≡ filter (λ (j : ℕ). not (is_classified found j)) (ids_from kind 0 count)
-              = filter-ids (is_unclassified table) (λ (j : ℕ). not (is_classified found j)) kind 0 count (λ i a b. sym (ripe-agrees (4 * i + kind) found table (kept.table found table holds))) in
+        = filter-ids (is_unclassified table) (λ (j : ℕ). not (is_classified found j)) kind 0 count (λ i a b. sym (ripe-agrees (4 * i + kind) found table (kept.table found table holds))) in
         rw (q, ids-same kind 0 count, u) (scan-keeps side h t calls v kind small e seen admits Keeps kept count found table few holds)

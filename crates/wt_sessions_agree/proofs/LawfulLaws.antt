@@ -177,13 +177,13 @@ module _ (side : Side) (offset : ℕ → ℕ) (h : History) (log : Log) (x : Sta
   lawful-agrees (turns.DatagramLimit fact) = coming true true refl ∙ ap (λ (b : Bool). b && not (is_some (loss_of (all_events_of log)))) (and-true (is_connected (all_events_of log)))
   lawful-agrees (turns.MaxUni total) =
       rw (le-lt (unis_allowed (all_events h)) total, le-lt total (2 ^ 60), x.came.all_events)
-          (most (is_connected (all_events_of log)) (not (nat_lt total (unis_allowed (all_events_of log)))) (not (nat_lt (2 ^ 60) total)))
+      (most (is_connected (all_events_of log)) (not (nat_lt total (unis_allowed (all_events_of log)))) (not (nat_lt (2 ^ 60) total)))
   lawful-agrees (turns.MaxBi total) =
       rw (le-lt (bis_allowed (all_events h)) total, le-lt total (2 ^ 60), x.came.all_events)
-          (most (is_connected (all_events_of log)) (not (nat_lt total (bis_allowed (all_events_of log)))) (not (nat_lt (2 ^ 60) total)))
+      (most (is_connected (all_events_of log)) (not (nat_lt total (bis_allowed (all_events_of log)))) (not (nat_lt (2 ^ 60) total)))
   lawful-agrees (turns.MaxData id total) =
       rw (sends-is id, le-lt (credit (all_events h) id) total, x.came.all_events)
-          (most (is_connected (all_events_of log)) (streams.can_send side log id) (not (nat_lt total (credit (all_events_of log) id))) (nat_lt total (2 ^ 62)))
+      (most (is_connected (all_events_of log)) (streams.can_send side log id) (not (nat_lt total (credit (all_events_of log) id))) (nat_lt total (2 ^ 62)))
     where
       most : (a b c d : Bool) → (a && not (is_some (loss_of (all_events_of log))) && (b && c && d)) ≡ ((a && b && c && d) && not (is_some (loss_of (all_events_of log))))
       most true true c d = last-moved true (not (is_some (loss_of (all_events_of log)))) (c && d)

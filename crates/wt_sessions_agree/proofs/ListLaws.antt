@@ -148,9 +148,9 @@ module _ (side : Side) (each : EachTurnAgrees side) where
       -- the run in the code's form, where the turn is lawful and where it isn't
       pick : Bool → answers.Run
       pick b = elim b [
-          | true ↦ answers.with_answer (answers.answer_to side log turn) (answers.run_from side (log_after side log turn) all)
-          | false ↦ record { answers = []; stop = AtUnlawful }
-        ]
+        | true ↦ answers.with_answer (answers.answer_to side log turn) (answers.run_from side (log_after side log turn) all)
+        | false ↦ record { answers = []; stop = AtUnlawful }
+      ]
 
       by : (b : Bool) → is_lawful side h turn ≡ b → ((g : History) (l : Log) → Agree side g l → RunAgrees side g l all) → RunAgrees side h log (turn ∷ all)
       by false e again =

@@ -137,7 +137,10 @@ gives _ = false
 member-passes : (s : ℕ) → Passes (member_by s) None
 member-passes s = record {
   aside = record { polled = refl; started = λ r i. refl; response = λ a i. refl; over = refl; failed = refl };
-  unsent = λ i c. refl; priority = λ i p. refl; given_up = λ i. refl; rejected = λ t. refl;
+  unsent = λ i c. refl;
+  priority = λ i p. refl;
+  given_up = λ i. refl;
+  rejected = λ t. refl;
 }
 
 no-member : (side : Side) (h : History) (c : Call) (s : ℕ) (r : Reply) → gives r ≡ false → member_by s (record_of side h c r) ≡ None

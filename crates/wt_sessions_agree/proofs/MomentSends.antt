@@ -48,7 +48,7 @@ all-append : (side : Side) (h : History) (before xs ys : List Finding) → actio
 all-append side h before [] ys = ap (λ (l : List Finding). actions_for_all side h l ys) (sym (append-nil before))
 all-append side h before (x ∷ xs) ys =
     ap (λ (l : List Action). actions_for side h before x ++ l)
-        (all-append side h (before ++ x ∷ []) xs ys ∙ ap (λ (l : List Finding). actions_for_all side h (before ++ x ∷ []) xs ++ actions_for_all side h l ys) (sym (cons-append before x xs)))
+    (all-append side h (before ++ x ∷ []) xs ys ∙ ap (λ (l : List Finding). actions_for_all side h (before ++ x ∷ []) xs ++ actions_for_all side h l ys) (sym (cons-append before x xs)))
     ∙ sym (append_assoc (actions_for side h before x) (actions_for_all side h (before ++ x ∷ []) xs) (actions_for_all side h (before ++ x ∷ xs) ys))
 
 -- a fault alone closes
@@ -236,7 +236,7 @@ module _ (side : Side) (h : History) (t : TransportView) (calls : CallView) (off
   step-sends found xs table later own e n a q =
       all-append side h [] found xs
       ∙ ap (λ (l : List Action). l ++ actions_for_all side h found xs)
-          (e ∙ ap (λ (o : Option ErrorCode). base ++ (table.progress.actions ++ close_actions o)) n ∙ ap (λ (l : List Action). base ++ l) (append-nil table.progress.actions))
+      (e ∙ ap (λ (o : Option ErrorCode). base ++ (table.progress.actions ++ close_actions o)) n ∙ ap (λ (l : List Action). base ++ l) (append-nil table.progress.actions))
       ∙ ap (λ (l : List Action). (base ++ table.progress.actions) ++ l) q
       ∙ append_assoc base table.progress.actions (own ++ close_actions later.progress.fault)
       ∙ ap (λ (l : List Action). base ++ l) (sym (append_assoc table.progress.actions own (close_actions later.progress.fault))
@@ -248,7 +248,7 @@ module _ (side : Side) (h : History) (t : TransportView) (calls : CallView) (off
       → actions_for side h found (Classified k w (consequence t (dispatched_streams calls table) k w).admitted) ≡ (consequence t (dispatched_streams calls table) k w).actions
   ripe-acts found table k (verdicts.WebTransport session o) g b p r =
       rw (gone-agrees h calls found table session s.calls b)
-          (by (is_gone h found session) (has_room (dispatched_streams calls table) session (map (λ (w : tables.Waiting). w.session) (tables.waiting_streams calls table))) refl)
+      (by (is_gone h found session) (has_room (dispatched_streams calls table) session (map (λ (w : tables.Waiting). w.session) (tables.waiting_streams calls table))) refl)
     where
       by : (x y : Bool) → is_gone h found session ≡ x → actions_for side h found (Classified k (verdicts.WebTransport session o) (admit_or_stop x y k).admitted) ≡ (admit_or_stop x y k).actions
       by true y e = rw e refl
@@ -382,9 +382,9 @@ module _ (side : Side) (h : History) (t : TransportView) (calls : CallView) (off
           ∙ ap (λ (o : Option ErrorCode). base ++ (table.progress.actions ++ close_actions o)) n ∙ ap (λ (l : List Action). base ++ (l ++ close_actions later.progress.fault)) (sym e)
       by None f =
           let n : later.progress.fault ≡ fault_of (more side h cs found)
-                =
-                    sym holds.fault ∙ ap fault_of (checks-add side h cs found) ∙ first_of-append fault_in found (more side h cs found)
-                    ∙ ap (λ (o : Option ErrorCode). option_or o (fault_of (more side h cs found))) f in
+          =
+          sym holds.fault ∙ ap fault_of (checks-add side h cs found) ∙ first_of-append fault_in found (more side h cs found)
+          ∙ ap (λ (o : Option ErrorCode). option_or o (fault_of (more side h cs found))) f in
           subst (λ (l : List Finding). Sends l later) (sym (checks-add side h cs found))
           (step-sends found (more side h cs found) table later [] keep.sends (sym keep.holds.fault ∙ f) (e ∙ sym (append-nil table.progress.actions))
           (quiet-more side h cs q found f ∙ ap close_actions (sym n)))
@@ -411,13 +411,13 @@ pub moment-sends : (side : Side) (h : History) (t : TransportView) (calls : Call
 moment-sends side h t calls offset s Good kept alike fresh found table o g holds f =
     let base : List Action = actions_for_all side h [] found in
     let begun : Keeps side h t calls offset s Good kept alike fresh base found (on_progress with_no_actions table) = record {
-          holds = record { classified = holds.classified; datagrams = holds.datagrams; closed = holds.closed; looked_at = holds.looked_at; settings = holds.settings; fault = holds.fault };
-          sends = sym (append-nil base) ∙ ap (λ (o : Option ErrorCode). base ++ ([] ++ close_actions o)) (sym f ∙ holds.fault);
-          good = g;
-        } in
+      holds = record { classified = holds.classified; datagrams = holds.datagrams; closed = holds.closed; looked_at = holds.looked_at; settings = holds.settings; fault = holds.fault };
+      sends = sym (append-nil base) ∙ ap (λ (o : Option ErrorCode). base ++ ([] ++ close_actions o)) (sym f ∙ holds.fault);
+      good = g;
+    } in
     let k = moment-keeps side h t calls offset s (Keeps side h t calls offset s Good kept alike fresh base) (moment-kept side h t calls offset s Good kept alike fresh base) found table o begun in
     let xs : List Finding = more side h (checks side h) found in
     let after : StreamTable = scan_order t calls table in
     let all : base ++ actions_for_all side h found xs ≡ base ++ (after.progress.actions ++ close_actions after.progress.fault)
-          = sym (all-append side h [] found xs) ∙ ap (actions_for_all side h []) (sym (checks-add side h (checks side h) found)) ∙ k.sends in
+    = sym (all-append side h [] found xs) ∙ ap (actions_for_all side h []) (sym (checks-add side h (checks side h) found)) ∙ k.sends in
     sym (drop-append_seam base (actions_for_all side h found xs)) ∙ ap (drop (length base)) all ∙ drop-append_seam base (after.progress.actions ++ close_actions after.progress.fault)

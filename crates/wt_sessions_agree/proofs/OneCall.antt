@@ -280,5 +280,5 @@ module _ (side : Side) (offset : ℕ → ℕ) (h : History) (log : Log) (x : Sta
       by (Some id) e =
           let r : mine.reply ≡ replies.Session id = session-reply mine.reply id e in
           agrees (with-offset id (part_start side h id) offset) (λ log2 called. sessions-session side offset h log x hist c lawful log2 called id r)
-              (order-session side offset h log x hist c lawful now called-now id r)
+          (order-session side offset h log x hist c lawful now called-now id r)
           (λ o d. absurd (let t = gives-idle id e in cc (sym t ∙ d)))

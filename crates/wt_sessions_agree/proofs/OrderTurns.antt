@@ -81,7 +81,10 @@ order-plain side offset h log hist x turn plain lawful xs log2 called = record {
 receive-passes : (n : ℕ) → Passes (drivers.receives n) false
 receive-passes n = record {
   aside = record { polled = refl; started = λ r i. refl; response = λ a i. refl; over = refl; failed = refl };
-  unsent = λ i c. refl; priority = λ i p. refl; given_up = λ i. refl; rejected = λ s. refl;
+  unsent = λ i c. refl;
+  priority = λ i p. refl;
+  given_up = λ i. refl;
+  rejected = λ s. refl;
 }
 
 received-by : (side : Side) (h : History) (c : Call) (n : ℕ) (reply : Reply) → is_payload reply ≡ false → drivers.receives n (record_of side h c reply) ≡ false
@@ -167,7 +170,7 @@ module _ (side : Side) (offset : ℕ → ℕ) (h : History) (log : Log) (x : Sta
   same-begins : (k : ℕ) → begins_at after (findings side h) k ≡ begins_at h (findings side h) k
   same-begins k =
       ap (λ (es : List Event). unwrap_or (after_request (verdict_of (findings side h) k)) (after_response (response_walk_of (contents after k) (end_of es k))))
-          (called-events h c (next side h (turns.Call c)))
+      (called-events h c (next side h (turns.Call c)))
       ∙ ap (λ (bytes : List ℕ). unwrap_or (after_request (verdict_of (findings side h) k)) (after_response (response_walk_of bytes (end_of (events h) k))))
       (called-contents h c (next side h (turns.Call c)) k)
 

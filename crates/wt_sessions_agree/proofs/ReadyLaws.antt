@@ -90,8 +90,8 @@ module _ (side : Side) (h : History) (o : is_open h ≡ true) (r : ready-of side
       by true e =
           let i : id ≡ local_uni side = eqb-true id (local_uni side) e in
           let c : nat_le (credit (events h) (local_uni side)) total ≡ true
-                = ap (λ (es : List Event). nat_le (credit es (local_uni side)) total) all-same ∙ ap (λ (k : ℕ). nat_le (credit (all_events h) k) total) (sym i)
-                ∙ rises (is_connected (all_events h)) (not (is_lost h)) (can_send side h id) (nat_le (credit (all_events h) id) total) (nat_lt total (2 ^ 62)) l in
+          = ap (λ (es : List Event). nat_le (credit es (local_uni side)) total) all-same ∙ ap (λ (k : ℕ). nat_le (credit (all_events h) k) total) (sym i)
+          ∙ rises (is_connected (all_events h)) (not (is_lost h)) (can_send side h id) (nat_le (credit (all_events h) id) total) (nat_lt total (2 ^ 62)) l in
           rw e (three (is_connected (events h)) (nat_le 1 (unis_allowed (events h))) (nat_le 25 total) connected allowed (le-more 25 (credit (events h) (local_uni side)) total covered c))
   grows _ l = r
 

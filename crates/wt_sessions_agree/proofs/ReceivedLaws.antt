@@ -126,11 +126,14 @@ early-more : (h after : History) (calls calls2 : CallView) → ((n : ℕ) → ca
 early-more h after calls calls2 e more [] all = refl
 early-more h after calls calls2 e more (d ∷ ds) all =
     let f : (is_left calls2 d || is_established after d.session) ≡ true
-        = ap (λ (b : Bool). not b || is_established after d.session) (e d.index)
-        ∙ by (is_left calls d) (is_established h d.session) refl
-        (and-left (is_left calls d || is_established h d.session) (list_all (λ (d : Admitted). is_left calls d || is_established h d.session) ds) all) in
-    rw (f, early-more h after calls calls2 e more ds (and-right (is_left calls d || is_established h d.session)
-        (list_all (λ (d : Admitted). is_left calls d || is_established h d.session) ds) all)) refl
+    = ap (λ (b : Bool). not b || is_established after d.session) (e d.index)
+    ∙ by (is_left calls d) (is_established h d.session) refl
+    (and-left (is_left calls d || is_established h d.session) (list_all (λ (d : Admitted). is_left calls d || is_established h d.session) ds) all) in
+    rw (
+      f,
+      early-more h after calls calls2 e more ds (and-right (is_left calls d || is_established h d.session)
+          (list_all (λ (d : Admitted). is_left calls d || is_established h d.session) ds) all),
+    ) refl
   where
     by : (a b : Bool) → is_established h d.session ≡ b → (a || b) ≡ true → (a || is_established after d.session) ≡ true
     by true b q r = refl
@@ -310,11 +313,14 @@ module _ (h after : History) (calls calls2 : CallView) (found : List Finding) (s
   early-one [] f all = refl
   early-one (x ∷ xs) f all =
       let now : (is_left calls2 x || is_established after x.session) ≡ true
-          = ap (λ (b : Bool). b || is_established after x.session) (left-is x) ∙ ap (λ (b : Bool). (not (has-index d.index x) && is_left calls x) || b) (same x.session)
-          ∙ by (has-index d.index x) (is_left calls x) (and-left (fits-it d.index s x) (list_all (fits-it d.index s) xs) f)
-          (and-left (is_left calls x || is_established h x.session) (list_all (λ (x : Admitted). is_left calls x || is_established h x.session) xs) all) in
-      rw (now, early-one xs (and-right (fits-it d.index s x) (list_all (fits-it d.index s) xs) f)
-          (and-right (is_left calls x || is_established h x.session) (list_all (λ (x : Admitted). is_left calls x || is_established h x.session) xs) all)) refl
+      = ap (λ (b : Bool). b || is_established after x.session) (left-is x) ∙ ap (λ (b : Bool). (not (has-index d.index x) && is_left calls x) || b) (same x.session)
+      ∙ by (has-index d.index x) (is_left calls x) (and-left (fits-it d.index s x) (list_all (fits-it d.index s) xs) f)
+      (and-left (is_left calls x || is_established h x.session) (list_all (λ (x : Admitted). is_left calls x || is_established h x.session) xs) all) in
+      rw (
+        now,
+        early-one xs (and-right (fits-it d.index s x) (list_all (fits-it d.index s) xs) f)
+            (and-right (is_left calls x || is_established h x.session) (list_all (λ (x : Admitted). is_left calls x || is_established h x.session) xs) all),
+      ) refl
     where
       by : (a b : Bool) → (not a || is_of s x) ≡ true → (b || is_established h x.session) ≡ true → ((not a && b) || is_established h x.session) ≡ true
       by false b q e = e

@@ -73,7 +73,10 @@ module _ {T : Type 0} (ask : CallRecord → T) (none : T) where
 accept-passes : (k : ℕ) → Passes (accepts_stream k) false
 accept-passes k = record {
   aside = record { polled = refl; started = λ r i. refl; response = λ a i. refl; over = refl; failed = refl };
-  unsent = λ i c. refl; priority = λ i p. refl; given_up = λ i. refl; rejected = λ s. refl;
+  unsent = λ i c. refl;
+  priority = λ i p. refl;
+  given_up = λ i. refl;
+  rejected = λ s. refl;
 }
 
 pub accepted-by : (side : Side) (h : History) (c : Call) (k : ℕ) (reply : Reply) → accepts_stream k (record_of side h c reply) ≡ hands_out k reply
@@ -92,7 +95,10 @@ accepted-by side h c k reply = refl
 deliver-passes : Passes requested_by None
 deliver-passes = record {
   aside = record { polled = refl; started = λ r i. refl; response = λ a i. refl; over = refl; failed = refl };
-  unsent = λ i c. refl; priority = λ i p. refl; given_up = λ i. refl; rejected = λ s. refl;
+  unsent = λ i c. refl;
+  priority = λ i p. refl;
+  given_up = λ i. refl;
+  rejected = λ s. refl;
 }
 
 pub requested-by : (side : Side) (h : History) (c : Call) (reply : Reply) → requested_by (record_of side h c reply) ≡ request_in reply
@@ -109,7 +115,10 @@ requested-by side h c reply = refl
 establish-passes : Passes establishes None
 establish-passes = record {
   aside = record { polled = refl; started = λ r i. refl; response = λ a i. refl; over = refl; failed = refl };
-  unsent = λ i c. refl; priority = λ i p. refl; given_up = λ i. refl; rejected = λ s. refl;
+  unsent = λ i c. refl;
+  priority = λ i p. refl;
+  given_up = λ i. refl;
+  rejected = λ s. refl;
 }
 
 pub established-by : (side : Side) (h : History) (c : Call) (reply : Reply) → establishes (record_of side h c reply) ≡ session_in reply

@@ -265,7 +265,7 @@ module _ (side : Side) (h : History) (kind : ℕ) (small : kind < 4) where
       by j false e =
           let m : verdict_in j (finds.Classified k v b) ≡ None = rw e refl in
           ap (λ (b : Bool). not b && is_incomplete (verdict h j))
-              (classified-append found (finds.Classified k v b) j ∙ ap (λ (o : Option Verdict). is_classified found j || is_some o) m ∙ or-false (is_classified found j))
+          (classified-append found (finds.Classified k v b) j ∙ ap (λ (o : Option Verdict). is_classified found j || is_some o) m ∙ or-false (is_classified found j))
   still-kept i c found _ (Reads n s piece payload b e) t = plain-more found (DatagramRead n s payload b) i refl (plain-stuck found (DatagramRead n s payload b) (λ j. refl)) t
   still-kept i c found _ (Closes s code reason b) t = plain-more found (SessionClosed s code reason b) i refl (plain-stuck found (SessionClosed s code reason b) (λ j. refl)) t
   still-kept i c found _ Settles t = plain-more found SettingsRead i refl (plain-stuck found SettingsRead (λ j. refl)) t

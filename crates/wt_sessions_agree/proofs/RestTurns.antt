@@ -59,7 +59,7 @@ findings-once : (side : Side) (p : Pair) (h : History) → IsHistory side (p ∷
 unfolding findings
 findings-once side p h i o =
     ap (λ (b : Bool). if b then after_moments side (p ∷ h) p.answer.reply (findings side h) else findings side h) o
-        ∙ moments-once side (p ∷ h) p.answer.reply (findings side h) (known-before side p h i)
+    ∙ moments-once side (p ∷ h) p.answer.reply (findings side h) (known-before side p h i)
 
 first-rest : (side : Side) → AtRest side [] (findings side [])
 unfolding findings

@@ -112,7 +112,7 @@ module _ (side : Side) (offset : ℕ → ℕ) (h : History) (log : Log) (x : Sta
       → handshakes.continue_connect side log reserved head ≡ effect_of side h log calls.Handshake (first_row (poll_rows side h (Some c)))
   connecting-on s q reserved head c e i =
       subst (λ (s : Side). Stands s offset h log → EndsAgree s h log → handshakes.continue_connect s log reserved head ≡ effect_of s h log calls.Handshake (first_row (poll_rows s h (Some c))))
-          (sym (ends.connects reserved head e))
+      (sym (ends.connects reserved head e))
       (λ y z. connecting offset h log y z reserved head c i) x ends
 
   poll-by : (state : HandshakeState) (begun : Option Call) → handshake_state (calls_of log) ≡ state → BegunAgrees state begun → is_continuable state ≡ true

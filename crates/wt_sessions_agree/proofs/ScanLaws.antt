@@ -112,10 +112,10 @@ pub ripe-table : (found : List Finding) (table : StreamTable) (k : ℕ) (w : Ver
     → IsTable ((found ++ finds.Classified k w b ∷ []) ++ faults_of o) (with_classified k w (record { admitted = b; actions = xs; fault = o }) table)
 ripe-table found table k w b xs None f t =
     subst (λ (l : List Finding). IsTable l (with_classified k w (record { admitted = b; actions = xs; fault = None }) table)) (sym (append-nil (found ++ finds.Classified k w b ∷ [])))
-        (ripe-fields found table k w b xs t)
+    (ripe-fields found table k w b xs t)
 ripe-table found table k w b xs (Some c) f t =
     fault-fields (found ++ finds.Classified k w b ∷ []) (with_classified k w (record { admitted = b; actions = xs; fault = None }) table) c
-        (first-append fault_in found (finds.Classified k w b) ∙ or-none (fault_of found) ∙ f) (ripe-fields found table k w b xs t)
+    (first-append fault_in found (finds.Classified k w b) ∙ or-none (fault_of found) ∙ f) (ripe-fields found table k w b xs t)
 
 -- ---- the scan
 
@@ -281,7 +281,7 @@ module _ (side : Side) (h : History) (t : TransportView) (calls : CallView) (v :
       → Keeps (after_checks side h (Classify (4 * m + kind) ∷ stream_checks (ids_from kind (suc m) count)) later) (scan t calls v n (filter (unripe found) (ids_from kind m (suc count))) table)
   stays count m n p found later table g again e q s =
       let l : after_checks side h (Classify (4 * m + kind) ∷ stream_checks (ids_from kind (suc m) count)) later ≡ after_checks side h (stream_checks (ids_from kind (suc m) count)) later
-            = check-step side h (Classify (4 * m + kind)) _ later [] g.none e ∙ ap (after_checks side h (stream_checks (ids_from kind (suc m) count))) (append-nil later) in
+      = check-step side h (Classify (4 * m + kind)) _ later [] g.none e ∙ ap (after_checks side h (stream_checks (ids_from kind (suc m) count))) (append-nil later) in
       let u : filter (unripe later) (ids_from kind (suc m) count)
       ≡ filter (unripe found) (ids_from kind (suc m) count) = filter-ids (unripe later) (unripe found) kind (suc m) count (λ i a b. ap not (g.ripe (4 * i + kind))) in
       let c : unsettled later (suc m) ≡ unsettled found (suc m) = ap length (filter-ids (unripe later) (unripe found) kind 0 (suc m) (λ i a b. ap not (g.ripe (4 * i + kind)))) in
@@ -301,23 +301,23 @@ module _ (side : Side) (h : History) (t : TransportView) (calls : CallView) (v :
       ≡ finds.Classified (4 * m + kind) w c.admitted ∷ faults_of c.fault = rw
       (admits later table (4 * m + kind) w (kept.table later table g.holds), faults-agree t calls later table (4 * m + kind) w (kept.table later table g.holds)) refl in
       let l : after_checks side h (Classify (4 * m + kind) ∷ stream_checks (ids_from kind (suc m) count)) later ≡ after_checks side h (stream_checks (ids_from kind (suc m) count)) more
-            =
-                check-step side h (Classify (4 * m + kind)) _ later (finds.Classified (4 * m + kind) w c.admitted ∷ faults_of c.fault) g.none (e ∙ x)
-                ∙ ap (after_checks side h (stream_checks (ids_from kind (suc m) count))) (cons-append later (finds.Classified (4 * m + kind) w c.admitted) (faults_of c.fault)) in
+      =
+      check-step side h (Classify (4 * m + kind)) _ later (finds.Classified (4 * m + kind) w c.admitted ∷ faults_of c.fault) g.none (e ∙ x)
+      ∙ ap (after_checks side h (stream_checks (ids_from kind (suc m) count))) (cons-append later (finds.Classified (4 * m + kind) w c.admitted) (faults_of c.fault)) in
       let u : filter (unripe more) (ids_from kind (suc m) count) ≡ filter (unripe found) (ids_from kind (suc m) count)
-            =
-                filter-ids (unripe more) (unripe found) kind (suc m) count
-                (λ i a b. ap not (others m i later w c.admitted c.fault (apart m i (λ r. absurd (omega (arith, r, a)))) ∙ g.ripe (4 * i + kind))) in
+      =
+      filter-ids (unripe more) (unripe found) kind (suc m) count
+      (λ i a b. ap not (others m i later w c.admitted c.fault (apart m i (λ r. absurd (omega (arith, r, a)))) ∙ g.ripe (4 * i + kind))) in
       let z : unsettled more m ≡ unsettled found m
-            =
-                ap length (filter-ids (unripe more) (unripe found) kind 0 m
-                (λ i a b. ap not (others m i later w c.admitted c.fault (apart m i (λ r. absurd (omega (arith, r, b)))) ∙ g.ripe (4 * i + kind)))) in
+      =
+      ap length (filter-ids (unripe more) (unripe found) kind 0 m
+      (λ i a b. ap not (others m i later w c.admitted c.fault (apart m i (λ r. absurd (omega (arith, r, b)))) ∙ g.ripe (4 * i + kind)))) in
       let i0 : 0 + m ≡ m = omega arith in
       let o : unsettled more (suc m) ≡ unsettled found m
-            = ids-more (unripe more) kind 0 m ∙ ap (λ (i : ℕ). unsettled more m + one-if (unripe more (4 * i + kind))) i0 ∙ rw (itself m later w c.admitted c.fault) (omega (arith, z)) in
+      = ids-more (unripe more) kind 0 m ∙ ap (λ (i : ℕ). unsettled more m + one-if (unripe more (4 * i + kind))) i0 ∙ rw (itself m later w c.admitted c.fault) (omega (arith, z)) in
       rw (l, s, sym u) (again n more (with_classified (4 * m + kind) w c table) (q ∙ ap (λ (y : ℕ). 4 - y) (sym o))
-          (few-fault (later ++ finds.Classified (4 * m + kind) w c.admitted ∷ []) c.fault (few-ripe later (4 * m + kind) w c.admitted g.few))
-          (kept.ripe m later table w g.none dequeued (g.ripe (4 * m + kind) ∙ unripe-now) shows g.holds))
+      (few-fault (later ++ finds.Classified (4 * m + kind) w c.admitted ∷ []) c.fault (few-ripe later (4 * m + kind) w c.admitted g.few))
+      (kept.ripe m later table w g.none dequeued (g.ripe (4 * m + kind) ∙ unripe-now) shows g.holds))
 
   -- what the verdict of a stream that is taken leads to
   decided : (count m n p : ℕ) (found later : List Finding) (table : StreamTable) → Took m found later table → Again count m → is_classified found (4 * m + kind) ≡ false
@@ -391,7 +391,7 @@ module _ (side : Side) (h : History) (t : TransportView) (calls : CallView) (v :
           let tk : is_dequeued later (4 * m + kind) ≡ false = g.taken ∙ rw (d, el) refl in
           stays count m n 0 found later table g again (ripen-none later (4 * m + kind) (ap (λ (x : Bool). x && not (is_classified later (4 * m + kind))) tk))
           (z.1 ∙ ap (λ (x : ℕ). 4 - x) (sym (more false e)))
-              (ap (λ (x : ℕ). scan t calls v x (filter (unripe found) (ids_from kind m (suc count))) table) z.0 ∙ scan-zero t calls v _ table ∙ sym (scan-zero t calls v _ table))
+          (ap (λ (x : ℕ). scan t calls v x (filter (unripe found) (ids_from kind m (suc count))) table) z.0 ∙ scan-zero t calls v _ table ∙ sym (scan-zero t calls v _ table))
         where
           untaken : (x : Bool) → is_dequeued found (4 * m + kind) ≡ x → is_classified found (4 * m + kind) ≡ false → nat_lt (unsettled found m) 4 ≡ false → x ≡ false
           untaken false p r l = refl
@@ -409,8 +409,11 @@ module _ (side : Side) (h : History) (t : TransportView) (calls : CallView) (v :
       by : (o : Option ErrorCode) → fault_of found ≡ o → Again count m
           → Keeps (after_checks side h (stream_checks (ids_from kind m (suc count))) found) (scan t calls v n (filter (unripe found) (ids_from kind m (suc count))) table)
       by (Some c) e again =
-          rw (checks-faulty side h (stream_checks (ids_from kind m (suc count))) found c e, scan-faulty t calls v n (filter (unripe found) (ids_from kind m (suc count))) table c
-          (sym (kept.table found table holds).fault ∙ e)) holds
+          rw (
+            checks-faulty side h (stream_checks (ids_from kind m (suc count))) found c e,
+            scan-faulty t calls v n (filter (unripe found) (ids_from kind m (suc count))) table c
+                (sym (kept.table found table holds).fault ∙ e),
+          ) holds
       by None e again = rw (check-step side h (Dequeue (4 * m + kind)) (Classify (4 * m + kind) ∷ stream_checks (ids_from kind (suc m) count)) found (dequeuing side h found (4 * m + kind)) e refl)
           (after-took count m n found (found ++ dequeuing side h found (4 * m + kind)) table (took m found table e few holds) again few q)
 

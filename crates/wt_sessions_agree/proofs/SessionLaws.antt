@@ -98,8 +98,8 @@ module _ (side : Side) (h : History) (t : TransportView) (calls : CallView) (off
       let none : table.progress.fault ≡ None = sym (kept.table found table holds).fault ∙ f in
       let gone : tables.is_gone calls table k ≡ true = gone-agrees h calls found table k c (kept.table found table holds) ∙ q in
       let s : check_each t calls (record { id = k; offset = offset k } ∷ filter_map (session_at h offset) ids) table ≡ check_each t calls (filter_map (session_at h offset) ids) table
-            = ap (λ (o : Option ErrorCode). unless_ended o (λ u. check_each t calls (filter_map (session_at h offset) ids) (check_living t calls (record { id = k; offset = offset k }) u)) table) none
-            ∙ ap (λ (o : Bool). check_each t calls (filter_map (session_at h offset) ids) (if o then table else check_session t calls k (drop (offset k) (t.contents k)) (t.end k) table)) gone in
+      = ap (λ (o : Option ErrorCode). unless_ended o (λ u. check_each t calls (filter_map (session_at h offset) ids) (check_living t calls (record { id = k; offset = offset k }) u)) table) none
+      ∙ ap (λ (o : Bool). check_each t calls (filter_map (session_at h offset) ids) (if o then table else check_session t calls k (drop (offset k) (t.contents k)) (t.end k) table)) gone in
       rw s (skips k ids found (filter_map (session_at h offset) ids) table f (rw (e, q) refl) (again found table b holds))
   established k ids found table e f again b holds false q =
       let none : table.progress.fault ≡ None = sym (kept.table found table holds).fault ∙ f in
@@ -108,10 +108,10 @@ module _ (side : Side) (h : History) (t : TransportView) (calls : CallView) (off
       let walk : SessionWalk = session_walk_of (drop (offset k) (contents h k)) (end_of (events h) k) in
       let s : check_each t calls (record { id = k; offset = offset k } ∷ filter_map (session_at h offset) ids) table
       ≡ check_each t calls (filter_map (session_at h offset) ids) (session_walked t calls k capsule walk table)
-            = ap (λ (o : Option ErrorCode). unless_ended o (λ u. check_each t calls (filter_map (session_at h offset) ids) (check_living t calls (record { id = k; offset = offset k }) u)) table) none
-            ∙ ap (check_each t calls (filter_map (session_at h offset) ids)) (ap (λ (o : Bool). if o then table else check_session t calls k (drop (offset k) (t.contents k)) (t.end k) table) gone
-            ∙ ap (λ (bytes : List ℕ). session_walked t calls k (is_over (session_walk_of bytes ends.Running)) (session_walk_of bytes (t.end k)) table) (ap (drop (offset k)) (g.contents k))
-            ∙ ap (λ (e : StreamEnd). session_walked t calls k capsule (session_walk_of (drop (offset k) (contents h k)) e) table) (g.end k)) in
+      = ap (λ (o : Option ErrorCode). unless_ended o (λ u. check_each t calls (filter_map (session_at h offset) ids) (check_living t calls (record { id = k; offset = offset k }) u)) table) none
+      ∙ ap (check_each t calls (filter_map (session_at h offset) ids)) (ap (λ (o : Bool). if o then table else check_session t calls k (drop (offset k) (t.contents k)) (t.end k) table) gone
+      ∙ ap (λ (bytes : List ℕ). session_walked t calls k (is_over (session_walk_of bytes ends.Running)) (session_walk_of bytes (t.end k)) table) (ap (drop (offset k)) (g.contents k))
+      ∙ ap (λ (e : StreamEnd). session_walked t calls k capsule (session_walk_of (drop (offset k) (contents h k)) e) table) (g.end k)) in
       let part : session_part h found k ≡ drop (offset k) (contents h k) = ap (λ (n : ℕ). drop n (contents h k)) (b k e) in
       let x : closing h found k ≡ session_found k capsule walk = rw (e, q, part) refl in
       rw (s, check-step side h (WalkSession k) (map WalkSession ids) found (session_found k capsule walk) f x)

@@ -191,7 +191,7 @@ module _ (side : Side) (offset : ℕ → ℕ) (h : History) (log : Log) (x : Sta
         others : (k : ℕ) → (k == id) ≡ false → session_at after (with-offset id (part_start side h id) offset) k ≡ session_at h offset k
         others k q =
             ap (λ (b : Bool). if b then Some (record { id = k; offset = if k == id then part_start side h id else offset k }) else None)
-                (now k ∙ ap (λ (b : Bool). b || is_established h k) (swapped k id q))
+            (now k ∙ ap (λ (b : Bool). b || is_established h k) (swapped k id q))
             ∙ ap (λ (b : Bool). if is_established h k then Some (record { id = k; offset = if b then part_start side h id else offset k }) else None) q
 
         new : session_at after (with-offset id (part_start side h id) offset) id ≡ Some y

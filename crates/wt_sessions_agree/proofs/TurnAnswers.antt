@@ -57,9 +57,14 @@ turn-agrees-by side offset h log x hist turn s l sent o table orderly members =
     let e : step side h turn ≡ with_pair h turn (answer replies.Done (join_all [] (sends-now side h turn))) = ap (with_pair h turn) (done-next side h turn s) in
     record {
       same = turn-same side h log turn s sent;
-      after = (offset, (l, refl, hist), members, subst (λ (g : History). Stands side offset g (log_after side log turn)) (sym e)
-          (turn-keeps side offset h log x turn s (sends-now side h turn) sent
-          (subst (λ (g : History). is_open g ≡ logs.is_open (log_after side log turn)) e o)
-          (subst (λ (g : History). IsTable (findings side g) (stream_table side (log_after side log turn))) e table)
-          (subst (λ (g : History). Orderly side g (call_view (log_after side log turn)) offset (findings side g)) e orderly)));
+      after = (
+        offset,
+        (l, refl, hist),
+        members,
+        subst (λ (g : History). Stands side offset g (log_after side log turn)) (sym e)
+            (turn-keeps side offset h log x turn s (sends-now side h turn) sent
+            (subst (λ (g : History). is_open g ≡ logs.is_open (log_after side log turn)) e o)
+            (subst (λ (g : History). IsTable (findings side g) (stream_table side (log_after side log turn))) e table)
+            (subst (λ (g : History). Orderly side g (call_view (log_after side log turn)) offset (findings side g)) e orderly)),
+      );
     }

@@ -202,7 +202,7 @@ next-datagram side offset h log s x = by (is_session_gone side log s) refl
         rw (gone-is side offset h log s x, g, n) refl
     by false g =
         rw (gone-is side offset h log s x, g) (ap (first_of (λ (d : ℕ × List ℕ). Some d.1)) (waiting-pairs side h s) ∙ first-pairs (left_datagrams side h s)
-            ∙ ap payload-of (sym (next-left side offset h log s x g)))
+        ∙ ap payload-of (sym (next-left side offset h log s x g)))
 
 -- its index
 index-of : (ds : List Admitted) (d : Admitted) → first_of (λ (d : Admitted). Some d) ds ≡ Some d → first_of (λ (d : Admitted). Some d.index) ds ≡ Some d.index

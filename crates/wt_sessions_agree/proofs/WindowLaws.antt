@@ -103,9 +103,9 @@ admits-agree h t calls c found table k (verdicts.WebTransport s o) b =
     by false false = refl
 admits-agree h t calls c found table k (verdicts.Request f o) b =
     let q : length (filter (λ (k : ℕ). not (tables.is_gone calls table k)) (filter_map queued_id table.classified)) ≡ held_requests h found
-          =
-              ap (λ (cs : List Classified). length (filter (λ (k : ℕ). not (tables.is_gone calls table k)) (filter_map queued_id cs))) (sym b.classified)
-              ∙ held-count (is_gone h found) (tables.is_gone calls table) (λ s. gone-agrees h calls found table s c b) found in
+    =
+    ap (λ (cs : List Classified). length (filter (λ (k : ℕ). not (tables.is_gone calls table k)) (filter_map queued_id cs))) (sym b.classified)
+    ∙ held-count (is_gone h found) (tables.is_gone calls table) (λ s. gone-agrees h calls found table s c b) found in
     rw q (by (nat_lt (held_requests h found) 4) _ _ refl refl)
   where
     by : (x : Bool) (y z : Consequence) → y.admitted ≡ true → z.admitted ≡ false → (cond x y z).admitted ≡ x
