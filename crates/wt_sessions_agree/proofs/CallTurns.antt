@@ -16,7 +16,7 @@ use Rattle.wt_sessions.specs.Answers as answers
 use Rattle.wt_sessions.specs.Driver.{call_view, is_moment, pending_actions, stream_table, transport_view}
 use Rattle.wt_sessions.specs.Effect.{Effect, log_call}
 use Rattle.wt_sessions_agree.proofs.AnswerLaws.{answer-agrees, called-actions, sent-then}
-use Rattle.wt_sessions_agree.proofs.EntryTurns.{closes-alike, ended-acted}
+use Rattle.wt_sessions_agree.proofs.EntryTurns.{closed-more, closes-alike, ended-acted}
 use Rattle.wt_sessions_agree.proofs.MomentAgrees.{moment-agrees}
 use Rattle.wt_sessions_agree.proofs.OrderlyLaws.{orderly-checks}
 use Rattle.wt_sessions_agree.proofs.RestTurns.{moments-once}
@@ -83,16 +83,6 @@ module _ (side : Side) (offset : ℕ → ℕ) (h : History) (log : Log) (x : Sta
   pub at-open : is_open with_own ≡ logs.is_open at
   at-open = own-alike h log c own at x.came.openness at-ends
 
-  -- an open connection was open before
-  open-before : is_open with_own ≡ true → is_open h ≡ true
-  open-before o = by (list_any closes own.actions) (list_any ends_by h) o
-    where
-      by : (a b : Bool) → not ((false || a) || b) ≡ true → not b ≡ true
-      by false false e = refl
-      by false true e = absurd (cc e)
-      by true false e = absurd (cc e)
-      by true true e = absurd (cc e)
-
   -- what goes out at the moment
   pub sent-same : (is_open with_own ≡ true → pending_actions side at ≡ moment_actions side with_own) → sent-then side at ≡ moment_actions side with_own
   sent-same pending = by (is_open with_own) refl
@@ -140,16 +130,9 @@ module _ (side : Side) (offset : ℕ → ℕ) (h : History) (log : Log) (x : Sta
         subst (λ (found : List Finding). IsTable found (stream_table side later)) (sym (found-one side (record { turn = turns.Call c; answer = own }) h orderly.known o ∙ idle o e))
         (subst (IsTable (findings side h)) (sym (table-same side (with_actions own.actions log) (Called left) m ∙ acted-table side own.actions log)) x.table)
     finds-by false d o e =
-        let m : (is_moment (Called left) && logs.is_open at) ≡ false = sym at-open ∙ shut in
+        let m : (is_moment (Called left) && logs.is_open at) ≡ false = sym at-open ∙ closed-more h (record { turn = turns.Call c; answer = own }) o in
         subst (λ (found : List Finding). IsTable found (stream_table side later)) (sym (found-same side (record { turn = turns.Call c; answer = own }) h o))
         (subst (IsTable (findings side h)) (sym (table-same side (with_actions own.actions log) (Called left) m ∙ acted-table side own.actions log)) x.table)
-      where
-        shut : is_open with_own ≡ false
-        shut = by (is_open with_own) refl
-          where
-            by : (b : Bool) → is_open with_own ≡ b → b ≡ false
-            by false q = refl
-            by true q = absurd (let p = open-before q in cc (sym p ∙ o))
 
     pub call-finds : IsTable (findings side (step side h (turns.Call c))) (stream_table side later)
     call-finds = subst (λ (found : List Finding). IsTable found (stream_table side later)) (sym (same-findings side h (turns.Call c))) (finds-by (is_open h) (is_open with_own) refl refl)

@@ -1,6 +1,6 @@
 -- The calls on the halves of a stream: the rows of each lead to what its ladder of tests does.
 use Rattle.std.specs.Prelude.{[], ◌+◌, ◌-◌, ◌==◌, ◌∷◌, ◌||◌, ◌≡◌, Bool, List, None, Option, Some, drop, false, if◌then◌else◌, length, nat_le, nat_lt, not, suc, take, true, zero, ℕ, ℤ}
-use Rattle.std.specs.List.{cons_option, list_any}
+use Rattle.std.specs.List.{cons_option}
 use Rattle.std.proofs.Common.{◌∙◌, ap, arith, refl, sym}
 use Rattle.std.proofs.lemmas.Bool.{eqb-true}
 use Rattle.wt_proto.specs.declared.verdict.Verdict.{Verdict}
@@ -8,6 +8,7 @@ use Rattle.wt_seam_spec.specs.Outgoing.{bytes_within_credit}
 use Rattle.wt_seam_spec.specs.Outgoing as outgoing
 use Rattle.wt_seam_spec.specs.Reports.{credit, end_of, is_acknowledged, stop_of}
 use Rattle.wt_seam_spec.specs.Sent as sends
+use Rattle.wt_promise.proofs.Opened.{open-before}
 use Rattle.wt_sessions.specs.Driver.{stream_table}
 use Rattle.wt_sessions.specs.Effect.{Effect, poll_only}
 use Rattle.wt_sessions.specs.Halves as ladders
@@ -24,7 +25,7 @@ use Rattle.wt_turn.specs.Turns.{event_of}
 use Rattle.wt_wire.specs.declared.side.Side.{Side}
 use Rattle.wt_wire.specs.declared.side.StreamEnd.{StreamEnd}
 use Rattle.wt_meaning.specs.Halves.{body_start, finish, is_done, priority, priority_of, read, read_exact, reset, stopped, unread, was_read, where_has, write, write_all}
-use Rattle.wt_meaning.specs.History.{History, all_events, contents, credit_left, ends_by, events, is_open, is_reset, out, was_finished, with_event}
+use Rattle.wt_meaning.specs.History.{History, all_events, contents, credit_left, events, is_open, is_reset, out, was_finished, with_event}
 use Rattle.wt_meaning.specs.Moments.{findings}
 use Rattle.wt_meaning.specs.Rows.{Row, first_row, row}
 use Rattle.wt_meaning.specs.Findings.{verdict_of}
@@ -42,17 +43,13 @@ pub open-events : (h : History) → is_open h ≡ true → events h ≡ all_even
 open-events [] o = refl
 open-events (p ∷ h) o = by (is_open h) refl (open-events h)
   where
-    before : (a b : Bool) → not (a || b) ≡ true → not b ≡ true
-    before true b e = absurd (cc e)
-    before false b e = e
-
     conses : (e : Option Event) (xs ys : List Event) → xs ≡ ys → with_event e xs ≡ cons_option e ys
     conses None xs ys q = q
     conses (Some e) xs ys q = ap (λ (l : List Event). e ∷ l) q
 
     by : (b : Bool) → is_open h ≡ b → (is_open h ≡ true → events h ≡ all_events h) → (if b then with_event (event_of p.turn) (events h) else events h) ≡ cons_option (event_of p.turn) (all_events h)
     by true e again = conses (event_of p.turn) (events h) (all_events h) (again e)
-    by false e again = absurd (cc (sym e ∙ before (ends_by p) (list_any ends_by h) o))
+    by false e again = absurd (cc (sym e ∙ open-before p h o))
 
 -- the same of a half
 pub record HalfAgrees (h : History) (log : Log) (k : ℕ) : Type 0 where

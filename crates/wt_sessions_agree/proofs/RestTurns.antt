@@ -160,35 +160,27 @@ module _ (side : Side) (h : History) (p : Pair) (i : IsHistory side h) (o : is_o
   idle-rest : SeesSame side h (p ∷ h) → AtRest side (p ∷ h) (findings side h)
   idle-rest same = rest-stays side h (p ∷ h) same (findings side h) old (rest-of side h i o)
 
+  abbrev ready-by : List Event → Bool
+  ready-by es = is_connected es && nat_le 1 (unis_allowed es) && nat_le 25 (credit es (local_uni side))
+
+  -- the turn brings no bytes, and these events, of which a moment asks the same
+  sees-by : (es : List Event) → events (p ∷ h) ≡ es → ((k : ℕ) → with_bytes k p.turn (contents h k) ≡ contents h k) → ready-by es ≡ ready-by (events h)
+      → ((k : ℕ) → end_of es k ≡ end_of (events h) k) → stop_of es (local_uni side) ≡ stop_of (events h) (local_uni side)
+      → ((kind : ℕ) → peer_count side es kind ≡ peer_count side (events h) kind) → datagrams_of es ≡ datagrams_of (events h) → SeesSame side h (p ∷ h)
+  sees-by es e bytes ready end stopped peers datagrams = record {
+    ready = ap ready-by e ∙ ready;
+    contents = λ k. ap (λ (b : Bool). if b then with_bytes k p.turn (contents h k) else contents h k) o ∙ bytes k;
+    end = λ k. ap (λ (es : List Event). end_of es k) e ∙ end k;
+    stopped = ap (λ (es : List Event). stop_of es (local_uni side)) e ∙ stopped;
+    peers = λ kind. ap (λ (es : List Event). peer_count side es kind) e ∙ peers kind;
+    datagrams = ap datagrams_of e ∙ datagrams;
+  }
+
   call-same : (c : Call) → p.turn ≡ turns.Call c → SeesSame side h (p ∷ h)
-  call-same c t =
-      let e : events (p ∷ h) ≡ events h = rw (o, t) refl in
-      record {
-        ready = ap (λ (es : List Event). ready-by es) e;
-        contents = λ k. ap (λ (b : Bool). if b then with_bytes k p.turn (contents h k) else contents h k) o ∙ ap (λ (turn : Turn). with_bytes k turn (contents h k)) t;
-        end = λ k. ap (λ (es : List Event). end_of es k) e;
-        stopped = ap (λ (es : List Event). stop_of es (local_uni side)) e;
-        peers = λ kind. ap (λ (es : List Event). peer_count side es kind) e;
-        datagrams = ap datagrams_of e;
-      }
-    where
-      ready-by : List Event → Bool
-      ready-by es = is_connected es && nat_le 1 (unis_allowed es) && nat_le 25 (credit es (local_uni side))
+  call-same c t = sees-by (events h) (rw (o, t) refl) (λ k. ap (λ (turn : Turn). with_bytes k turn (contents h k)) t) refl (λ k. refl) refl (λ kind. refl) refl
 
   loss-same : (reason : LossReason) → p.turn ≡ turns.Loss reason → SeesSame side h (p ∷ h)
-  loss-same reason t =
-      let e : events (p ∷ h) ≡ Loss reason ∷ events h = rw (o, t) refl in
-      record {
-        ready = ap (λ (es : List Event). ready-by es) e;
-        contents = λ k. ap (λ (b : Bool). if b then with_bytes k p.turn (contents h k) else contents h k) o ∙ ap (λ (turn : Turn). with_bytes k turn (contents h k)) t;
-        end = λ k. ap (λ (es : List Event). end_of es k) e;
-        stopped = ap (λ (es : List Event). stop_of es (local_uni side)) e;
-        peers = λ kind. ap (λ (es : List Event). peer_count side es kind) e;
-        datagrams = ap datagrams_of e;
-      }
-    where
-      ready-by : List Event → Bool
-      ready-by es = is_connected es && nat_le 1 (unis_allowed es) && nat_le 25 (credit es (local_uni side))
+  loss-same reason t = sees-by (Loss reason ∷ events h) (rw (o, t) refl) (λ k. ap (λ (turn : Turn). with_bytes k turn (contents h k)) t) refl (λ k. refl) refl (λ kind. refl) refl
 
   -- a call that establishes no session finds nothing at its moment
   pub idle-call : (c : Call) → p.turn ≡ turns.Call c → after_checks side (p ∷ h) (checks side (p ∷ h)) (findings side h) ≡ findings side h
