@@ -28,14 +28,14 @@ use Rattle.wt_wire.specs.declared.side.StreamEnd.TheVariants as ends
 -- ---- writes
 
 -- the first bytes, as many as were taken, are those that were taken
-taken : (c : ℕ) (xs : List ℕ) → take (length (take c xs)) xs ≡ take c xs
+pub taken : (c : ℕ) (xs : List ℕ) → take (length (take c xs)) xs ≡ take c xs
 taken c xs = ap (λ (n : ℕ). take n xs) (length-take c xs) ∙ take_min c xs
 
 take-none : (c : ℕ) (xs : List ℕ) → is_nothing xs ≡ true → take 0 xs ≡ take c xs
 take-none c [] e = sym (take-nil c)
 take-none c (x ∷ xs) e = absurd (cc e)
 
-all-taken : (c : ℕ) (xs : List ℕ) → length (take c xs) ≡ length xs → xs ≡ take c xs
+pub all-taken : (c : ℕ) (xs : List ℕ) → length (take c xs) ≡ length xs → xs ≡ take c xs
 all-taken c xs e = sym (take-length xs) ∙ ap (λ (n : ℕ). take n xs) (sym e) ∙ taken c xs
 
 -- what such an answer accepts

@@ -5,7 +5,7 @@ use Rattle.std.specs.Option.{option_or}
 use Rattle.std.proofs.Common.{◌∙◌, ap, arith, refl, subst, sym}
 use Rattle.std.proofs.lemmas.Bool.{eq-eqb, eqb-true}
 use Rattle.wt_meaning.specs.Findings.{first_of, settings_came}
-use Rattle.wt_meaning.specs.Handshakes.{acceptance_frame, head_left, is_refused, lacks_credit, last_begun, next_request, poll_rows, rejection, response_to, send, was_given}
+use Rattle.wt_meaning.specs.Handshakes.{last_begun, next_request, poll_rows, rejection, response_to, was_given}
 use Rattle.wt_meaning.specs.History.{History, Pair, is_open}
 use Rattle.wt_meaning.specs.Lawful.{all_answered, gives_request, has_request, is_first, is_of_request, is_pending, is_response, is_waiting, polls}
 use Rattle.wt_meaning.specs.Meaning.{next}
@@ -14,6 +14,7 @@ use Rattle.wt_meaning.specs.Rows.{first_row}
 use Rattle.wt_meaning.specs.Windows.{is_established, last_request, queued_request, request_in, requests, session_in}
 use Rattle.wt_promise.proofs.Accepted.{or-true}
 use Rattle.wt_promise.proofs.Asks.{Asks, Begins, Else, ForRequest, GoesOn, Responds, asks-of, begun-kind, of-response}
+use Rattle.wt_promise.proofs.Sessions.{accept-gives}
 use Rattle.wt_promise.proofs.Tables.{by-row, by-value, fits, fits-own, no-row, rejects-pass}
 use Rattle.wt_promise.specs.Promise.{IsHistory}
 use Rattle.wt_turn.specs.declared.answer.Answer.{Answer}
@@ -45,14 +46,7 @@ abbrev pub IsLast : History → Answer → Type 0
 IsLast h a = (s : ℕ) → session_in a.reply ≡ Some s → s ≡ unwrap_or (last_request h) 0
 
 accept-gives-last : (side : Side) (h : History) (headers : Fields) → IsLast h (first_row (response_to side h (calls.Accept headers)))
-accept-gives-last side h headers =
-    (by-row (IsLast h) (not (is_open h)) _ [] _ (λ c s e. absurd (cc e))
-    (λ c. by-row (IsLast h) (is_refused h (unwrap_or (last_request h) 0) left) _ _ _ (λ d s e. absurd (cc e))
-    (λ d. by-row (IsLast h) (lacks_credit h (unwrap_or (last_request h) 0) left) replies.Pending _ _ (λ f s e. absurd (cc e))
-    (λ f. by-row (IsLast h) true (replies.Session (unwrap_or (last_request h) 0)) (send h (unwrap_or (last_request h) 0) left) [] (λ g s e. cc e) (λ g. no-row (IsLast h) (λ s e. absurd (cc g))))))).first
-  where
-    left : List ℕ
-    left = head_left h (unwrap_or (last_request h) 0) (acceptance_frame headers)
+accept-gives-last side h headers s e = (accept-gives side h headers s e).is_last
 
 abbrev no-session : Reply → Bool
 no-session r = not (is_some (session_in r))

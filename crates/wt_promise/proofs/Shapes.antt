@@ -1,7 +1,7 @@
 -- What the own answer of each call may be.
-use Rattle.std.specs.Prelude.{[], ◌&&◌, ◌++◌, ◌/◌, ◌==◌, ◌∷◌, ◌≡◌, Bool, Contains, Err, List, None, Ok, Option, Result, Some, false, if◌then◌else◌, is_some, length, not, suc, take, true, zero, ℕ}
+use Rattle.std.specs.Prelude.{[], ◌&&◌, ◌++◌, ◌/◌, ◌==◌, ◌∷◌, ◌≡◌, Bool, Contains, Err, List, None, Ok, Option, Result, Some, false, if◌then◌else◌, is_some, length, not, take, true, ℕ}
 use Rattle.std.specs.Option.{option_or}
-use Rattle.std.proofs.Common.{ap, arith, refl, sym}
+use Rattle.std.proofs.Common.{ap, refl}
 use Rattle.std.proofs.lemmas.Bool.{eqb-true, not-false}
 use Rattle.url.specs.Parser.{parse_url}
 use Rattle.wt_meaning.specs.Calls.{being_opened, first_datagram, first_waiting, in_session, is_living, open_stream, opening_for, refused_by, rows_of, stream_header}
@@ -16,6 +16,7 @@ use Rattle.wt_meaning.specs.Targets.{Target, target_of}
 use Rattle.wt_meaning.specs.Windows.{named}
 use Rattle.wt_message.specs.Datagram.{datagram_bytes}
 use Rattle.wt_promise.proofs.Accepted.{and-left, and-right, not-true, or-left}
+use Rattle.wt_promise.proofs.Amounts.{all-taken, taken}
 use Rattle.wt_promise.proofs.Shakes.{Shake, first-of, map-rows, shakes}
 use Rattle.wt_promise.proofs.Tables.{OfRows, by-row, by-session, by-value, no-row}
 use Rattle.wt_promise.specs.Promise.{accepted_by, acts_on, call_ends, handshake_ends, head_of, is_end, says_accepted}
@@ -116,19 +117,6 @@ module _ (side : Side) (h : History) (call : Call) where
   writing k rows f =
       still (not (is_open h)) _ _ refl (by-row (Shape side h call) (is_closed h k) _ [] _ (λ q. Nothing _ refl) (λ q. still-value (stop_of (events h) k) _ rows (λ y. refl) (f q)))
 
--- ---- writes
-
-take-own : (n : ℕ) (xs : List ℕ) → take (length (take n xs)) xs ≡ take n xs
-take-own zero xs = refl
-take-own (suc n) [] = refl
-take-own (suc n) (x ∷ xs) = ap (λ (ys : List ℕ). x ∷ ys) (take-own n xs)
-
-take-whole : (n : ℕ) (xs : List ℕ) → length (take n xs) ≡ length xs → take n xs ≡ xs
-take-whole zero [] e = refl
-take-whole zero (x ∷ xs) e = absurd (omega (arith, e))
-take-whole (suc n) [] e = refl
-take-whole (suc n) (x ∷ xs) e = ap (λ (ys : List ℕ). x ∷ ys) (take-whole n xs (omega (arith, e)))
-
 -- ---- openings
 
 opening-shape : (side : Side) (h : History) (id : ℕ) (x : Option (Option ℕ)) → being_opened h id ≡ x → OfRows (Shape side h (calls.PollOpening id)) (opening_for side h id x)
@@ -199,13 +187,13 @@ shape side h (calls.Write id bytes) =
     half side h (calls.Write id bytes) (has_sending side h id) _
     (λ has. writing side h (calls.Write id bytes) id _ (λ n. by-row (Shape side h (calls.Write id bytes)) (is_nothing bytes) (replies.Written 0) [] _ (λ q. Nought)
     (λ q. by-row (Shape side h (calls.Write id bytes)) _ (replies.Written (sent_now h id bytes)) (send h id bytes) []
-    (λ x. Writing id bytes (take (sent_now h id bytes) bytes) (replies.Written (sent_now h id bytes)) (and-left (is_handed_out h id) _ has) n (take-own (credit_left h id) bytes) (λ k. refl) refl refl) (λ x. done side h (calls.Write id bytes)))))
+    (λ x. Writing id bytes (take (sent_now h id bytes) bytes) (replies.Written (sent_now h id bytes)) (and-left (is_handed_out h id) _ has) n (taken (credit_left h id) bytes) (λ k. refl) refl refl) (λ x. done side h (calls.Write id bytes)))))
 shape side h (calls.WriteAll id bytes) =
     half side h (calls.WriteAll id bytes) (has_sending side h id) _
     (λ has. writing side h (calls.WriteAll id bytes) id _ (λ n. by-row (Shape side h (calls.WriteAll id bytes)) (sent_now h id bytes == length bytes) replies.AllWritten (send h id bytes) _
-    (λ q. Writing id bytes bytes replies.AllWritten (and-left (is_handed_out h id) _ has) n (sym (take-whole (credit_left h id) bytes (eqb-true (sent_now h id bytes) (length bytes) q))) (λ k. refl) refl refl)
+    (λ q. Writing id bytes bytes replies.AllWritten (and-left (is_handed_out h id) _ has) n (all-taken (credit_left h id) bytes (eqb-true (sent_now h id bytes) (length bytes) q)) (λ k. refl) refl refl)
     (λ q. by-row (Shape side h (calls.WriteAll id bytes)) true (replies.Count (sent_now h id bytes)) (send h id bytes) []
-    (λ x. Writing id bytes (take (sent_now h id bytes) bytes) (replies.Count (sent_now h id bytes)) (and-left (is_handed_out h id) _ has) n (take-own (credit_left h id) bytes) (λ k. refl) refl refl) (λ x. done side h (calls.WriteAll id bytes)))))
+    (λ x. Writing id bytes (take (sent_now h id bytes) bytes) (replies.Count (sent_now h id bytes)) (and-left (is_handed_out h id) _ has) n (taken (credit_left h id) bytes) (λ k. refl) refl refl) (λ x. done side h (calls.WriteAll id bytes)))))
 shape side h (calls.Finish id) =
     half side h (calls.Finish id) (has_sending side h id) _
     (λ has. by-row (Shape side h (calls.Finish id)) (is_open h && not (is_closed h id) && not (is_some (stop_of (events h) id))) replies.Pending (actions.Finish id ∷ []) _
