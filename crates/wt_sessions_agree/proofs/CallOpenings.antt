@@ -13,7 +13,7 @@ use Rattle.wt_meaning.specs.Meaning.{next, step}
 use Rattle.wt_meaning.specs.Moments.{findings}
 use Rattle.wt_meaning.specs.Rows.{first_row}
 use Rattle.wt_meaning.specs.Windows.{is_gone, named}
-use Rattle.wt_promise.proofs.Accepted.{bi-accepted, or-true, uni-accepted}
+use Rattle.wt_promise.proofs.Accepted.{bi-accepted, uni-accepted}
 use Rattle.wt_promise.proofs.Flow.{clash}
 use Rattle.wt_promise.proofs.Fresh.{nth-of, was-opened}
 use Rattle.wt_promise.proofs.Grows.{is_peers}
@@ -22,12 +22,12 @@ use Rattle.wt_promise.proofs.Stays.{exists-stays, named-stays}
 use Rattle.wt_promise.proofs.Tables.{OfRows, by-row, by-session, is_bi, is_uni, no-row}
 use Rattle.wt_promise.proofs.Verdicts.{ByAccept, ByOpening, HandedBy, admitted-peers, handed-by}
 use Rattle.wt_promise.specs.Promise.{IsHistory}
-use Rattle.wt_seam_spec.specs.Streams.{local_bi, local_uni, peer_bi, peer_uni}
+use Rattle.wt_seam_spec.specs.Streams.{local_bi, local_uni}
 use Rattle.wt_sessions.specs.Connection.{ends_opening, opened_for, starts_opening}
 use Rattle.wt_sessions.specs.Driver.{accepts_stream}
 use Rattle.wt_sessions_agree.proofs.CallReplies.{gives_bytes, gives_exact, is_usual, suits, suits-own}
 use Rattle.wt_sessions_agree.proofs.RecordLaws.{Aside, failure-aside, pending-aside}
-use Rattle.wt_sessions_agree.proofs.StreamKinds.{local-bi-small, local-uni-small}
+use Rattle.wt_sessions_agree.proofs.StreamKinds.{bis-peers, local-bi-small, local-uni-small, unis-peers}
 use Rattle.wt_sessions_agree.specs.Records.{call_session, done_record, record_of}
 use Rattle.wt_sessions_agree.specs.Stands.{IsOpening, NotOpening, OpeningAgrees, fails_opening}
 use Rattle.wt_turn.specs.Log.{CallRecord, Log, OpeningFailed, OpeningStarted, Polled, PrioritySet, RequestRejected, ResetUnsent, StreamAccepted, calls_of, newest}
@@ -266,37 +266,27 @@ given-step side h c k id r is o e p = by (id == k) refl
     by true q = Gives o e (ap (ends_opening k) is ∙ q) (ap (fails_opening k) is) (ap (is_peers side) (sym (eqb-true id k q)) ∙ p)
     by false q = Other o e (record { ends = ap (ends_opening k) is ∙ q; starts = ap (starts_opening k) is; opened = ap (opened_for k) is })
 
-unis-peers : (side : Side) (id : ℕ) → (id % 4 == peer_uni side) ≡ true → is_peers side id ≡ true
-unis-peers side id e = ap (λ (b : Bool). b || (id % 4 == peer_bi side)) e
-
-bis-peers : (side : Side) (id : ℕ) → (id % 4 == peer_bi side) ≡ true → is_peers side id ≡ true
-bis-peers side id e = ap (λ (b : Bool). (id % 4 == peer_uni side) || b) e ∙ or-true (id % 4 == peer_uni side)
+-- a call that accepts says nothing of the stream, or gives one
+accept-step : (side : Side) (h : History) (k : ℕ) (c : Call) (test : Reply → Bool) (r : Reply) → opening_ends k (turns.Call c) r ≡ false → (is_usual r || test r) ≡ true
+    → (test r ≡ true → OpeningStep side h c k r)
+    → OpeningStep side h c k r
+accept-step side h k c test r ends s given = by (is_usual r) refl s
+  where
+    by : (u : Bool) → is_usual r ≡ u → (u || test r) ≡ true → OpeningStep side h c k r
+    by true q i = Other (opens-none k c r (usual-silent r q)) ends (quiet-one k (record_of side h c r) (silent-tells-not side h c r (usual-silent r q)))
+    by false q i = given i
 
 uni-step : (side : Side) (h : History) (k : ℕ) (name : Option ℕ) (r : Reply) → (next side h (turns.Call (calls.AcceptUni name))).reply ≡ r → suits (calls.AcceptUni name) r ≡ true
     → OpeningStep side h (calls.AcceptUni name) k r
-uni-step side h k name r e s = by (is_usual r) refl s
-  where
-    by : (u : Bool) → is_usual r ≡ u → (u || is_uni r) ≡ true → OpeningStep side h (calls.AcceptUni name) k r
-    by true q i =
-        Other (opens-none k (calls.AcceptUni name) r (usual-silent r q)) refl
-        (quiet-one k (record_of side h (calls.AcceptUni name) r) (silent-tells-not side h (calls.AcceptUni name) r (usual-silent r q)))
-    by false q i =
-        let g = uni-is r i in
-        subst (OpeningStep side h (calls.AcceptUni name) k) (sym g.1)
-        (given-step side h (calls.AcceptUni name) k g.0 (replies.Uni g.0) refl refl refl (unis-peers side g.0 (uni-accepted side h name g.0 (e ∙ g.1)).2.peers))
+uni-step side h k name r e s = accept-step side h k (calls.AcceptUni name) is_uni r refl s (λ i. let g = uni-is r i in
+    subst (OpeningStep side h (calls.AcceptUni name) k) (sym g.1)
+    (given-step side h (calls.AcceptUni name) k g.0 (replies.Uni g.0) refl refl refl (unis-peers side g.0 (uni-accepted side h name g.0 (e ∙ g.1)).2.peers)))
 
 bi-step : (side : Side) (h : History) (k : ℕ) (name : Option ℕ) (r : Reply) → (next side h (turns.Call (calls.AcceptBi name))).reply ≡ r → suits (calls.AcceptBi name) r ≡ true
     → OpeningStep side h (calls.AcceptBi name) k r
-bi-step side h k name r e s = by (is_usual r) refl s
-  where
-    by : (u : Bool) → is_usual r ≡ u → (u || is_bi r) ≡ true → OpeningStep side h (calls.AcceptBi name) k r
-    by true q i =
-        Other (opens-none k (calls.AcceptBi name) r (usual-silent r q)) refl
-        (quiet-one k (record_of side h (calls.AcceptBi name) r) (silent-tells-not side h (calls.AcceptBi name) r (usual-silent r q)))
-    by false q i =
-        let g = bi-is r i in
-        subst (OpeningStep side h (calls.AcceptBi name) k) (sym g.1)
-        (given-step side h (calls.AcceptBi name) k g.0 (replies.Bi g.0) refl refl refl (bis-peers side g.0 (bi-accepted side h name g.0 (e ∙ g.1)).2.peers))
+bi-step side h k name r e s = accept-step side h k (calls.AcceptBi name) is_bi r refl s (λ i. let g = bi-is r i in
+    subst (OpeningStep side h (calls.AcceptBi name) k) (sym g.1)
+    (given-step side h (calls.AcceptBi name) k g.0 (replies.Bi g.0) refl refl refl (bis-peers side g.0 (bi-accepted side h name g.0 (e ∙ g.1)).2.peers)))
 
 -- every other call
 silent-step : (side : Side) (h : History) (k : ℕ) (c : Call) (r : Reply) → opening_ends k (turns.Call c) r ≡ false → is_silent r ≡ true → OpeningStep side h c k r

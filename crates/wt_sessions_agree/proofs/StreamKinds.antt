@@ -1,6 +1,7 @@
 -- The kinds of streams: each is less than 4, and what an id of a kind is.
-use Rattle.std.specs.Prelude.{◌%◌, ◌*◌, ◌+◌, ◌/◌, ◌<◌, ◌==◌, ◌≡◌, false, true, ℕ}
-use Rattle.std.proofs.Common.{arith, refl}
+use Rattle.std.specs.Prelude.{◌%◌, ◌*◌, ◌+◌, ◌/◌, ◌==◌, ◌||◌, ◌≡◌, ◌<◌, Bool, false, true, ℕ}
+use Rattle.std.proofs.Common.{◌∙◌, ap, arith, refl}
+use Rattle.wt_promise.proofs.Accepted.{or-true}
 use Rattle.wt_promise.proofs.Grows.{is_peers}
 use Rattle.wt_seam_spec.specs.Streams.{local_bi, local_uni, peer_bi, peer_uni}
 use Rattle.wt_wire.specs.Ids.{is_bidirectional}
@@ -44,3 +45,10 @@ uni-peers Server m = let r : (4 * m + 2) % 4 ≡ 2 = omega arith in rw r refl
 pub bi-peers : (side : Side) (m : ℕ) → is_peers side (4 * m + peer_bi side) ≡ true
 bi-peers Client m = let r : (4 * m + 1) % 4 ≡ 1 = omega arith in rw r refl
 bi-peers Server m = let r : (4 * m + 0) % 4 ≡ 0 = omega arith in rw r refl
+
+-- an id of either of the peer's kinds is the peer's
+pub unis-peers : (side : Side) (id : ℕ) → (id % 4 == peer_uni side) ≡ true → is_peers side id ≡ true
+unis-peers side id e = ap (λ (b : Bool). b || (id % 4 == peer_bi side)) e
+
+pub bis-peers : (side : Side) (id : ℕ) → (id % 4 == peer_bi side) ≡ true → is_peers side id ≡ true
+bis-peers side id e = ap (λ (b : Bool). (id % 4 == peer_uni side) || b) e ∙ or-true (id % 4 == peer_uni side)
