@@ -4,13 +4,13 @@ use Rattle.std.specs.List.{cons_option, list_any}
 use Rattle.std.specs.Option.{option_or}
 use Rattle.std.proofs.Common.{◌∙◌, ap, arith, refl}
 use Rattle.std.proofs.lemmas.Bool.{eqb-true}
+use Rattle.wt_meaning.specs.Findings.{Finding, dequeues, fault_in, fault_of, first_of, is_classified, is_datagram, is_dequeued, reads_settings, settings_came, verdict_in, verdict_of}
+use Rattle.wt_meaning.specs.Moments.{ids_from}
 use Rattle.wt_promise.proofs.Grows.{first_of-stays}
 use Rattle.wt_proto.specs.declared.verdict.Verdict.{Verdict}
 use Rattle.wt_sessions.specs.StreamTable.{StreamTable}
 use Rattle.wt_sessions_agree.proofs.Basics.{or-false, or-none}
 use Rattle.wt_sessions_agree.specs.Agrees.{IsTable, admitted_in, classified_in, closed_in}
-use Rattle.wt_meaning.specs.Findings.{Finding, dequeues, fault_in, fault_of, first_of, is_classified, is_datagram, is_dequeued, reads_settings, settings_came, verdict_in, verdict_of}
-use Rattle.wt_meaning.specs.Moments.{ids_from}
 
 -- ---- lists
 

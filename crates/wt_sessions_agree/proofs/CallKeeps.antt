@@ -13,25 +13,25 @@ use Rattle.wt_meaning.specs.Meaning.{next, own_answer, step, with_pair}
 use Rattle.wt_meaning.specs.Moments.{findings, ids_from}
 use Rattle.wt_meaning.specs.Sends.{moment_actions}
 use Rattle.wt_meaning.specs.Windows.{first_session, gone_in, is_established, is_gone_by_call, is_number, last_request, request_in, requests, session_in}
-use Rattle.wt_promise.specs.Promise.{IsHistory}
 use Rattle.wt_promise.proofs.Actions.{any-join_all}
 use Rattle.wt_promise.proofs.Owed.{has-left}
+use Rattle.wt_promise.specs.Promise.{IsHistory}
 use Rattle.wt_seam_spec.specs.Joined.{join_all, newest_first}
 use Rattle.wt_seam_spec.specs.Sent as sends
 use Rattle.wt_seam_spec.specs.Streams as streams
 use Rattle.wt_sessions.specs.Answers as answers
-use Rattle.wt_sessions.specs.Driver as drivers
 use Rattle.wt_sessions.specs.Driver.{accepts_stream, call_view, delivers, ends_session, gives_up, members_of, receives, sessions_of, stream_table}
+use Rattle.wt_sessions.specs.Driver as drivers
 use Rattle.wt_sessions.specs.Halves as halves
 use Rattle.wt_sessions.specs.Handshake.{handshake_state, requested_by, requested_stream}
 use Rattle.wt_sessions.specs.StreamTable.{was_established}
 use Rattle.wt_sessions_agree.proofs.CallOpenings.{opening-next, opening-of, unfailed-next}
 use Rattle.wt_sessions_agree.proofs.CallReplies.{suits-own}
 use Rattle.wt_sessions_agree.proofs.CallTells.{ended-by, priority-by, read-as, reset-by, reset-goes, stopped-by, told-if}
+use Rattle.wt_sessions_agree.proofs.CameAgrees.{called-contents, called-events}
 use Rattle.wt_sessions_agree.proofs.DoneStays.{done-before, told-resets}
 use Rattle.wt_sessions_agree.proofs.OutLaws.{any-newest, same-out}
 use Rattle.wt_sessions_agree.proofs.RecordLaws.{accepted-by, established-by, requested-by}
-use Rattle.wt_sessions_agree.proofs.CameAgrees.{called-contents, called-events}
 use Rattle.wt_sessions_agree.proofs.TurnKeeps.{resets-apart, unsent-reset}
 use Rattle.wt_sessions_agree.specs.Agrees.{Agrees, IsTable}
 use Rattle.wt_sessions_agree.specs.Orderly.{Orderly, session_at}

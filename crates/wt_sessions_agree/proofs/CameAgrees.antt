@@ -2,26 +2,26 @@
 use Rattle.std.specs.Prelude.{[], ◌&&◌, ◌++◌, ◌==◌, ◌∷◌, ◌≡◌, Bool, List, Some, false, if◌then◌else◌, length, nat_le, nat_lt, not, true, ℕ}
 use Rattle.std.proofs.Common.{◌∙◌, ap, arith, refl, sym}
 use Rattle.wt_meaning.specs.ControlBytes.{local_control_bytes}
-use Rattle.wt_wire.specs.Varint.{varint_bytes}
+use Rattle.wt_meaning.specs.History.{History, all_events, contents, events, is_open, with_bytes, with_event}
+use Rattle.wt_meaning.specs.Meaning.{with_pair}
+use Rattle.wt_meaning.specs.Moments.{is_ready}
 use Rattle.wt_seam_spec.specs.Arrivals.{event_entry}
 use Rattle.wt_seam_spec.specs.Reports.{credit}
-use Rattle.wt_seam_spec.specs.Streams as streams
 use Rattle.wt_seam_spec.specs.Streams.{local_uni}
+use Rattle.wt_seam_spec.specs.Streams as streams
+use Rattle.wt_sessions.specs.Answers.{log_after}
+use Rattle.wt_sessions.specs.Driver.{apply_if, flush, is_moment, log_and_flush, pending_actions, settings_ready}
+use Rattle.wt_sessions_agree.specs.Agrees.{Agrees}
 use Rattle.wt_turn.specs.Log.{Called, CallRecord, Entry, Event, Log, Received, Reported, ReportedLate, Sent, all_events_of, closes, events_of, with_actions}
 use Rattle.wt_turn.specs.Log as logs
 use Rattle.wt_turn.specs.Turns.{event_of}
 use Rattle.wt_turn.specs.declared.action.Action.{Action}
 use Rattle.wt_turn.specs.declared.answer.Answer.{Answer}
-use Rattle.wt_turn.specs.declared.turn.Turn.{Turn}
-use Rattle.wt_wire.specs.declared.side.Side.{Side}
-use Rattle.wt_sessions.specs.Answers.{log_after}
-use Rattle.wt_sessions.specs.Driver.{apply_if, flush, is_moment, log_and_flush, pending_actions, settings_ready}
-use Rattle.wt_sessions_agree.specs.Agrees.{Agrees}
-use Rattle.wt_turn.specs.declared.turn.Turn.TheVariants as turns
-use Rattle.wt_meaning.specs.History.{History, all_events, contents, events, is_open, with_bytes, with_event}
-use Rattle.wt_meaning.specs.Meaning.{with_pair}
-use Rattle.wt_meaning.specs.Moments.{is_ready}
 use Rattle.wt_turn.specs.declared.call.Call.{Call}
+use Rattle.wt_turn.specs.declared.turn.Turn.{Turn}
+use Rattle.wt_wire.specs.Varint.{varint_bytes}
+use Rattle.wt_wire.specs.declared.side.Side.{Side}
+use Rattle.wt_turn.specs.declared.turn.Turn.TheVariants as turns
 
 -- ---- actions change nothing of what came
 

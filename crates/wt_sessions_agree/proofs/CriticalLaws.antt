@@ -2,25 +2,25 @@
 use Rattle.std.specs.Prelude.{[], ◌&&◌, ◌++◌, ◌∷◌, ◌||◌, ◌≡◌, Bool, List, None, Option, Some, drop, false, if◌then◌else◌, is_some, length, not, true, ℕ}
 use Rattle.std.proofs.Common.{◌∙◌, ap, refl, subst, sym}
 use Rattle.std.proofs.lemmas.List.{append-nil}
+use Rattle.wt_meaning.specs.Findings.{Faulted, Finding, SettingsRead, control_in, decoder_in, encoder_in, fault_in, fault_of, first_of, is_datagram, reads_settings, settings_came}
+use Rattle.wt_meaning.specs.History.{History, contents, events}
+use Rattle.wt_meaning.specs.Moments.{Check, ControlFault, DecoderEnd, EncoderEnd, LocalStop, ReadSettings, after_checks, control_walk, end_fault, fault_if, found_by}
+use Rattle.wt_promise.proofs.Accepted.{or-true}
 use Rattle.wt_proto.specs.ControlWalk.{control_walk_of}
 use Rattle.wt_proto.specs.declared.control_walk.ControlWalk.{ControlWalk}
 use Rattle.wt_seam_spec.specs.Reports.{end_of, is_running, stop_of}
 use Rattle.wt_seam_spec.specs.Streams.{local_uni}
-use Rattle.wt_wire.specs.declared.error.ErrorCode.{ErrorCode}
-use Rattle.wt_wire.specs.declared.side.Side.{Side}
-use Rattle.wt_promise.proofs.Accepted.{or-true}
 use Rattle.wt_sessions.specs.Scan.{check_control, check_qpack, control_read, critical_if, in_order, on_progress, unless_ended, with_fault}
 use Rattle.wt_sessions.specs.StreamTable.{DriverProgress, StreamTable, TransportView, control_start, decoder_start, encoder_start, first_at}
 use Rattle.wt_sessions_agree.proofs.Appends.{any-append, drops, filter-drops, first-append}
 use Rattle.wt_sessions_agree.proofs.Basics.{or-false, or-none}
 use Rattle.wt_sessions_agree.proofs.FoundLaws.{controls-agree, decoders-agree, encoders-agree}
 use Rattle.wt_sessions_agree.proofs.ScanLaws.{fault-fields, faults_of, check-step, checks-faulty}
-use Rattle.wt_sessions_agree.specs.Stands.{ViewsAgree}
 use Rattle.wt_sessions_agree.specs.Agrees.{IsTable, admitted_in, classified_in, closed_in}
+use Rattle.wt_sessions_agree.specs.Stands.{ViewsAgree}
+use Rattle.wt_wire.specs.declared.error.ErrorCode.{ErrorCode}
+use Rattle.wt_wire.specs.declared.side.Side.{Side}
 use Rattle.wt_wire.specs.declared.error.ErrorCode.TheVariants as h3
-use Rattle.wt_meaning.specs.Findings.{Faulted, Finding, SettingsRead, control_in, decoder_in, encoder_in, fault_in, fault_of, first_of, is_datagram, reads_settings, settings_came}
-use Rattle.wt_meaning.specs.History.{History, contents, events}
-use Rattle.wt_meaning.specs.Moments.{Check, ControlFault, DecoderEnd, EncoderEnd, LocalStop, ReadSettings, after_checks, control_walk, end_fault, fault_if, found_by}
 
 -- looks after looks
 pub checks-append : (side : Side) (h : History) (xs ys : List Check) (found : List Finding) → after_checks side h (xs ++ ys) found ≡ after_checks side h ys (after_checks side h xs found)

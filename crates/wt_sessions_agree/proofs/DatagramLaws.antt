@@ -7,6 +7,10 @@ use Rattle.std.proofs.lemmas.Bool.{eq-eqb, eqb-true}
 use Rattle.std.proofs.lemmas.List.{append-nil, drop-append-le, length-append, length-drop, length-map}
 use Rattle.std.proofs.lemmas.List.Elements.{filter-append}
 use Rattle.std.proofs.lemmas.List.Folds.{list_all-append}
+use Rattle.wt_meaning.specs.Findings.{DatagramRead, Faulted, Finding, fault_in, fault_of, is_datagram, reads_settings, settings_came}
+use Rattle.wt_meaning.specs.History.{History}
+use Rattle.wt_meaning.specs.Moments.{ReadDatagram, after_checks, datagram_checks, datagram_found, is_ready, reading}
+use Rattle.wt_meaning.specs.Windows.{admitted_datagram, datagrams_in_window, is_established, is_gone, received_count, shares_window, waiting_datagrams}
 use Rattle.wt_message.specs.Datagram.{datagram_of}
 use Rattle.wt_promise.proofs.Accepted.{and-left, and-right}
 use Rattle.wt_sessions.specs.Scan.{admit_datagram, is_admitted, take_datagrams, take_each, take_parsed}
@@ -16,15 +20,11 @@ use Rattle.wt_sessions_agree.proofs.Appends.{adds, any-append, drops, filter-dro
 use Rattle.wt_sessions_agree.proofs.Basics.{and-false, or-false, or-none}
 use Rattle.wt_sessions_agree.proofs.ScanLaws.{fault-fields, check-step, checks-faulty}
 use Rattle.wt_sessions_agree.proofs.WindowLaws.{gone-agrees}
+use Rattle.wt_sessions_agree.specs.Agrees.{IsTable, admitted_in, classified_in, closed_in}
 use Rattle.wt_sessions_agree.specs.Orderly.{Received, is_left, is_of}
 use Rattle.wt_sessions_agree.specs.Stands.{CallsAgree}
-use Rattle.wt_sessions_agree.specs.Agrees.{IsTable, admitted_in, classified_in, closed_in}
 use Rattle.wt_wire.specs.declared.error.ErrorCode.{ErrorCode}
 use Rattle.wt_wire.specs.declared.side.Side.{Side}
-use Rattle.wt_meaning.specs.Findings.{DatagramRead, Faulted, Finding, fault_in, fault_of, is_datagram, reads_settings, settings_came}
-use Rattle.wt_meaning.specs.History.{History}
-use Rattle.wt_meaning.specs.Moments.{ReadDatagram, after_checks, datagram_checks, datagram_found, is_ready, reading}
-use Rattle.wt_meaning.specs.Windows.{admitted_datagram, datagrams_in_window, is_established, is_gone, received_count, shares_window, waiting_datagrams}
 
 -- ---- the admitted datagrams, in both forms
 

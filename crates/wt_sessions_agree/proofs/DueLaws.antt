@@ -23,6 +23,7 @@ use Rattle.wt_promise.proofs.Tables.{fits, fits-own}
 use Rattle.wt_promise.proofs.Waiting.{named-established}
 use Rattle.wt_promise.specs.Promise.{IsHistory}
 use Rattle.wt_proto.specs.declared.verdict.Verdict.{Verdict}
+use Rattle.wt_sessions_agree.proofs.PartLaws.{none-queued, queues, queues-has}
 use Rattle.wt_turn.specs.declared.answer.Answer.{Answer}
 use Rattle.wt_turn.specs.declared.call.Call.{Call}
 use Rattle.wt_turn.specs.declared.reply.Reply.{Reply}
@@ -31,7 +32,6 @@ use Rattle.wt_wire.specs.HeaderList.{Fields}
 use Rattle.wt_wire.specs.declared.side.Side.{Side}
 use Rattle.wt_wire.specs.declared.side.Side.TheVariants.{Server}
 use Rattle.wt_proto.specs.declared.verdict.Verdict.TheVariants as verdicts
-use Rattle.wt_sessions_agree.proofs.PartLaws.{none-queued, queues, queues-has}
 use Rattle.wt_turn.specs.declared.call.Call.TheVariants as calls
 use Rattle.wt_turn.specs.declared.reply.Reply.TheVariants as replies
 use Rattle.wt_turn.specs.declared.turn.Turn.TheVariants as turns

@@ -2,8 +2,8 @@
 use Rattle.std.specs.Prelude.{[], ◌&&◌, ◌∷◌, ◌||◌, ◌≡◌, Bool, List, false, if◌then◌else◌, not, true, ℕ}
 use Rattle.std.specs.List.{list_any}
 use Rattle.std.proofs.Common.{◌∙◌, ap, refl, subst, sym}
-use Rattle.wt_meaning.specs.History.{History, Pair, contents, ends_by, events, is_open, loses}
 use Rattle.wt_meaning.specs.Findings.{Finding}
+use Rattle.wt_meaning.specs.History.{History, Pair, contents, ends_by, events, is_open, loses}
 use Rattle.wt_meaning.specs.Lawful.{is_lawful}
 use Rattle.wt_meaning.specs.Meaning.{step, with_pair}
 use Rattle.wt_meaning.specs.Moments.{findings}
@@ -18,8 +18,8 @@ use Rattle.wt_sessions.specs.Answers.{log_after}
 use Rattle.wt_sessions.specs.Driver.{apply_if, call_view, flush, is_moment, log_and_flush, pending_actions, stream_table, transport_view}
 use Rattle.wt_sessions.specs.StreamTable.{CallView}
 use Rattle.wt_sessions_agree.proofs.Basics.{or-turned}
-use Rattle.wt_sessions_agree.proofs.OutLaws.{acted}
 use Rattle.wt_sessions_agree.proofs.CameAgrees.{acted-contents, acted-events, flushed, is_single, turn_agrees}
+use Rattle.wt_sessions_agree.proofs.OutLaws.{acted}
 use Rattle.wt_sessions_agree.proofs.TurnAnswers.{done-next, sends-now, turn-agrees-by}
 use Rattle.wt_sessions_agree.proofs.TurnFinds.{finds-alike, orderly-then, sees-alike, table-same}
 use Rattle.wt_sessions_agree.proofs.TurnKeeps.{calls-after, count-after, sessions-after, single-plain, turn-calls, view-of}

@@ -4,20 +4,20 @@ use Rattle.std.specs.List.{list_all}
 use Rattle.std.proofs.Common.{◌∙◌, ap, arith, refl, subst, sym}
 use Rattle.std.proofs.lemmas.Bool.{eqb-true}
 use Rattle.std.proofs.lemmas.List.{append-nil}
-use Rattle.wt_message.specs.Datagram.{datagram_of}
 use Rattle.wt_meaning.specs.Findings.{Dequeued, Faulted, Finding, SettingsRead, control_in, decoder_in, dequeues, encoder_in, fault_of, first_of, is_classified, is_datagram, is_dequeued, settings_came}
 use Rattle.wt_meaning.specs.History.{History, events}
 use Rattle.wt_meaning.specs.Moments.{Check, Classify, ControlFault, DecoderEnd, Dequeue, EncoderEnd, LocalStop, ReadDatagram, ReadSettings, WalkSession, after_checks, classified_as, control_walk, datagram_found, end_fault, fault_if, found_by, ids_from, is_ready, session_found, stream_fault, unclassified_before, verdict}
 use Rattle.wt_meaning.specs.SessionWalk.{is_over, session_walk_of}
 use Rattle.wt_meaning.specs.Windows.{lives, session_part}
+use Rattle.wt_message.specs.Datagram.{datagram_of}
+use Rattle.wt_promise.proofs.Accepted.{and-left, and-right}
 use Rattle.wt_proto.specs.declared.session_walk.SessionWalk.{SessionWalk}
 use Rattle.wt_proto.specs.declared.verdict.Verdict.{Verdict}
 use Rattle.wt_seam_spec.specs.Reports.{end_of, is_running, stop_of}
 use Rattle.wt_seam_spec.specs.Streams.{local_uni}
-use Rattle.wt_promise.proofs.Accepted.{and-left, and-right}
+use Rattle.wt_sessions_agree.proofs.Appends.{classified-append, cons-append, dequeued-append, filter-fewer}
 use Rattle.wt_sessions_agree.proofs.Basics.{or-false}
 use Rattle.wt_sessions_agree.specs.Orderly.{Few, unclassified}
-use Rattle.wt_sessions_agree.proofs.Appends.{classified-append, cons-append, dequeued-append, filter-fewer}
 use Rattle.wt_wire.specs.declared.error.ErrorCode.{ErrorCode}
 use Rattle.wt_wire.specs.declared.side.Side.{Side}
 use Rattle.wt_proto.specs.declared.session_walk.SessionWalk.TheVariants as walks

@@ -2,14 +2,14 @@
 use Rattle.std.specs.Prelude.{[], ◌==◌, ◌∷◌, ◌≡◌, Bool, List, None, Option, Some, false, filter_map, if◌then◌else◌, is_none, is_some, not, true, ℕ}
 use Rattle.std.specs.Option.{option_or}
 use Rattle.std.proofs.Common.{◌∙◌, ap, refl}
+use Rattle.wt_meaning.specs.Findings.{DatagramRead, Dequeued, Faulted, Finding, SessionClosed, SettingsRead, control_in, decoder_in, encoder_in, first_of, is_classified, verdict_in, verdict_of}
+use Rattle.wt_meaning.specs.Findings as finds
 use Rattle.wt_proto.specs.declared.verdict.Verdict.{Verdict}
 use Rattle.wt_sessions.specs.Scan.{is_unclassified}
 use Rattle.wt_sessions.specs.StreamTable.{Classified, StreamTable, control_start, decoder_start, encoder_start, first_at}
 use Rattle.wt_sessions.specs.StreamTable as tables
 use Rattle.wt_sessions_agree.specs.Agrees.{IsTable, classified_in}
 use Rattle.wt_proto.specs.declared.verdict.Verdict.TheVariants as verdicts
-use Rattle.wt_meaning.specs.Findings.{DatagramRead, Dequeued, Faulted, Finding, SessionClosed, SettingsRead, control_in, decoder_in, encoder_in, first_of, is_classified, verdict_in, verdict_of}
-use Rattle.wt_meaning.specs.Findings as finds
 
 -- ---- the verdict of a stream
 

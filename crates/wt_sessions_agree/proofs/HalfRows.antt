@@ -3,16 +3,22 @@ use Rattle.std.specs.Prelude.{[], ◌+◌, ◌-◌, ◌==◌, ◌∷◌, ◌||�
 use Rattle.std.specs.List.{cons_option}
 use Rattle.std.proofs.Common.{◌∙◌, ap, arith, refl, sym}
 use Rattle.std.proofs.lemmas.Bool.{eqb-true}
+use Rattle.wt_meaning.specs.Findings.{verdict_of}
+use Rattle.wt_meaning.specs.Halves.{body_start, finish, is_done, priority, priority_of, read, read_exact, reset, stopped, unread, was_read, where_has, write, write_all}
+use Rattle.wt_meaning.specs.History.{History, all_events, contents, credit_left, events, is_open, is_reset, out, was_finished, with_event}
+use Rattle.wt_meaning.specs.Moments.{findings}
+use Rattle.wt_meaning.specs.Rows.{Row, first_row, row}
+use Rattle.wt_meaning.specs.Sends.{action_if}
+use Rattle.wt_promise.proofs.Opened.{open-before}
 use Rattle.wt_proto.specs.declared.verdict.Verdict.{Verdict}
 use Rattle.wt_seam_spec.specs.Outgoing.{bytes_within_credit}
 use Rattle.wt_seam_spec.specs.Outgoing as outgoing
 use Rattle.wt_seam_spec.specs.Reports.{credit, end_of, is_acknowledged, stop_of}
 use Rattle.wt_seam_spec.specs.Sent as sends
-use Rattle.wt_promise.proofs.Opened.{open-before}
 use Rattle.wt_sessions.specs.Driver.{stream_table}
 use Rattle.wt_sessions.specs.Effect.{Effect, poll_only}
-use Rattle.wt_sessions.specs.Halves as ladders
 use Rattle.wt_sessions.specs.Halves.{on_half}
+use Rattle.wt_sessions.specs.Halves as ladders
 use Rattle.wt_sessions.specs.StreamTable as tables
 use Rattle.wt_sessions_agree.proofs.Basics.{take-none}
 use Rattle.wt_sessions_agree.proofs.FoundLaws.{verdicts-agree}
@@ -20,16 +26,10 @@ use Rattle.wt_sessions_agree.specs.Records.{effect_of}
 use Rattle.wt_sessions_agree.specs.Stands.{Stands}
 use Rattle.wt_turn.specs.Log.{Event, Log, actions_of, all_events_of, calls_of, events_of}
 use Rattle.wt_turn.specs.Log as logs
-use Rattle.wt_turn.specs.declared.call.Call.{Call}
 use Rattle.wt_turn.specs.Turns.{event_of}
+use Rattle.wt_turn.specs.declared.call.Call.{Call}
 use Rattle.wt_wire.specs.declared.side.Side.{Side}
 use Rattle.wt_wire.specs.declared.side.StreamEnd.{StreamEnd}
-use Rattle.wt_meaning.specs.Halves.{body_start, finish, is_done, priority, priority_of, read, read_exact, reset, stopped, unread, was_read, where_has, write, write_all}
-use Rattle.wt_meaning.specs.History.{History, all_events, contents, credit_left, events, is_open, is_reset, out, was_finished, with_event}
-use Rattle.wt_meaning.specs.Moments.{findings}
-use Rattle.wt_meaning.specs.Rows.{Row, first_row, row}
-use Rattle.wt_meaning.specs.Findings.{verdict_of}
-use Rattle.wt_meaning.specs.Sends.{action_if}
 use Rattle.wt_proto.specs.declared.verdict.Verdict.TheVariants as verdicts
 use Rattle.wt_turn.specs.declared.action.Action.TheVariants as actions
 use Rattle.wt_turn.specs.declared.call.Call.TheVariants as calls

@@ -2,17 +2,17 @@
 use Rattle.std.specs.Prelude.{[], ◌*◌, ◌+◌, ◌<◌, ◌∷◌, ◌≡◌, Bool, List, None, Option, Some, false, filter, length, nat_lt, not, suc, true, zero, ℕ}
 use Rattle.std.proofs.Common.{◌∙◌, ap, refl, sym}
 use Rattle.std.proofs.lemmas.List.{append-nil}
+use Rattle.wt_meaning.specs.Findings.{Finding, fault_of, is_classified, is_dequeued}
+use Rattle.wt_meaning.specs.History.{History}
+use Rattle.wt_meaning.specs.Moments.{Classify, Dequeue, after_checks, classifying, dequeuing, ids_from, is_ready, stream_checks, verdict}
 use Rattle.wt_proto.specs.declared.verdict.Verdict.{Verdict}
-use Rattle.wt_wire.specs.declared.error.ErrorCode.{ErrorCode}
-use Rattle.wt_wire.specs.declared.side.Side.{Side}
 use Rattle.wt_sessions.specs.Scan.{is_unclassified, scan_kind, stream_ids}
 use Rattle.wt_sessions.specs.StreamTable.{CallView, StreamTable, TransportView}
 use Rattle.wt_sessions_agree.proofs.Appends.{filter-ids}
 use Rattle.wt_sessions_agree.proofs.FoundLaws.{ripe-agrees}
 use Rattle.wt_sessions_agree.proofs.ScanLaws.{Admits, ScanKeeps, check-step, checks-faulty, scan-keeps}
-use Rattle.wt_meaning.specs.Findings.{Finding, fault_of, is_classified, is_dequeued}
-use Rattle.wt_meaning.specs.History.{History}
-use Rattle.wt_meaning.specs.Moments.{Classify, Dequeue, after_checks, classifying, dequeuing, ids_from, is_ready, stream_checks, verdict}
+use Rattle.wt_wire.specs.declared.error.ErrorCode.{ErrorCode}
+use Rattle.wt_wire.specs.declared.side.Side.{Side}
 
 ids-same : (kind n c : ℕ) → stream_ids kind n c ≡ ids_from kind n c
 ids-same kind n zero = refl

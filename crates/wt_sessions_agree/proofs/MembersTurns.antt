@@ -26,9 +26,9 @@ use Rattle.wt_seam_spec.specs.Streams.{local_bi, local_uni, one_more_if}
 use Rattle.wt_sessions.specs.Driver.{call_view, member_by, members_of, with_member}
 use Rattle.wt_sessions.specs.StreamTable.{CallView}
 use Rattle.wt_sessions_agree.proofs.Basics.{and-false}
-use Rattle.wt_sessions_agree.proofs.StreamKinds.{local-bi-small, local-uni-small}
 use Rattle.wt_sessions_agree.proofs.MembersLaws.{has-with, with-ascends}
 use Rattle.wt_sessions_agree.proofs.RecordLaws.{Passes, done-passes, failure-aside, pending-aside}
+use Rattle.wt_sessions_agree.proofs.StreamKinds.{local-bi-small, local-uni-small}
 use Rattle.wt_sessions_agree.specs.Members.{Ascends, MembersIn, has_id, is_opened_for}
 use Rattle.wt_sessions_agree.specs.Records.{opened_session, record_of}
 use Rattle.wt_turn.specs.Log.{CallRecord, Log, calls_of}

@@ -6,25 +6,25 @@ use Rattle.std.proofs.lemmas.List.Folds.{list_all-append}
 use Rattle.wt_meaning.specs.Findings.{Finding}
 use Rattle.wt_meaning.specs.History.{History, events, stream_count}
 use Rattle.wt_meaning.specs.Moments.{Check, ControlFault, DecoderEnd, EncoderEnd, LocalStop, ReadSettings, WalkSession, after_checks, checks, datagram_checks, ids_from, stream_checks}
+use Rattle.wt_promise.proofs.Accepted.{and-left}
 use Rattle.wt_promise.proofs.Grows.{asks_peers, is_peers, peers-checked}
 use Rattle.wt_proto.specs.Bi.{bi_verdict_of}
 use Rattle.wt_proto.specs.Uni.{uni_verdict_of}
 use Rattle.wt_seam_spec.specs.Reports.{datagrams_of}
 use Rattle.wt_seam_spec.specs.Streams.{peer_bi, peer_count, peer_uni}
-use Rattle.wt_promise.proofs.Accepted.{and-left}
 use Rattle.wt_sessions.specs.Scan.{check_sessions, in_order, on_progress, scan_bis, scan_order, scan_unis, take_datagrams, with_no_actions}
 use Rattle.wt_sessions.specs.StreamTable.{CallView, StreamTable, TransportView}
 use Rattle.wt_sessions_agree.proofs.CriticalLaws.{checks-append, critical-agrees, critical_steps, step-keeps}
 use Rattle.wt_sessions_agree.proofs.DatagramLaws.{datagrams-agree}
 use Rattle.wt_sessions_agree.proofs.KindLaws.{kind-keeps}
-use Rattle.wt_sessions_agree.proofs.StreamKinds.{bi-direction, bi-peers, bi-small, uni-direction, uni-peers, uni-small}
 use Rattle.wt_sessions_agree.proofs.OrderlyLaws.{orderly-checks}
 use Rattle.wt_sessions_agree.proofs.ScanLaws.{ScanKeeps, table-kept}
 use Rattle.wt_sessions_agree.proofs.SessionLaws.{WalkKeeps, table-walked, walks-keep}
+use Rattle.wt_sessions_agree.proofs.StreamKinds.{bi-direction, bi-peers, bi-small, uni-direction, uni-peers, uni-small}
 use Rattle.wt_sessions_agree.proofs.WindowLaws.{admits-agree}
+use Rattle.wt_sessions_agree.specs.Agrees.{IsTable}
 use Rattle.wt_sessions_agree.specs.Orderly.{Orderly}
 use Rattle.wt_sessions_agree.specs.Stands.{SeesAlike}
-use Rattle.wt_sessions_agree.specs.Agrees.{IsTable}
 use Rattle.wt_wire.specs.declared.side.Side.{Side}
 
 -- ---- the whole moment

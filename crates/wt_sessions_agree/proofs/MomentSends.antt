@@ -12,6 +12,7 @@ use Rattle.wt_meaning.specs.Sends.{actions_for, actions_for_all, session_finish,
 use Rattle.wt_meaning.specs.Sends as sends
 use Rattle.wt_meaning.specs.Windows.{is_gone, lives}
 use Rattle.wt_message.specs.Datagram.{datagram_of}
+use Rattle.wt_promise.proofs.Accepted.{and-left, and-right}
 use Rattle.wt_promise.proofs.Grows.{AClassified, AClosed, ADequeued, AFault, Kept, asks_peers, checks-add, checks-keep, first_of-append, is_peers, more}
 use Rattle.wt_proto.specs.ControlWalk.{control_walk_of}
 use Rattle.wt_proto.specs.declared.control_walk.ControlWalk.{ControlWalk}
@@ -19,7 +20,6 @@ use Rattle.wt_proto.specs.declared.session_walk.SessionWalk.{SessionWalk}
 use Rattle.wt_proto.specs.declared.verdict.Verdict.{Verdict}
 use Rattle.wt_seam_spec.specs.Reports.{datagrams_of, end_of, is_running, stop_of}
 use Rattle.wt_seam_spec.specs.Streams.{local_uni}
-use Rattle.wt_promise.proofs.Accepted.{and-left, and-right}
 use Rattle.wt_sessions.specs.Driver.{close_actions}
 use Rattle.wt_sessions.specs.Scan.{admit_datagram, check_control, check_qpack, critical_if, in_order, is_admitted, on_progress, scan_order, session_end, session_walked, take_datagrams, take_each, take_parsed, unless_ended, with_classified, with_fault, with_more, with_no_actions}
 use Rattle.wt_sessions.specs.StreamTable.{CallView, Consequence, DriverProgress, StreamTable, TransportView, admit_or_stop, consequence, control_start, decoder_start, dispatched_streams, encoder_start, first_at, gone_actions, has_room, only_once}

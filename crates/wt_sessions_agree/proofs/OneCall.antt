@@ -26,6 +26,7 @@ use Rattle.wt_sessions_agree.proofs.Basics.{or-turned}
 use Rattle.wt_sessions_agree.proofs.CallKeeps.{accepted-after, call-keeps, ended-after, given_up-after, reset-from}
 use Rattle.wt_sessions_agree.proofs.CallTells.{reset-goes}
 use Rattle.wt_sessions_agree.proofs.CallTurns as plain
+use Rattle.wt_sessions_agree.proofs.CameAgrees.{acted-all, acted-contents, acted-events, called-contents, called-events, flushed}
 use Rattle.wt_sessions_agree.proofs.DoneStays.{told-resets}
 use Rattle.wt_sessions_agree.proofs.DueEnds.{ends-hold}
 use Rattle.wt_sessions_agree.proofs.EntryTurns.{ended-acted, flush-as}
@@ -35,13 +36,12 @@ use Rattle.wt_sessions_agree.proofs.LawfulLaws.{lawful-agrees}
 use Rattle.wt_sessions_agree.proofs.MembersBefore.{good-before, members-moment}
 use Rattle.wt_sessions_agree.proofs.MembersKept.{Good}
 use Rattle.wt_sessions_agree.proofs.MembersTurns.{members-call, members-own}
-use Rattle.wt_sessions_agree.proofs.PendingLaws.{sends-alike}
 use Rattle.wt_sessions_agree.proofs.OrderTurns.{order-call, order-session}
 use Rattle.wt_sessions_agree.proofs.OutLaws.{acted, any-newest, same-raw}
+use Rattle.wt_sessions_agree.proofs.PendingLaws.{sends-alike}
 use Rattle.wt_sessions_agree.proofs.RestTurns.{idle-call}
 use Rattle.wt_sessions_agree.proofs.RowsAgree.{call-agrees}
 use Rattle.wt_sessions_agree.proofs.SessionTurns.{calls-established, session-reply, sessions-call, sessions-session, with-offset}
-use Rattle.wt_sessions_agree.proofs.CameAgrees.{acted-all, acted-contents, acted-events, called-contents, called-events, flushed}
 use Rattle.wt_sessions_agree.proofs.TurnFinds.{acted-table, sees-alike}
 use Rattle.wt_sessions_agree.proofs.TurnKeeps.{acted-calls, flushed-first, resets-apart, unsent-reset, view-of}
 use Rattle.wt_sessions_agree.specs.Agreement.{Agree, TurnAgrees}

@@ -25,13 +25,13 @@ use Rattle.wt_seam_spec.specs.Reports.{end_of}
 use Rattle.wt_sessions.specs.Driver.{accepts_stream, call_view, delivers, ends_session, members_of, sessions_of}
 use Rattle.wt_sessions.specs.Driver as drivers
 use Rattle.wt_sessions.specs.StreamTable.{Admitted}
+use Rattle.wt_sessions_agree.proofs.CameAgrees.{called-contents, called-events}
 use Rattle.wt_sessions_agree.proofs.DatagramLaws.{pair-of}
 use Rattle.wt_sessions_agree.proofs.PartLaws.{begins-stays, known-new, parted}
 use Rattle.wt_sessions_agree.proofs.ReadyLaws.{none-early-after}
 use Rattle.wt_sessions_agree.proofs.ReceivedLaws.{indexed, received-one, received-plain}
 use Rattle.wt_sessions_agree.proofs.RecordLaws.{Passes, done-passes, failure-aside, pending-aside}
 use Rattle.wt_sessions_agree.proofs.SessionTurns.{with-offset}
-use Rattle.wt_sessions_agree.proofs.CameAgrees.{called-contents, called-events}
 use Rattle.wt_sessions_agree.proofs.TurnKeeps.{view-of}
 use Rattle.wt_sessions_agree.proofs.WaitLaws.{waiting-pairs}
 use Rattle.wt_sessions_agree.specs.Orderly.{Orderly, Received, begins_at, is_of_peer}

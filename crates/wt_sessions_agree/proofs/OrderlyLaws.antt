@@ -9,9 +9,9 @@ use Rattle.wt_meaning.specs.Findings as finds
 use Rattle.wt_meaning.specs.History.{History}
 use Rattle.wt_meaning.specs.Moments.{Check, after_checks, fault_if, found_by, is_ready, keeps, stream_fault}
 use Rattle.wt_meaning.specs.Windows.{is_established}
+use Rattle.wt_promise.proofs.Accepted.{and-left, and-right}
 use Rattle.wt_promise.proofs.Grows.{AClassified, AClosed, ADatagram, ADequeued, AFault, ASettings, Kept, Nothing, asks_peers, checks-keep}
 use Rattle.wt_proto.specs.declared.verdict.Verdict.{Verdict}
-use Rattle.wt_promise.proofs.Accepted.{and-left, and-right}
 use Rattle.wt_sessions.specs.StreamTable.{CallView}
 use Rattle.wt_sessions_agree.proofs.Appends.{classified-append, cons-append, dequeued-append}
 use Rattle.wt_sessions_agree.proofs.DatagramLaws.{received-more, received-same}

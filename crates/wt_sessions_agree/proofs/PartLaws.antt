@@ -12,12 +12,14 @@ use Rattle.wt_meaning.specs.History.{History, Pair, contents, events, is_open, w
 use Rattle.wt_meaning.specs.Meaning.{next, with_pair}
 use Rattle.wt_meaning.specs.Moments.{findings, keeps, stream_fault, verdict}
 use Rattle.wt_meaning.specs.Windows.{after_request, after_response, establishes, is_established, last_request, queued_request, session_in}
+use Rattle.wt_message.specs.StreamTypes.{control_type, decoder_type, encoder_type, webtransport_type}
 use Rattle.wt_promise.proofs.Accepted.{and-left}
 use Rattle.wt_promise.proofs.Datagrams.{numbered}
 use Rattle.wt_promise.proofs.Established.{established-rightly}
 use Rattle.wt_promise.proofs.Few.{given-queued, has}
 use Rattle.wt_promise.proofs.Grows.{AClassified, AClosed, ADatagram, ADequeued, AFault, ASettings, Adds, Nothing, findings-add, findings-keep, first_of-append, first_of-stays, news, of-stream-fault}
 use Rattle.wt_promise.proofs.HandedOut.{verdict-stays}
+use Rattle.wt_promise.proofs.Phases.{last-given}
 use Rattle.wt_promise.proofs.Verdicts.{given-classified}
 use Rattle.wt_promise.specs.Promise.{EstablishedFor, IsHistory}
 use Rattle.wt_proto.proofs.ResponseWalkLaws.{response_walk_stays}
@@ -28,13 +30,13 @@ use Rattle.wt_proto.specs.Walk.{whole_walk}
 use Rattle.wt_proto.specs.declared.response_walk.ResponseWalk.{ResponseWalk}
 use Rattle.wt_proto.specs.declared.verdict.Verdict.{Verdict}
 use Rattle.wt_seam_spec.specs.Reports.{end_of}
-use Rattle.wt_promise.proofs.Phases.{last-given}
 use Rattle.wt_sessions_agree.proofs.Basics.{is-none, or-first}
 use Rattle.wt_sessions_agree.specs.Orderly.{begins_at, is_of_peer}
 use Rattle.wt_turn.specs.declared.answer.Answer.{Answer}
 use Rattle.wt_turn.specs.declared.turn.Turn.{Turn}
 use Rattle.wt_wire.specs.HeaderList.{Fields}
 use Rattle.wt_wire.specs.Ids.{is_bidirectional}
+use Rattle.wt_wire.specs.Varint.{varint_at}
 use Rattle.wt_wire.specs.declared.side.Side.{Side}
 use Rattle.wt_wire.specs.declared.side.Side.TheVariants.{Client, Server}
 use Rattle.wt_wire.specs.declared.side.StreamEnd.{StreamEnd}
@@ -43,8 +45,6 @@ use Rattle.wt_proto.specs.declared.verdict.Verdict.TheVariants as verdicts
 use Rattle.wt_turn.specs.declared.turn.Turn.TheVariants as turns
 use Rattle.wt_wire.specs.declared.error.ErrorCode.TheVariants as h3
 use Rattle.wt_wire.specs.declared.side.StreamEnd.TheVariants as ends
-use Rattle.wt_wire.specs.Varint.{varint_at}
-use Rattle.wt_message.specs.StreamTypes.{control_type, decoder_type, encoder_type, webtransport_type}
 
 -- ---- a response stays, whatever comes later
 

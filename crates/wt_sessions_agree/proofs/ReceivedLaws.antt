@@ -10,8 +10,8 @@ use Rattle.wt_meaning.specs.Findings.{Classified, DatagramRead, Dequeued, Faulte
 use Rattle.wt_meaning.specs.History.{History}
 use Rattle.wt_meaning.specs.Moments.{findings, keeps}
 use Rattle.wt_meaning.specs.Windows.{is_established, received_count}
-use Rattle.wt_promise.proofs.Grows.{AClassified, AClosed, ADatagram, ADequeued, AFault, ASettings, Adds, Nothing, findings-keep}
 use Rattle.wt_promise.proofs.Accepted.{and-left, and-right, or-true}
+use Rattle.wt_promise.proofs.Grows.{AClassified, AClosed, ADatagram, ADequeued, AFault, ASettings, Adds, Nothing, findings-keep}
 use Rattle.wt_sessions.specs.StreamTable.{Admitted, CallView}
 use Rattle.wt_sessions_agree.proofs.Appends.{adds, cons-append, drops, filter-drops}
 use Rattle.wt_sessions_agree.proofs.Basics.{eqb-sym}

@@ -5,13 +5,13 @@ use Rattle.std.proofs.Common.{◌∙◌, ap, arith, refl, subst, sym}
 use Rattle.std.proofs.lemmas.Bool.{eq-eqb, eqb-true}
 use Rattle.std.proofs.lemmas.List.{append-nil}
 use Rattle.std.proofs.lemmas.List.Folds.{list_any-append}
-use Rattle.wt_message.specs.Datagram.{datagram_of}
 use Rattle.wt_meaning.specs.Findings.{DatagramRead, Dequeued, Faulted, Finding, SessionClosed, SettingsRead, control_in, decoder_in, dequeues, encoder_in, fault_in, fault_of, first_of, is_classified, is_datagram, is_dequeued, settings_came, verdict_in, verdict_of}
 use Rattle.wt_meaning.specs.Findings as finds
 use Rattle.wt_meaning.specs.History.{History, events}
 use Rattle.wt_meaning.specs.Moments.{Check, Classify, ControlFault, DecoderEnd, Dequeue, EncoderEnd, LocalStop, ReadDatagram, ReadSettings, WalkSession, after_checks, classified_as, classifying, control_walk, datagram_found, dequeuing, end_fault, fault_if, found_by, ids_from, is_ready, keeps, session_found, stream_checks, stream_fault, unclassified_before, verdict}
 use Rattle.wt_meaning.specs.SessionWalk.{is_over, session_walk_of}
 use Rattle.wt_meaning.specs.Windows.{lives, session_part}
+use Rattle.wt_message.specs.Datagram.{datagram_of}
 use Rattle.wt_promise.proofs.Accepted.{and-left, or-true}
 use Rattle.wt_promise.proofs.Grows.{first_of-append, first_of-stays}
 use Rattle.wt_proto.specs.declared.session_walk.SessionWalk.{SessionWalk}

@@ -6,23 +6,23 @@ use Rattle.std.proofs.lemmas.Bool.{eq-eqb, eqb-true}
 use Rattle.std.proofs.lemmas.List.{append-nil, length-append}
 use Rattle.std.proofs.lemmas.List.Elements.{filter-append}
 use Rattle.std.proofs.lemmas.List.Folds.{list_all-append}
-use Rattle.wt_message.specs.Datagram.{datagram_of}
 use Rattle.wt_meaning.specs.Findings.{Finding, SessionClosed, SettingsRead, control_in, fault_of, first_of, is_datagram, reads_settings, settings_came}
 use Rattle.wt_meaning.specs.History.{History, contents, events, stream_count}
 use Rattle.wt_meaning.specs.Moments.{Check, ControlFault, DecoderEnd, EncoderEnd, LocalStop, ReadDatagram, ReadSettings, WalkSession, after_checks, checks, closing, control_walk, datagram_checks, datagram_found, found_by, ids_from, is_ready, reading, session_found, stream_checks}
 use Rattle.wt_meaning.specs.SessionWalk.{is_over, session_walk_of}
 use Rattle.wt_meaning.specs.Windows.{is_established, is_gone, is_gone_by_call, lives, makes_gone, session_part}
+use Rattle.wt_message.specs.Datagram.{datagram_of}
+use Rattle.wt_promise.proofs.Accepted.{and-left, or-true}
 use Rattle.wt_promise.proofs.Grows.{adds, asks_peers, checks-add, checks-keep, more, peers-checked}
 use Rattle.wt_promise.proofs.MomentActs.{lives-before}
 use Rattle.wt_proto.specs.declared.session_walk.SessionWalk.{SessionWalk}
 use Rattle.wt_seam_spec.specs.Reports.{datagrams_of, end_of}
 use Rattle.wt_seam_spec.specs.Streams.{peer_bi, peer_count, peer_uni}
-use Rattle.wt_promise.proofs.Accepted.{and-left, or-true}
 use Rattle.wt_sessions_agree.proofs.Appends.{any-append}
 use Rattle.wt_sessions_agree.proofs.CriticalLaws.{checks-append}
-use Rattle.wt_sessions_agree.proofs.StreamKinds.{bi-small, uni-small}
 use Rattle.wt_sessions_agree.proofs.OrderlyLaws.{Parts, parts-kept}
 use Rattle.wt_sessions_agree.proofs.RestKinds.{Classifies, Closes, Dequeues, Finds, KeptOn, NoFault, Nothing, Reads, Settles, StillTo, fault-behind, fault-first, kind-kept, kind-still, pass-finds, pass-keeps, pass-step, still-finds, under}
+use Rattle.wt_sessions_agree.proofs.StreamKinds.{bi-small, uni-small}
 use Rattle.wt_sessions_agree.specs.Orderly.{Known, begins_at}
 use Rattle.wt_wire.specs.declared.error.ErrorCode.{ErrorCode}
 use Rattle.wt_wire.specs.declared.side.Side.{Side}

@@ -7,6 +7,8 @@ use Rattle.wt_meaning.specs.History.{History, Pair, contents, events, is_open, s
 use Rattle.wt_meaning.specs.Moments.{ControlFault, DecoderEnd, EncoderEnd, LocalStop, ReadSettings, after_checks, after_moments, checks, control_walk, end_fault, fault_if, findings, is_ready, verdict}
 use Rattle.wt_meaning.specs.SessionWalk.{session_walk_of}
 use Rattle.wt_meaning.specs.Windows.{is_established, is_gone, lives, session_in, session_part}
+use Rattle.wt_promise.proofs.Accepted.{and-left}
+use Rattle.wt_promise.proofs.Begun.{BegunFor}
 use Rattle.wt_promise.proofs.Few.{gone-later}
 use Rattle.wt_promise.proofs.Grows.{checks-add}
 use Rattle.wt_promise.proofs.OpenStays.{no-fault}
@@ -14,13 +16,11 @@ use Rattle.wt_promise.proofs.Opened.{open-before}
 use Rattle.wt_promise.proofs.Phases.{same-established}
 use Rattle.wt_promise.proofs.Silent.{established-begun}
 use Rattle.wt_promise.proofs.Verdicts.{given-classified}
-use Rattle.wt_promise.proofs.Begun.{BegunFor}
 use Rattle.wt_promise.specs.Promise.{IsHistory}
 use Rattle.wt_proto.specs.declared.control_walk.ControlWalk.{ControlWalk}
 use Rattle.wt_proto.specs.declared.verdict.Verdict.{Verdict}
 use Rattle.wt_seam_spec.specs.Reports.{credit, datagrams_of, end_of, is_connected, stop_of, unis_allowed}
 use Rattle.wt_seam_spec.specs.Streams.{local_uni, peer_bi, peer_count, peer_uni}
-use Rattle.wt_promise.proofs.Accepted.{and-left}
 use Rattle.wt_sessions_agree.proofs.Appends.{filter-ids}
 use Rattle.wt_sessions_agree.proofs.Basics.{and-false}
 use Rattle.wt_sessions_agree.proofs.RestKinds.{Left, Still, Taken, is_incomplete, is_stuck, stuck}
@@ -33,8 +33,8 @@ use Rattle.wt_turn.specs.declared.loss.LossReason.{LossReason}
 use Rattle.wt_turn.specs.declared.reply.Reply.{Reply}
 use Rattle.wt_turn.specs.declared.turn.Turn.{Turn}
 use Rattle.wt_wire.specs.declared.side.Side.{Side}
-use Rattle.wt_wire.specs.declared.side.StreamEnd.{StreamEnd}
 use Rattle.wt_wire.specs.declared.side.Side.TheVariants.{Client, Server}
+use Rattle.wt_wire.specs.declared.side.StreamEnd.{StreamEnd}
 use Rattle.wt_turn.specs.declared.reply.Reply.TheVariants as replies
 use Rattle.wt_turn.specs.declared.turn.Turn.TheVariants as turns
 use Rattle.wt_wire.specs.declared.error.ErrorCode.TheVariants as h3

@@ -4,23 +4,23 @@ use Rattle.std.specs.Option.{option_or}
 use Rattle.std.proofs.Common.{◌∙◌, ap, arith, refl, subst, sym}
 use Rattle.std.proofs.lemmas.Bool.{eq-eqb, eqb-true}
 use Rattle.std.proofs.lemmas.List.{append-nil}
-use Rattle.wt_proto.specs.declared.verdict.Verdict.{Verdict}
-use Rattle.wt_turn.specs.declared.action.Action.{Action}
-use Rattle.wt_wire.specs.declared.error.ErrorCode.{ErrorCode}
-use Rattle.wt_wire.specs.declared.side.Side.{Side}
+use Rattle.wt_meaning.specs.Findings.{Dequeued, Faulted, Finding, control_in, decoder_in, dequeues, encoder_in, fault_in, fault_of, first_of, is_classified, is_datagram, is_dequeued, reads_settings, settings_came, verdict_in}
+use Rattle.wt_meaning.specs.Findings as finds
+use Rattle.wt_meaning.specs.History.{History}
+use Rattle.wt_meaning.specs.Moments.{Check, Classify, Dequeue, after_checks, classified_as, classifying, dequeuing, fault_if, found_by, ids_from, is_ready, keeps, stream_checks, stream_fault, unclassified_before, verdict}
 use Rattle.wt_promise.proofs.Accepted.{or-true}
+use Rattle.wt_proto.specs.declared.verdict.Verdict.{Verdict}
 use Rattle.wt_sessions.specs.Scan.{classify, places_after, scan, with_classified}
 use Rattle.wt_sessions.specs.StreamTable.{CallView, Classified, Consequence, StreamTable, TransportView, admit_or_stop, consequence, control_start, decoder_start, dispatched_streams, encoder_start, first_at, only_once}
 use Rattle.wt_sessions_agree.proofs.Appends.{adds, any-append, cons-append, drops, filter-drops, filter-fewer, filter-ids, first-append, ids-more, not-same, one-if, classified-append, table-same, dequeued-append}
 use Rattle.wt_sessions_agree.proofs.Basics.{or-false, or-none}
 use Rattle.wt_sessions_agree.proofs.FoundLaws.{controls-agree, decoders-agree, encoders-agree}
 use Rattle.wt_sessions_agree.specs.Agrees.{IsTable, admitted_in, classified_in, closed_in}
-use Rattle.wt_wire.specs.declared.error.ErrorCode.TheVariants as h3
+use Rattle.wt_turn.specs.declared.action.Action.{Action}
+use Rattle.wt_wire.specs.declared.error.ErrorCode.{ErrorCode}
+use Rattle.wt_wire.specs.declared.side.Side.{Side}
 use Rattle.wt_proto.specs.declared.verdict.Verdict.TheVariants as verdicts
-use Rattle.wt_meaning.specs.Findings.{Dequeued, Faulted, Finding, control_in, decoder_in, dequeues, encoder_in, fault_in, fault_of, first_of, is_classified, is_datagram, is_dequeued, reads_settings, settings_came, verdict_in}
-use Rattle.wt_meaning.specs.History.{History}
-use Rattle.wt_meaning.specs.Moments.{Check, Classify, Dequeue, after_checks, classified_as, classifying, dequeuing, fault_if, found_by, ids_from, is_ready, keeps, stream_checks, stream_fault, unclassified_before, verdict}
-use Rattle.wt_meaning.specs.Findings as finds
+use Rattle.wt_wire.specs.declared.error.ErrorCode.TheVariants as h3
 
 -- ---- a fault stops both
 

@@ -3,7 +3,11 @@ use Rattle.std.specs.Prelude.{[], ◌++◌, ◌∷◌, ◌≡◌, Bool, List, No
 use Rattle.std.specs.Option.{option_or}
 use Rattle.std.proofs.Common.{◌∙◌, ap, refl, subst, sym}
 use Rattle.std.proofs.lemmas.List.{append-nil}
+use Rattle.wt_meaning.specs.Findings.{Faulted, Finding, SessionClosed, fault_in, fault_of, is_datagram, reads_settings, settings_came, verdict_in, verdict_of}
+use Rattle.wt_meaning.specs.History.{History, contents, events}
+use Rattle.wt_meaning.specs.Moments.{WalkSession, after_checks, closing, session_found}
 use Rattle.wt_meaning.specs.SessionWalk.{is_over, session_walk_of}
+use Rattle.wt_meaning.specs.Windows.{after_request, after_response, is_established, is_gone, lives, session_part}
 use Rattle.wt_proto.specs.ResponseWalk.{response_walk_of}
 use Rattle.wt_proto.specs.declared.session_walk.SessionWalk.{SessionWalk}
 use Rattle.wt_proto.specs.declared.verdict.Verdict.{Verdict}
@@ -15,16 +19,12 @@ use Rattle.wt_sessions_agree.proofs.Appends.{adds, any-append, drops, filter-dro
 use Rattle.wt_sessions_agree.proofs.Basics.{or-false, or-none}
 use Rattle.wt_sessions_agree.proofs.ScanLaws.{fault-fields, check-step, checks-faulty}
 use Rattle.wt_sessions_agree.proofs.WindowLaws.{gone-agrees}
+use Rattle.wt_sessions_agree.specs.Agrees.{IsTable, admitted_in, classified_in, closed_in}
 use Rattle.wt_sessions_agree.specs.Orderly.{Begin, session_at}
 use Rattle.wt_sessions_agree.specs.Stands.{CallsAgree, ViewsAgree}
-use Rattle.wt_sessions_agree.specs.Agrees.{IsTable, admitted_in, classified_in, closed_in}
 use Rattle.wt_wire.specs.declared.error.ErrorCode.{ErrorCode}
 use Rattle.wt_wire.specs.declared.side.Side.{Side}
 use Rattle.wt_wire.specs.declared.side.StreamEnd.{StreamEnd}
-use Rattle.wt_meaning.specs.Findings.{Faulted, Finding, SessionClosed, fault_in, fault_of, is_datagram, reads_settings, settings_came, verdict_in, verdict_of}
-use Rattle.wt_meaning.specs.History.{History, contents, events}
-use Rattle.wt_meaning.specs.Moments.{WalkSession, after_checks, closing, session_found}
-use Rattle.wt_meaning.specs.Windows.{after_request, after_response, is_established, is_gone, lives, session_part}
 use Rattle.wt_proto.specs.declared.session_walk.SessionWalk.TheVariants as walks
 use Rattle.wt_wire.specs.declared.side.StreamEnd.TheVariants as ends
 

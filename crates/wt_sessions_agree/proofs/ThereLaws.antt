@@ -8,6 +8,7 @@ use Rattle.wt_meaning.specs.Findings.{Dequeued, Finding, dequeues, fault_of, is_
 use Rattle.wt_meaning.specs.History.{History, all_events, events, exists, is_open, stream_count, with_event}
 use Rattle.wt_meaning.specs.Moments.{Check, Dequeue, WalkSession, after_checks, after_moments, checks, datagram_checks, findings, found_by, ids_from, is_ready, stream_checks, unclassified_before}
 use Rattle.wt_meaning.specs.Windows.{is_established}
+use Rattle.wt_promise.proofs.Accepted.{and-left, and-right}
 use Rattle.wt_promise.proofs.Fresh.{established-opened, nth-of}
 use Rattle.wt_promise.proofs.HandedOut.{only-peers}
 use Rattle.wt_promise.proofs.Stays.{exists-stays}
@@ -15,10 +16,9 @@ use Rattle.wt_promise.specs.Promise.{IsHistory}
 use Rattle.wt_proto.specs.declared.verdict.Verdict.{Verdict}
 use Rattle.wt_seam_spec.specs.Reports.{datagrams_of}
 use Rattle.wt_seam_spec.specs.Streams.{one_more_if, peer_bi, peer_count, peer_opens, peer_uni}
-use Rattle.wt_promise.proofs.Accepted.{and-left, and-right}
 use Rattle.wt_sessions_agree.proofs.Few.{dequeues-none, is-other, none-dequeued, plain-other}
-use Rattle.wt_sessions_agree.proofs.StreamKinds.{bi-small, uni-small}
 use Rattle.wt_sessions_agree.proofs.PartLaws.{ByRequest, ByResponse, Parted, parted}
+use Rattle.wt_sessions_agree.proofs.StreamKinds.{bi-small, uni-small}
 use Rattle.wt_turn.specs.Log.{Event}
 use Rattle.wt_turn.specs.Turns.{event_of}
 use Rattle.wt_turn.specs.declared.reply.Reply.{Reply}

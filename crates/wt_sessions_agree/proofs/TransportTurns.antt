@@ -14,6 +14,7 @@ use Rattle.wt_seam_spec.specs.Joined.{join_all}
 use Rattle.wt_seam_spec.specs.Streams as streams
 use Rattle.wt_sessions.specs.Answers.{log_after}
 use Rattle.wt_sessions.specs.Driver.{call_view, is_moment, log_and_flush, pending_actions, transport_view}
+use Rattle.wt_sessions_agree.proofs.CameAgrees.{is_single}
 use Rattle.wt_sessions_agree.proofs.EntryTurns.{at-moment, closed-more, finds-nothing, leaves-nothing, none-now, open-after, open-byte}
 use Rattle.wt_sessions_agree.proofs.HalvesAlike.{halves-seen}
 use Rattle.wt_sessions_agree.proofs.MembersBefore.{good-before, members-moment}
@@ -22,7 +23,6 @@ use Rattle.wt_sessions_agree.proofs.MembersTurns.{members-plain}
 use Rattle.wt_sessions_agree.proofs.OrderTurns.{order-plain}
 use Rattle.wt_sessions_agree.proofs.PendingLaws.{sends-alike}
 use Rattle.wt_sessions_agree.proofs.RestTurns.{idle-loss}
-use Rattle.wt_sessions_agree.proofs.CameAgrees.{is_single}
 use Rattle.wt_sessions_agree.proofs.TurnAnswers.{done-next, sends-now}
 use Rattle.wt_sessions_agree.proofs.TurnFinds.{found-same, found-then, sees-alike}
 use Rattle.wt_sessions_agree.proofs.TurnKeeps.{calls-after, count-after, entry-actions, entry-calls, halves-after, out-after, sessions-after, single-plain, turn-calls}

@@ -12,8 +12,8 @@ use Rattle.wt_seam_spec.specs.Joined.{join_all, newest_first}
 use Rattle.wt_sessions.specs.Answers.{log_after}
 use Rattle.wt_sessions.specs.Answers as answers
 use Rattle.wt_sessions.specs.Driver.{call_view, stream_table}
-use Rattle.wt_sessions_agree.proofs.OutLaws.{since-is}
 use Rattle.wt_sessions_agree.proofs.CameAgrees.{is_single}
+use Rattle.wt_sessions_agree.proofs.OutLaws.{since-is}
 use Rattle.wt_sessions_agree.proofs.TurnKeeps.{turn-keeps}
 use Rattle.wt_sessions_agree.specs.Agreement.{TurnAgrees}
 use Rattle.wt_sessions_agree.specs.Agrees.{IsTable}

@@ -11,9 +11,9 @@ use Rattle.wt_seam_spec.specs.Streams as streams
 use Rattle.wt_sessions.specs.Driver.{apply_if, call_view, flush, is_moment, log_and_flush, pending_actions, stream_table, transport_view}
 use Rattle.wt_sessions.specs.Scan.{scan_order}
 use Rattle.wt_sessions.specs.StreamTable.{CallView}
+use Rattle.wt_sessions_agree.proofs.CameAgrees.{ready-by-events}
 use Rattle.wt_sessions_agree.proofs.MomentAgrees.{moment-agrees}
 use Rattle.wt_sessions_agree.proofs.OrderlyLaws.{orderly-checks}
-use Rattle.wt_sessions_agree.proofs.CameAgrees.{ready-by-events}
 use Rattle.wt_sessions_agree.specs.Agrees.{IsTable}
 use Rattle.wt_sessions_agree.specs.Orderly.{Orderly, session_at}
 use Rattle.wt_sessions_agree.specs.Stands.{CallsAgree, SeesAlike}

@@ -15,32 +15,32 @@ use Rattle.wt_meaning.specs.Meaning.{with_pair}
 use Rattle.wt_meaning.specs.Moments.{findings, ids_from}
 use Rattle.wt_meaning.specs.Rows.{answer}
 use Rattle.wt_meaning.specs.Windows.{first_session, gone_in, is_established, named}
-use Rattle.wt_seam_spec.specs.Joined.{join_all, newest_first}
-use Rattle.wt_seam_spec.specs.Sent as sends
-use Rattle.wt_seam_spec.specs.Arrivals.{event_entry}
-use Rattle.wt_seam_spec.specs.Streams.{one_more_if, peer_count, peer_opens}
 use Rattle.wt_promise.proofs.Actions.{opened-out, or-assoc}
 use Rattle.wt_promise.proofs.Stays.{exists-stays}
+use Rattle.wt_seam_spec.specs.Arrivals.{event_entry}
+use Rattle.wt_seam_spec.specs.Joined.{join_all, newest_first}
+use Rattle.wt_seam_spec.specs.Sent as sends
+use Rattle.wt_seam_spec.specs.Streams.{one_more_if, peer_count, peer_opens}
 use Rattle.wt_sessions.specs.Answers.{log_after}
-use Rattle.wt_sessions.specs.Driver as drivers
-use Rattle.wt_sessions.specs.Halves as halves
-use Rattle.wt_sessions.specs.Handshake.{awaits_answer, awaits_request, handshake_state, is_continuable, requested_stream}
 use Rattle.wt_sessions.specs.Answers as answers
 use Rattle.wt_sessions.specs.Connection.{opening_session}
 use Rattle.wt_sessions.specs.Driver.{accepts_stream, apply_if, call_view, delivers, ends_session, flush, gives_up, is_moment, log_and_flush, members_of, pending_actions, receives, sessions_of, stream_table}
+use Rattle.wt_sessions.specs.Driver as drivers
+use Rattle.wt_sessions.specs.Halves as halves
+use Rattle.wt_sessions.specs.Handshake.{awaits_answer, awaits_request, handshake_state, is_continuable, requested_stream}
 use Rattle.wt_sessions.specs.StreamTable.{CallView, is_session}
 use Rattle.wt_sessions_agree.proofs.Basics.{or-none, or-turned}
+use Rattle.wt_sessions_agree.proofs.CameAgrees.{flushed, is_single, turn_agrees}
 use Rattle.wt_sessions_agree.proofs.DoneStays.{done-before, told-resets}
 use Rattle.wt_sessions_agree.proofs.OutLaws.{any-newest, same-out}
-use Rattle.wt_sessions_agree.proofs.CameAgrees.{flushed, is_single, turn_agrees}
 use Rattle.wt_sessions_agree.specs.Agrees.{Agrees, IsTable}
 use Rattle.wt_sessions_agree.specs.Orderly.{Orderly, session_at}
 use Rattle.wt_sessions_agree.specs.Stands.{BegunAgrees, CallsAgree, HalvesAgree, HandshakeAgrees, IsOpening, NotOpening, OpeningAgrees, SameOut, Stands, fails_opening}
 use Rattle.wt_turn.specs.Log.{CallRecord, Called, Entry, Event, Log, ResetUnsent, Sent, actions_of, calls_of, events_of, with_actions}
 use Rattle.wt_turn.specs.Log as logs
 use Rattle.wt_turn.specs.Turns.{event_of, is_call}
-use Rattle.wt_turn.specs.declared.call.Call.{Call}
 use Rattle.wt_turn.specs.declared.action.Action.{Action}
+use Rattle.wt_turn.specs.declared.call.Call.{Call}
 use Rattle.wt_turn.specs.declared.turn.Turn.{Turn}
 use Rattle.wt_wire.specs.declared.side.Side.{Side}
 use Rattle.wt_turn.specs.declared.action.Action.TheVariants as actions

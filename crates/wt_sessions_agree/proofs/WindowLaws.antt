@@ -2,18 +2,18 @@
 use Rattle.std.specs.Prelude.{[], ◌&&◌, ◌==◌, ◌∷◌, ◌||◌, ◌≡◌, Bool, List, None, Option, Some, cond, false, filter, filter_map, if◌then◌else◌, length, map, nat_lt, not, suc, true, ℕ}
 use Rattle.std.specs.List.{list_any}
 use Rattle.std.proofs.Common.{◌∙◌, ap, refl, sym}
+use Rattle.wt_meaning.specs.Findings.{DatagramRead, Dequeued, Faulted, Finding, SessionClosed, SettingsRead}
+use Rattle.wt_meaning.specs.Findings as finds
+use Rattle.wt_meaning.specs.History.{History, is_handed_out}
+use Rattle.wt_meaning.specs.Moments.{keeps}
+use Rattle.wt_meaning.specs.Windows.{admitted_stream, held_requests, is_established, is_gone, makes_gone, queued_request, shares_window, streams_in_window}
 use Rattle.wt_sessions.specs.StreamTable.{CallView, Classified, Consequence, StreamTable, TransportView, Waiting, admit_or_stop, consequence, dispatched_streams, has_room, is_closed, is_turned_away, queued_id, waits_in, was_established}
 use Rattle.wt_sessions.specs.StreamTable as tables
 use Rattle.wt_sessions_agree.proofs.Basics.{and-false, and-true}
 use Rattle.wt_sessions_agree.proofs.ScanLaws.{Admits}
-use Rattle.wt_sessions_agree.specs.Stands.{CallsAgree}
 use Rattle.wt_sessions_agree.specs.Agrees.{IsTable, classified_in, closed_in}
+use Rattle.wt_sessions_agree.specs.Stands.{CallsAgree}
 use Rattle.wt_proto.specs.declared.verdict.Verdict.TheVariants as verdicts
-use Rattle.wt_meaning.specs.Findings.{DatagramRead, Dequeued, Faulted, Finding, SessionClosed, SettingsRead}
-use Rattle.wt_meaning.specs.History.{History, is_handed_out}
-use Rattle.wt_meaning.specs.Moments.{keeps}
-use Rattle.wt_meaning.specs.Windows.{admitted_stream, held_requests, is_established, is_gone, makes_gone, queued_request, shares_window, streams_in_window}
-use Rattle.wt_meaning.specs.Findings as finds
 
 -- ---- gone
 
