@@ -26,7 +26,7 @@ use Rattle.wt_turn.specs.declared.turn.Turn.TheVariants as turns
 
 -- ---- calls
 
--- the session that a call names: with no name the one that was established first
+-- the session that a call names, where it was established; a call that names none means the first
 abbrev pub named_session : Log → Option ℕ → Option ℕ
 named_session log None = first_session (calls_of log)
 named_session log (Some s) = if was_established (call_view log) s then Some s else None

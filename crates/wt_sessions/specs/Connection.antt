@@ -33,7 +33,7 @@ waits_for kind s w = w.id % 4 == kind && w.session == s
 abbrev pub next_stream : Side → Log → ℕ → ℕ → Option Waiting
 next_stream side log kind s = find (waits_for kind s) (dispatched side log).streams
 
--- it is given; without one the call waits or fails
+-- the stream is given; without one the call waits or fails
 abbrev pub give_stream : Side → (ℕ → Reply) → Log → ℕ → Option Waiting → Effect
 give_stream side reply log s (Some w) = reply_with (log_call side log [] (StreamAccepted w.id s)) (reply w.id)
 give_stream side reply log s None = poll_only side log (pending_or_failed side log s)
@@ -48,7 +48,7 @@ accept_stream side reply kind log s = give_stream side reply log s (next_stream 
 abbrev pub next_datagram : Side → Log → ℕ → Option Admitted
 next_datagram side log s = find (λ (d : Admitted). d.session == s) (dispatched side log).datagrams
 
--- it is given; without one the call waits or fails
+-- the datagram is given; without one the call waits or fails
 abbrev pub give_datagram : Side → Log → ℕ → Option Admitted → Effect
 give_datagram side log s (Some d) = reply_with (log_call side log [] (DatagramReceived d.index)) (replies.Datagram d.payload)
 give_datagram side log s None = poll_only side log (pending_or_failed side log s)
@@ -78,7 +78,7 @@ abbrev pub ends_opening : ℕ → CallRecord → Bool
 ends_opening k (OpeningFailed id) = id == k
 ends_opening k r = accepts_stream k r
 
--- from the call that opened the stream to the poll that gave it, or failed
+-- the stream is being opened: from the call that began to open it to the poll that gave it or failed
 abbrev pub is_opening : Log → ℕ → Bool
 is_opening log k = list_any (starts_opening k) (calls_of log) && not (list_any (ends_opening k) (calls_of log))
 
@@ -91,7 +91,7 @@ opened_for k _ = None
 abbrev pub opening_session : Log → ℕ → Option ℕ
 opening_session log k = if is_opening log k then newest (opened_for k) (calls_of log) else None
 
--- what stands in front of a stream that this end opens
+-- the header of a stream that this end opens for the session (draft-ietf-webtrans-http3, sections 4.2 and 4.3)
 abbrev pub stream_header : ℕ → ℕ → List ℕ
 stream_header k s = varint_bytes (if is_bidirectional k then 0x41 else 0x54) ++ varint_bytes s
 
@@ -112,7 +112,7 @@ continue_opening side log k s left =
     (if is_refused log k left then reply_with (log_call side log [] (OpeningFailed k)) (replies.OpeningFailed openings.Refused)
     else send_header side log k s left)
 
--- of a stream that is being opened for a session
+-- a poll of this stream, by the session for which it is being opened, where it is
 abbrev pub poll_for : Side → Log → ℕ → Option ℕ → Effect
 poll_for side log k None = poll_only side log replies.NoStream
 poll_for side log k (Some s) = continue_opening side log k s (head_left log k (stream_header k s))
@@ -131,7 +131,7 @@ datagram_within side log bytes (facts.Limit limit) =
     if nat_lt limit (length bytes) then poll_only side log (replies.DatagramFailed datagrams.TooLarge)
     else poll_sending side log (actions.DatagramOut bytes ∷ []) replies.Done
 
--- by what the transport reported last of datagrams
+-- a datagram goes out by what the transport reported last of datagrams
 abbrev pub datagram_allowed : Side → Log → List ℕ → Option DatagramFact → Effect
 datagram_allowed side log bytes None = poll_only side log (replies.DatagramFailed datagrams.NotConnected)
 datagram_allowed side log bytes (Some fact) = datagram_within side log bytes fact
@@ -150,7 +150,7 @@ payload_limit s _ = None
 
 -- ---- ends
 
--- the application ends the session: its stream is finished, unless the peer stopped it, and then what is left of its streams
+-- what goes out where the application ends the session: its own stream is finished, unless the peer stopped it, then its streams end
 abbrev pub session_end_actions : Side → Log → ℕ → List Action
 session_end_actions side log s = action_if (not (is_some (stop_of (events_of log) s))) (actions.Finish s) ++ ending_actions side log s
 

@@ -34,7 +34,7 @@ gives_up k _ = false
 abbrev pub still_sends : Side → Log → ℕ → Bool
 still_sends side log k = can_send side log k && not (is_finished (actions_of log) k) && not (is_reset log k)
 
--- the stream has a receiving half that the peer neither ended nor the application gave up (RFC 9000, section 3.2)
+-- the stream has a receiving half that neither the peer ended nor the application gave up (RFC 9000, section 3.2)
 abbrev pub still_receives : Side → Log → ℕ → Bool
 still_receives side log k = can_receive side log k && is_running (end_of (events_of log) k) && not (list_any (gives_up k) (calls_of log))
 
@@ -55,7 +55,7 @@ transport_view side log = record {
   credit = credit (events_of log) (local_uni side);
 }
 
--- an accept gave the stream, or an opening that is through
+-- the call gave the stream: an accept, or the poll that ended its opening
 abbrev pub accepts_stream : ℕ → CallRecord → Bool
 accepts_stream k (StreamAccepted id session) = id == k
 accepts_stream k _ = false
@@ -80,7 +80,7 @@ abbrev pub with_session : Session → List Session → List Session
 with_session s [] = s ∷ []
 with_session s (x ∷ xs) = if nat_lt s.id x.id then s ∷ x ∷ xs else x ∷ with_session s xs
 
--- the sessions with the one that the call established
+-- the sessions with the one that the call established, if it did
 abbrev pub sessions_after : CallRecord → List Session → List Session
 sessions_after (SessionEstablished id offset) before = with_session (record { id = id; offset = offset }) before
 sessions_after _ before = before
@@ -129,7 +129,7 @@ call_view log = record {
 
 -- ---- after each moment
 
--- an action is no moment, nor is what comes after the end
+-- the entry is a moment: it is no action, and no event after the end
 abbrev pub is_moment : Entry → Bool
 is_moment (Sent action) = false
 is_moment (ReportedLate event) = false
@@ -140,7 +140,7 @@ abbrev pub apply_if : {S : Type 0} → Bool → (S → S) → S → S
 apply_if true f s = f s
 apply_if false f s = s
 
--- the table after the log: each moment that finds the connection open goes through the steps once
+-- the table after the log: each moment of an open connection goes through the steps once
 unfoldable pub stream_table : Side → Log → StreamTable
 stream_table side [] = no_streams
 stream_table side (e ∷ log) =
@@ -155,7 +155,7 @@ settings_came side log = (stream_table side log).progress.settings
 -- how far this end's control stream is
 pub record ControlSent : Type 0 where
   pub opened : Bool
-  pub sent : ℕ
+  pub sent : ℕ  -- how many bytes went out on it
 
 -- how far this end's control stream is after the log
 abbrev pub control_sent : Side → Log → ControlSent

@@ -22,11 +22,11 @@ pub record Effect : Type 0 where
   pub log : Log
   pub reply : Reply
 
--- a call's record, after the actions of the call's own; the driver's stand after it
+-- the log after a call: the call's own actions, then its record, then what the driver sends at that moment
 abbrev pub log_call : Side → Log → List Action → CallRecord → Log
 log_call side log own r = log_and_flush side (with_actions own log) (Called r)
 
--- the log of a turn, with this reply
+-- a turn leads to this log and this reply
 abbrev pub reply_with : Log → Reply → Effect
 reply_with log reply = record { log = log; reply = reply }
 
@@ -68,7 +68,7 @@ error_of_session side log false None = driver_error side log
 abbrev pub session_error : Side → Log → ℕ → ConnectionError
 session_error side log s = error_of_session side log (is_session_gone side log s) (find (is_closed s) (stream_table side log).closed)
 
--- nothing is left for a call on this session
+-- the reply to a call for which nothing is left: it waits while the connection is open and the session lives
 abbrev pub pending_or_failed : Side → Log → ℕ → Reply
 pending_or_failed side log s = if is_open log && is_living side log s then replies.Pending else replies.Failed (session_error side log s)
 
@@ -79,7 +79,7 @@ abbrev pub is_empty : List ℕ → Bool
 is_empty [] = true
 is_empty (b ∷ bytes) = false
 
--- what of a stream's head isn't out yet
+-- what of a stream's head isn't out yet; the head is what this layer sends first: a request, a response or a header
 abbrev pub head_left : Log → ℕ → List ℕ → List ℕ
 head_left log k head = drop (length (sent_on (actions_of log) k)) head
 

@@ -62,7 +62,7 @@ written_reply (b ∷ bytes) (suc n) = replies.Written (suc n)
 abbrev pub all_written_reply : List ℕ → ℕ → Reply
 all_written_reply bytes n = if n == length bytes then replies.AllWritten else replies.Count n
 
--- as many bytes as credit is left for
+-- a write that this hinders, or that sends as many of the bytes as credit is left for
 abbrev pub write_by : (List ℕ → ℕ → Reply) → Side → Log → ℕ → List ℕ → Option StreamWriteError → Effect
 write_by reply side log k bytes (Some e) = poll_only side log (replies.WriteFailed e)
 write_by reply side log k bytes None = poll_sending side log (send_of k (bytes_within_credit log k bytes)) (reply bytes (length (bytes_within_credit log k bytes)))
@@ -101,7 +101,7 @@ abbrev pub finish : Side → Log → ℕ → Effect
 finish side log k =
     poll_sending side log (finish_once log k) (stopped_reply log k (λ e. replies.WriteFailed e) replies.Finished (stop_of (events_of log) k))
 
--- a reset counts also where it can't go out
+-- the sending half is reset, unless it is done; the reset counts also where it can't go out
 abbrev pub reset : Side → Log → ℕ → ℕ → Effect
 reset side log k code =
     if is_done log k then poll_only side log replies.ClosedStream else
@@ -119,7 +119,7 @@ set_priority side log k p =
 
 -- ---- reading
 
--- how many bytes of a stream were read
+-- how many bytes of the stream the call read
 abbrev pub bytes_read : ℕ → CallRecord → ℕ
 bytes_read k (BytesRead id count) = if id == k then count else 0
 bytes_read k _ = 0
@@ -142,7 +142,7 @@ unread_body side log k = drop (body_start (verdict_of k (stream_table side log).
 abbrev pub take_bytes : Side → Log → ℕ → List ℕ → Reply → Effect
 take_bytes side log k bytes reply = reply_with (log_call side log [] (BytesRead k (length bytes))) reply
 
--- with nothing unread
+-- what a read answers where nothing is unread
 abbrev pub reply_at_end : Log → StreamEnd → Reply
 reply_at_end log ends.Running = if is_open log then replies.Pending else replies.ReadFailed reads.NotConnected
 reply_at_end log ends.Fin = replies.Read None
@@ -158,7 +158,7 @@ abbrev pub read : Side → Log → ℕ → ℕ → Effect
 read side log k size =
     if size == 0 then poll_only side log (replies.Read (Some [])) else read_reply side log k size (unread_body side log k)
 
--- with too few bytes: they are taken only where no more can come
+-- an exact read of too few bytes: they are taken only where the stream ended cleanly
 abbrev pub exact_at_end : Side → Log → ℕ → List ℕ → StreamEnd → Effect
 exact_at_end side log k bytes ends.Running =
     poll_only side log (if is_open log then replies.Pending else replies.ExactFailed (exacts.Read reads.NotConnected) [])

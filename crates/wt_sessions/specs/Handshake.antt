@@ -35,12 +35,12 @@ use Rattle.wt_proto.specs.declared.verdict.Verdict.TheVariants as verdicts
 
 -- how far the handshake is
 pub data HandshakeState : Type 0 where
-  AwaitingRequest : HandshakeState
-  Requested : (id : ℕ) → HandshakeState
-  Responding : (accepts : Bool) (head : List ℕ) → HandshakeState
-  Connecting : (reserved : Option (List ℕ)) (head : List ℕ) → HandshakeState
-  Answered : HandshakeState  -- the request was accepted or rejected, or its acceptance failed; or a connect is through
-  Over : HandshakeState
+  AwaitingRequest : HandshakeState  -- it didn't begin
+  Requested : (id : ℕ) → HandshakeState  -- the request of this stream was delivered
+  Responding : (accepts : Bool) (head : List ℕ) → HandshakeState  -- a response with this head goes out
+  Connecting : (reserved : Option (List ℕ)) (head : List ℕ) → HandshakeState  -- a connect dialled
+  Answered : HandshakeState  -- the request was accepted or rejected, or its acceptance failed; or a connect led to a session
+  Over : HandshakeState  -- a connect failed, or no request comes any more
 
 -- the request that the call delivered
 abbrev pub requested_by : CallRecord → Option ℕ
@@ -52,8 +52,8 @@ abbrev pub requested_stream : List CallRecord → ℕ
 requested_stream [] = 0
 requested_stream (r ∷ earlier) = elim (requested_by r) [ Some id ↦ id | None ↦ requested_stream earlier ]
 
--- the state that a call's record leads to, where it is one of the handshake; by the request that was delivered last, since
--- the end of an earlier request's session is none of it
+-- the state that a call's record leads to, where it is one of the handshake; it asks which request was delivered last, since
+-- the end of an earlier request's session has the record of a rejection
 abbrev pub after_record : ℕ → CallRecord → Option HandshakeState
 after_record requested (RequestDelivered id) = Some (Requested id)
 after_record requested (ResponseStarted accepts head) = Some (Responding accepts head)
@@ -64,7 +64,7 @@ after_record requested AcceptanceFailed = Some Answered
 after_record requested HandshakeOver = Some Over
 after_record requested _ = None
 
--- by the newest record of the handshake
+-- how far the handshake is, by its newest record
 abbrev pub handshake_state : List CallRecord → HandshakeState
 handshake_state [] = AwaitingRequest
 handshake_state (r ∷ earlier) = elim (after_record (requested_stream earlier) r) [ Some s ↦ s | None ↦ handshake_state earlier ]
@@ -94,7 +94,7 @@ abbrev pub deliver : Side → Log → List Classified → Effect
 deliver side log (c ∷ later) = reply_with (log_call side log [] (RequestDelivered c.id)) (replies.Request c.id (request_fields_of c.verdict))
 deliver side log [] = if is_open log then poll_only side log replies.Pending else fail_handshake side log [] (replies.Failed (driver_error side log))
 
--- the queued requests, none of which counts before the peer's SETTINGS came
+-- the queued requests that weren't delivered, none of which counts before the peer's SETTINGS came
 abbrev pub queued_requests : Side → Log → List Classified
 queued_requests side log =
     if settings_came side log then (dispatched side log).requests else []
@@ -117,7 +117,7 @@ is_refused log k left = is_some (stop_of (events_of log) k) && not (is_empty lef
 abbrev pub fail_acceptance : Side → Log → List Action → ConnectionError → Effect
 fail_acceptance side log own e = reply_with (log_call side log own AcceptanceFailed) (replies.Failed e)
 
--- an acceptance: refused by the peer it is a fault, all of it out it establishes the session
+-- an acceptance: where the peer stopped the stream before, a fault ends the connection; once all of it is out, the session is established
 abbrev pub accept_response : Side → Log → ℕ → List ℕ → CallRecord → Effect
 accept_response side log id left waiting =
     if not (is_open log) then fail_acceptance side log [] (transport_error log) else
@@ -131,7 +131,7 @@ accept_response side log id left waiting =
 abbrev pub end_rejection : Side → Log → ℕ → List Action → Effect
 end_rejection side log id own = reply_with (log_call side log own (RequestRejected id)) replies.Rejected
 
--- with no session left the connection is closed
+-- the close of a connection on which no session lives
 abbrev pub close_when_alone : Side → Log → List Action
 close_when_alone side log = if has_no_session side log then close_when_open log 0 else []
 
@@ -166,11 +166,11 @@ start_response side log accepts head = respond side log accepts head (ResponseSt
 abbrev pub fail_connect : Side → Log → List Action → ConnectingError → Effect
 fail_connect side log own e = fail_handshake side log own (replies.ConnectFailed e)
 
--- a failure on an open connection closes it
+-- the connect fails, and the connection is closed where it is open
 abbrev pub abandon : Side → Log → List Action → ConnectingError → Effect
 abandon side log own e = fail_connect side log (own ++ close_when_open log 0) e
 
--- the failure that the connection's end is to a connect
+-- how a connect fails where the connection ended
 abbrev pub loss_to_connect : Log → ConnectingError
 loss_to_connect log = connects.ConnectionError (transport_error log)
 
@@ -202,7 +202,7 @@ send_request side log id own left =
     (if is_covered log id left then await_response side log id (own ++ send_of id left)
     else poll_sending side log (own ++ send_of id (bytes_within_credit log id left)) replies.Pending)))
 
--- the client's first bidirectional stream is the session's
+-- the request goes out on the client's first bidirectional stream, which is opened first
 abbrev pub open_request : Side → Log → List ℕ → Effect
 open_request side log head =
     if not (local_count (actions_of log) (local_bi side) == 0) then send_request side log (local_bi side) [] (head_left log (local_bi side) head) else
@@ -215,7 +215,7 @@ abbrev pub unless_reserved : Side → Log → Option (List ℕ) → List ℕ →
 unless_reserved side log (Some name) head = abandon side log [] (connects.ReservedHeader name)
 unless_reserved side log None head = open_request side log head
 
--- a step waits while the connection is open
+-- a step of the connect waits while the connection is open, and fails with it
 abbrev pub await_or_fail : Side → Log → ConnectionError → Effect
 await_or_fail side log e = if is_open log then poll_only side log replies.Pending else fail_connect side log [] (connects.ConnectionError e)
 

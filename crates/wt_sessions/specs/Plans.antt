@@ -1,5 +1,5 @@
--- What the calls on a session do, as data, by what is kept: what changes of a session's plans where there are several
--- sessions. An accept and a receive are steps like every other call; halves and heads go on as before.
+-- What the calls on a session do, as data, by what they ask of the driver and of the transport. Only those are here whose
+-- plans differ once there are several sessions: accepts, receives, openings, the end of a session and that of a rejection.
 use Rattle.std.specs.Prelude.{[], ◌&&◌, ◌++◌, ◌∷◌, Bool, List, None, Option, Some, if◌then◌else◌, not, ℕ}
 use Rattle.wt_seam_spec.specs.Outgoing.{may_open, next_id}
 use Rattle.wt_sessions.specs.Answers.{named_session}
@@ -21,6 +21,7 @@ pub record Plan : Type 0 where
   pub call : CallRecord
   pub reply : Reply
 
+-- the plan with these
 abbrev pub plan : List Action → CallRecord → Reply → Plan
 plan own call reply = record { own = own; call = call; reply = reply }
 
@@ -73,7 +74,7 @@ abbrev pub in_session_plan : (ℕ → Plan) → Option ℕ → Plan
 in_session_plan call None = only_reply replies.NoSession
 in_session_plan call (Some s) = call s
 
--- nothing is left for a call on this session
+-- nothing is left for the call: it waits while the connection is open and the session lives
 abbrev pub left_plan : SessionFacts → ℕ → Plan
 left_plan f s = only_reply (if f.is_open && f.is_living s then replies.Pending else replies.Failed (f.error s))
 

@@ -34,11 +34,11 @@ abbrev pub with_fault : Option ErrorCode → DriverProgress → DriverProgress
 with_fault None p = p
 with_fault (Some code) p = record p { fault = Some code }
 
--- these go out at this moment, too
+-- these go out at this moment too
 abbrev pub with_more : List Action → DriverProgress → DriverProgress
 with_more own p = record p { actions = p.actions ++ own }
 
--- the table with what is known beside it changed so
+-- the table with its progress changed so
 abbrev pub on_progress : (DriverProgress → DriverProgress) → StreamTable → StreamTable
 on_progress f t = record t { progress = f t.progress }
 
@@ -55,7 +55,7 @@ with_classified k v e t = record t {
   progress = with_consequence e t.progress;
 }
 
--- a stream is classified once its header shows what it is
+-- the table after the stream was looked at: it is classified once its header shows what it is
 abbrev pub classify : TransportView → CallView → ℕ → Verdict → StreamTable → StreamTable
 classify t calls k verdicts.Incomplete table = table
 classify t calls k v table = with_classified k v (consequence t (dispatched_streams calls table) k v) table
@@ -76,7 +76,7 @@ scan t calls verdict (suc n) (k ∷ ks) table =
 abbrev pub is_unclassified : StreamTable → ℕ → Bool
 is_unclassified table k = is_none (verdict_of k table.classified)
 
--- the headers of 4 streams of a kind are read at once, once this end is ready
+-- the streams of a kind that have no verdict are looked at, once this end is ready, until 4 stay without one
 abbrev pub scan_kind : TransportView → CallView → (ℕ → Verdict) → List ℕ → StreamTable → StreamTable
 scan_kind t calls verdict ids table = if t.ready then scan t calls verdict 4 (filter (is_unclassified table) ids) table else table
 
@@ -107,7 +107,7 @@ scan_bis t calls table = scan_kind t calls (λ k. bi_verdict_of (t.contents k) (
 abbrev pub with_looked_at : DriverProgress → DriverProgress
 with_looked_at p = record p { datagrams = suc p.datagrams }
 
--- a datagram gets a place where its window has one and its session isn't gone
+-- a datagram of the session is admitted: the session isn't gone, and its window has room
 abbrev pub is_admitted : Dispatched → ℕ → Bool
 is_admitted d s = not (d.is_gone s) && has_room d s (map (λ (x : Admitted). x.session) d.datagrams)
 
@@ -119,7 +119,7 @@ admit_datagram true s payload t = record t {
 }
 admit_datagram false s payload t = on_progress with_looked_at t
 
--- one that has no quarter id ends the connection (RFC 9297, section 2.1)
+-- the next datagram has a quarter id, and is admitted or dropped; or it has none, a fault (RFC 9297, section 2.1)
 abbrev pub take_parsed : CallView → Result (ℕ × List ℕ) ErrorCode → StreamTable → StreamTable
 take_parsed calls (Ok d) t = admit_datagram (is_admitted (dispatched_streams calls t) (4 * d.0)) (4 * d.0) d.1 t
 take_parsed calls (Err code) t = on_progress (with_fault (Some code)) t
@@ -158,7 +158,7 @@ session_walked t calls s by_capsule (walks.Fault code) table = on_progress (with
 abbrev pub check_session : TransportView → CallView → ℕ → List ℕ → StreamEnd → StreamTable → StreamTable
 check_session t calls s bytes end table = session_walked t calls s (is_over (session_walk_of bytes ends.Running)) (session_walk_of bytes end) table
 
--- a session that isn't gone
+-- the session's stream, where the session isn't gone
 abbrev pub check_living : TransportView → CallView → Session → StreamTable → StreamTable
 check_living t calls s table = if is_gone calls table s.id then table else check_session t calls s.id (drop s.offset (t.contents s.id)) (t.end s.id) table
 
@@ -167,7 +167,7 @@ abbrev pub check_each : TransportView → CallView → List Session → StreamTa
 check_each t calls [] table = table
 check_each t calls (s ∷ later) table = unless_ended table.progress.fault (λ u. check_each t calls later (check_living t calls s u)) table
 
--- the established sessions, by id
+-- the table after the check of the established sessions, by id
 abbrev pub check_sessions : TransportView → CallView → StreamTable → StreamTable
 check_sessions t calls table = check_each t calls calls.sessions table
 
@@ -178,7 +178,7 @@ abbrev pub critical_if : Bool → DriverProgress → DriverProgress
 critical_if false p = p
 critical_if true p = with_fault (Some h3.ClosedCriticalStream) p
 
--- what the walk over the peer's control stream has read
+-- what is kept after this walk over the peer's control stream: whether SETTINGS came, and the fault
 abbrev pub control_read : ControlWalk → DriverProgress → DriverProgress
 control_read walk p = with_fault walk.fault (record p { settings = p.settings || is_some walk.settings })
 
@@ -187,7 +187,7 @@ abbrev pub check_control : TransportView → Option (ℕ × ℕ) → DriverProgr
 check_control t None p = p
 check_control t (Some c) p = control_read (control_walk_of (drop c.1 (t.contents c.0)) (t.end c.0)) p
 
--- a QPACK stream of the peer must not end
+-- a QPACK stream of the peer must not end (RFC 9204, section 4.2)
 abbrev pub check_qpack : TransportView → Option (ℕ × ℕ) → DriverProgress → DriverProgress
 check_qpack t None p = p
 check_qpack t (Some c) p = critical_if (not (is_running (t.end c.0))) p
@@ -204,7 +204,7 @@ steps t calls =
     ∷ (λ table. on_progress (check_qpack t (first_at encoder_start table.classified)) table)
     ∷ (λ table. on_progress (check_qpack t (first_at decoder_start table.classified)) table) ∷ []
 
--- one after another, up to the first fault
+-- these steps, one after another, up to the first fault
 abbrev pub in_order : List (StreamTable → StreamTable) → StreamTable → StreamTable
 in_order [] t = t
 in_order (step ∷ later) t = in_order later (unless_ended t.progress.fault step t)

@@ -56,7 +56,7 @@ abbrev pub length_wants : List ℕ → ℕ → Option (ℕ × ℕ) → ℕ
 length_wants bytes offset None = offset + varint_wants (drop offset bytes)
 length_wants bytes offset (Some l) = offset + l.1
 
--- before its type is, too
+-- the same, where its type is to be read too
 abbrev pub type_wants : List ℕ → Option (ℕ × ℕ) → ℕ
 type_wants bytes None = varint_wants bytes
 type_wants bytes (Some t) = if t.0 == signal_type then t.1 else length_wants bytes t.1 (varint_at (drop t.1 bytes))
@@ -90,7 +90,7 @@ abbrev pub capsule_length_wants : List ℕ → ℕ → ℕ → Option (ℕ × �
 capsule_length_wants bytes kind offset None = offset + varint_wants (drop offset bytes)
 capsule_length_wants bytes kind offset (Some l) = value_wants kind (offset + l.1) l.0
 
--- the same, where its type is
+-- the same, where its type is to be read too
 abbrev pub capsule_type_wants : List ℕ → Option (ℕ × ℕ) → ℕ
 capsule_type_wants bytes None = varint_wants bytes
 capsule_type_wants bytes (Some t) = capsule_length_wants bytes t.0 t.1 (varint_at (drop t.1 bytes))
@@ -145,11 +145,11 @@ past_frames r headers _ = record r { headers = headers }
 abbrev pub with_frames : SessionReader → WalkProgress (Unit {0}) HeaderWalk → SessionReader
 with_frames r headers = past_frames r headers (reached_in headers).stop
 
--- the payload is: `left` of its bytes are to come
+-- the capsules in the payload are so far, and `left` of its bytes are to come
 abbrev pub with_payload : SessionReader → ℕ → WalkProgress (Unit {0}) SessionWalk → SessionReader
 with_payload r left capsules = record r { data_left = left; capsules = capsules }
 
--- the next byte is a frame's, or a payload's of which so many are to come
+-- the next byte is a frame's, or that of a payload of which so many bytes are to come
 abbrev pub byte_step : SessionReader → ℕ → ℕ → SessionReader
 byte_step r zero byte = with_frames r (progress_after header_decides r.headers (byte ∷ []))
 byte_step r (suc left) byte = with_payload r left (progress_after capsule_decides r.capsules (byte ∷ []))
@@ -203,7 +203,7 @@ pub record SessionAdvances (old new : SessionReader) (piece : List ℕ) (n : ℕ
   pub fed : new ≡ session_fed old (take n piece)
   pub running : (k : ℕ) → k < n → stop_in (session_fed old (take k piece)) ≡ None
 
--- it is a fault
+-- the frames are a fault
 abbrev pub is_faulty : HeaderWalk → Bool
 is_faulty (Faulty code) = true
 is_faulty _ = false

@@ -57,7 +57,7 @@ dispatch d c = dispatch_by c.verdict c d
 
 -- ---- the steps of a moment
 
--- the state with what is known beside the streams changed so
+-- the state with its progress changed so
 abbrev pub on_progress_now : (DriverProgress → DriverProgress) → DriverState → DriverState
 on_progress_now f s = record s { progress = f s.progress }
 
@@ -87,7 +87,7 @@ abbrev pub unless_faulty : Option ErrorCode → (DriverState → Scanned) → Li
 unless_faulty None f ks s = f s
 unless_faulty (Some code) f ks s = record { left = ks; state = s }
 
--- a stream is classified once its header shows what it is
+-- the state after the stream was looked at: it is classified once its header shows what it is
 abbrev pub classify_now : TransportView → ℕ → Verdict → DriverState → DriverState
 classify_now t k verdicts.Incomplete s = s
 classify_now t k v s = classified_now k v (consequence t s.dispatched k v) s
@@ -121,7 +121,7 @@ place_now true session payload s = record s {
 }
 place_now false session payload s = on_progress_now with_looked_at s
 
--- one that has no quarter id ends the connection (RFC 9297, section 2.1)
+-- the next datagram has a quarter id, and is admitted or dropped; or it has none, a fault (RFC 9297, section 2.1)
 abbrev pub parsed_now : Result (ℕ × List ℕ) ErrorCode → DriverState → DriverState
 parsed_now (Ok d) s = place_now (is_admitted s.dispatched (4 * d.0)) (4 * d.0) d.1 s
 parsed_now (Err code) s = on_progress_now (with_fault (Some code)) s
@@ -131,7 +131,7 @@ abbrev pub take_each_now : List (List ℕ) → DriverState → DriverState
 take_each_now [] s = s
 take_each_now (piece ∷ later) s = unless_ended s.progress.fault (λ u. take_each_now later (parsed_now (datagram_of piece) u)) s
 
--- the datagrams that came since the last were looked at
+-- the datagrams that came since the last were looked at, once this end is ready
 abbrev pub take_datagrams_now : TransportView → DriverState → DriverState
 take_datagrams_now t s = if t.ready then take_each_now (drop s.progress.datagrams t.datagrams) s else s
 
@@ -151,7 +151,7 @@ walked_now t k by_capsule (walks.Closed code reason) s =
     (gone_now k (record s { closed = with_closed (record { id = k; code = code; reason = reason }) s.closed }))
 walked_now t k by_capsule (walks.Fault code) s = on_progress_now (with_fault (Some code)) s
 
--- a session's stream
+-- a session's stream after the request or the response (draft-ietf-webtrans-http3, section 5)
 abbrev pub check_session_now : TransportView → ℕ → List ℕ → StreamEnd → DriverState → DriverState
 check_session_now t k bytes end s = walked_now t k (is_over (session_walk_of bytes ends.Running)) (session_walk_of bytes end) s
 
@@ -170,12 +170,12 @@ steps_now t =
     ∷ (λ s. on_progress_now (check_qpack t s.dispatched.encoder) s)
     ∷ (λ s. on_progress_now (check_qpack t s.dispatched.decoder) s) ∷ []
 
--- one after another, up to the first fault
+-- these steps, one after another, up to the first fault
 abbrev pub in_order_now : List (DriverState → DriverState) → DriverState → DriverState
 in_order_now [] s = s
 in_order_now (step ∷ later) s = in_order_now later (unless_ended s.progress.fault step s)
 
--- the state after a moment
+-- the state after a moment's steps
 abbrev pub scan_state : TransportView → DriverState → DriverState
 scan_state t s = in_order_now (steps_now t) (on_progress_now with_no_actions s)
 
@@ -200,7 +200,7 @@ with_arrival t PeerUni s = record s { unis = s.unis ++ (4 * t.unis + peer_uni t.
 with_arrival t PeerBi s = record s { bis = s.bis ++ (4 * t.bis + peer_bi t.side) ∷ [] }
 with_arrival t _ s = s
 
--- a session has one member more
+-- the members of each session, of which one has one more
 abbrev pub with_member_now : ℕ → ℕ → (ℕ → List ℕ) → ℕ → List ℕ
 with_member_now session k members s = if session == s then with_id k (members s) else members s
 
@@ -211,7 +211,7 @@ established_now x s = record s {
   sessions = if s.dispatched.is_gone x.id then s.sessions else with_session x s.sessions;
 }
 
--- what a call did
+-- the state after a call's record
 abbrev pub after_call : CallRecord → DriverState → DriverState
 after_call (StreamAccepted id session) s = record s {
   dispatched = record s.dispatched {
@@ -226,7 +226,7 @@ after_call (RequestRejected id) s = gone_now id s
 after_call (SessionEstablished id offset) s = established_now (record { id = id; offset = offset }) s
 after_call _ s = s
 
--- an entry, by its kind
+-- the state after an entry, by its kind; whether it ends the connection is asked beside it
 abbrev pub after_kind : TransportView → Entry → DriverState → DriverState
 after_kind t (Reported e) s = with_arrival t e s
 after_kind t (Called r) s = after_call r s

@@ -1,4 +1,4 @@
--- One turn's agreement, and that of a list.
+-- What is proved: the agreement of one turn, of a lawful list, and of any list.
 use Rattle.std.specs.Prelude.{[], ◌∷◌, ◌≡◌, Bool, List, false, true, ℕ}
 use Rattle.wt_meaning.specs.History.{History}
 use Rattle.wt_meaning.specs.Lawful.{is_lawful}
@@ -15,13 +15,13 @@ use Rattle.wt_turn.specs.declared.turn.Turn.{Turn}
 use Rattle.wt_wire.specs.declared.side.Side.{Side}
 use Rattle.wt_turn.specs.declared.turn.Turn.TheVariants as turns
 
--- the turn brings one byte, where it brings bytes
+-- a turn that brings bytes brings one
 abbrev pub is_one : Turn → Bool
 is_one (turns.Bytes id []) = false
 is_one (turns.Bytes id (b ∷ c ∷ later)) = false
 is_one _ = true
 
--- a lawful history stands for the log, by some offsets of its sessions; their streams are the same
+-- a history of lawful turns stands for the log, with some offsets of its sessions' parts; the sessions' streams are the same
 abbrev pub Agree : Side → History → Log → Type 0
 Agree side h log = (offset : ℕ → ℕ) × IsHistory side h × MembersIn side h (call_view log) (findings side h) × Stands side offset h log
 
@@ -30,7 +30,7 @@ pub record TurnAgrees (side : Side) (h : History) (log : Log) (turn : Turn) : Ty
   pub same : answers.answer_to side log turn ≡ next side h turn
   pub after : Agree side (step side h turn) (log_after side log turn)
 
--- every lawful turn does, wherever a history and a log agree
+-- so does every lawful turn wherever a history and a log agree; of the turns that bring bytes, those that bring one
 abbrev pub EachTurnAgrees : Side → Type 0
 EachTurnAgrees side = (h : History) (log : Log) (turn : Turn) → Agree side h log → is_one turn ≡ true → is_lawful side h turn ≡ true → TurnAgrees side h log turn
 
@@ -48,6 +48,6 @@ pub record RunAgrees (side : Side) (h : History) (log : Log) (all : List Turn) :
   pub same : (run_from side h all).answers ≡ (answers.run_from side log all).answers
   pub as_far : (run_from side h all).is_all ≡ is_whole (answers.run_from side log all).stop
 
--- from the start
+-- so does every list of turns from the start
 abbrev pub RunsAgree : Side → Type 0
 RunsAgree side = (all : List Turn) → RunAgrees side [] [] all

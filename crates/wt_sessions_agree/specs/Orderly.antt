@@ -18,11 +18,11 @@ use Rattle.wt_wire.specs.declared.side.Side.{Side}
 abbrev pub unclassified : List Finding → ℕ → ℕ → ℕ
 unclassified found kind i = length (filter (λ (j : ℕ). not (is_classified found j)) (ids_from kind 0 i))
 
--- of a stream that is dequeued and has no verdict fewer than 4 earlier ones of its kind have none
+-- before a stream that is dequeued and has no verdict, fewer than 4 of its kind have none
 abbrev pub Few : ℕ → List Finding → Type 0
 Few kind found = (i : ℕ) → is_dequeued found (4 * i + kind) ≡ true → is_classified found (4 * i + kind) ≡ false → nat_lt (unclassified found kind i) 4 ≡ true
 
--- before this end is ready none is dequeued
+-- before this end is ready no stream is dequeued
 abbrev pub NoneEarly : Side → History → List Finding → Type 0
 NoneEarly side h found = is_ready side h ≡ false → (k : ℕ) → is_dequeued found k ≡ false
 
@@ -32,11 +32,12 @@ NoneEarly side h found = is_ready side h ≡ false → (k : ℕ) → is_dequeued
 abbrev pub is_left : CallView → Admitted → Bool
 is_left calls d = not (calls.received d.index)
 
--- it is of this session
+-- the datagram is of this session
 abbrev pub is_of : ℕ → Admitted → Bool
 is_of s d = d.session == s
 
--- of each session the datagrams that calls received are its first ones; only those of established sessions were received
+-- the datagrams that calls received are the first of their session; those of sessions that weren't established, and those that
+-- weren't read yet, weren't received
 pub record Received (h : History) (calls : CallView) (found : List Finding) : Type 0 where
   pub left : (s : ℕ) → filter (is_left calls) (filter (is_of s) (filter_map admitted_in found)) ≡ drop (received_count h s) (filter (is_of s) (filter_map admitted_in found))
   pub within : (s : ℕ) → received_count h s ≤ length (filter (is_of s) (filter_map admitted_in found))
@@ -45,7 +46,7 @@ pub record Received (h : History) (calls : CallView) (found : List Finding) : Ty
 
 -- ---- sessions
 
--- the session of an id, where it was established, by where its part of its stream begins
+-- the session with this id, where it was established, and where its part of its stream begins
 abbrev pub session_at : History → (ℕ → ℕ) → ℕ → Option Session
 session_at h offset k = if is_established h k then Some (record { id = k; offset = offset k }) else None
 
@@ -53,7 +54,7 @@ session_at h offset k = if is_established h k then Some (record { id = k; offset
 abbrev pub begins_at : History → List Finding → ℕ → ℕ
 begins_at h found s = unwrap_or (after_request (verdict_of found s)) (after_response (response_walk_of (contents h s) (end_of (events h) s)))
 
--- each established session's part begins there
+-- each established session's part of its stream begins at this offset
 abbrev pub Begin : History → (ℕ → ℕ) → List Finding → Type 0
 Begin h offset found = (k : ℕ) → is_established h k ≡ true → begins_at h found k ≡ offset k
 
@@ -67,6 +68,7 @@ Known side h found = (k : ℕ) → is_established h k ≡ true → (is_of_peer s
 
 -- ---- all together
 
+-- what was found is in order, after these calls and with these offsets of the sessions' parts
 pub record Orderly (side : Side) (h : History) (calls : CallView) (offset : ℕ → ℕ) (found : List Finding) : Type 0 where
   pub few : (kind : ℕ) → kind < 4 → Few kind found
   pub none_early : NoneEarly side h found

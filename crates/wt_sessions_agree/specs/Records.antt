@@ -1,4 +1,4 @@
--- What a pair's call leaves in the log, by its reply and what the history says.
+-- The record that a call leaves in the log, by its reply and the history before it.
 use Rattle.std.specs.Prelude.{◌∷◌, Err, List, None, Ok, Option, Result, Some, codes, drop, false, filter, filter_map, if◌then◌else◌, length, true, unwrap_or, ℕ}
 use Rattle.url.specs.Parser.{parse_url}
 use Rattle.wt_meaning.specs.Calls.{being_opened}
@@ -28,7 +28,7 @@ use Rattle.wt_turn.specs.declared.stream_error.StreamReadExactError.TheVariants 
 
 -- ---- what a call is about
 
--- the session that the call names, 0 where it names none
+-- the name of a session in a call that gives or opens streams, receives datagrams or ends the session
 abbrev pub name_in : Call → Option ℕ
 name_in (calls.AcceptUni name) = name
 name_in (calls.AcceptBi name) = name
@@ -38,22 +38,22 @@ name_in (calls.OpenBi name) = name
 name_in (calls.EndSession name) = name
 name_in _ = None
 
--- the established session that it means
+-- the established session that the call means; 0 where there is none
 abbrev pub call_session : History → Call → ℕ
 call_session h c = unwrap_or (named h (name_in c)) 0
 
--- the stream that it is about
+-- the stream of a poll of an opening or of a read; 0 for every other call
 abbrev pub stream_in : Call → ℕ
 stream_in (calls.PollOpening id) = id
 stream_in (calls.Read id size) = id
 stream_in (calls.ReadExact id size) = id
 stream_in _ = 0
 
--- the session for which the stream is being opened
+-- the session for which the stream is being opened; 0 where it isn't
 abbrev pub opened_session : History → ℕ → ℕ
 opened_session h k = elim (being_opened h k) [ Some name ↦ unwrap_or (named h name) 0 | None ↦ 0 ]
 
--- the datagrams of a session that are left, and the first one's index
+-- the admitted datagrams of a session that weren't received
 abbrev pub left_datagrams : Side → History → ℕ → List Admitted
 left_datagrams side h s = drop (received_count h s) (filter (is_of s) (filter_map admitted_in (findings side h)))
 
@@ -67,14 +67,14 @@ part_start side h s = unwrap_or (after_request (verdict_of (findings side h) s))
 
 -- ---- the record
 
--- of a call that answered Failed
+-- the record of a call that answered Failed
 abbrev pub failure_record : Call → CallRecord
 failure_record calls.Incoming = HandshakeOver
 failure_record (calls.Accept headers) = AcceptanceFailed
 failure_record calls.Handshake = AcceptanceFailed
 failure_record _ = Polled
 
--- of a call that answered Done
+-- the record of a call that answered Done
 abbrev pub done_record : Side → History → Call → CallRecord
 done_record side h (calls.ResetSend id code) = if is_open h then Polled else ResetUnsent id code
 done_record side h (calls.SetPriority id priority) = if is_done h id then Polled else PrioritySet id priority
@@ -82,12 +82,12 @@ done_record side h (calls.StopRecv id code) = StreamGivenUp id
 done_record side h (calls.EndSession name) = if is_open h then RequestRejected (unwrap_or (named h name) 0) else Polled
 done_record side h _ = Polled
 
--- of a connect that dialled
+-- the record of a connect that dialled
 abbrev pub connect_record : Result Target ConnectingError → CallRecord
 connect_record (Err e) = Polled
 connect_record (Ok t) = ConnectStarted t.reserved t.frame
 
--- of a call that answered Pending
+-- the record of a call that answered Pending
 abbrev pub pending_record : Call → CallRecord
 pending_record (calls.Connect options lookup outcome) = connect_record (target_of (parse_url None options.0) options.1 lookup outcome)
 pending_record (calls.Accept headers) = ResponseStarted true (acceptance_frame headers)
@@ -96,7 +96,7 @@ pending_record calls.NotFound = ResponseStarted false (response_bytes (codes "40
 pending_record calls.TooManyRequests = ResponseStarted false (response_bytes (codes "429"))
 pending_record _ = Polled
 
--- of any call, by its reply
+-- the record of any call, by its reply
 abbrev pub record_of : Side → History → Call → Reply → CallRecord
 record_of side h c (replies.Uni id) = StreamAccepted id (call_session h c)
 record_of side h c (replies.Bi id) = StreamAccepted id (call_session h c)
@@ -119,6 +119,6 @@ record_of side h c _ = Polled
 
 -- ---- the effect
 
--- what a call's own answer leads to, as the log has it
+-- what a call with this own answer leads to: its own actions, its record, and what the driver sends then
 abbrev pub effect_of : Side → History → Log → Call → Answer → Effect
 effect_of side h log c a = reply_with (log_call side log a.actions (record_of side h c a.reply)) a.reply

@@ -1,5 +1,5 @@
 -- When a history of turns and answers stands for a log of entries: what calls and moments ask has the same answer in both.
-use Rattle.std.specs.Prelude.{[], ◌&&◌, ◌==◌, ◌∷◌, ◌≡◌, Bool, Err, List, None, Ok, Option, Result, Some, filter_map, is_some, length, not, true, false, unwrap_or, ℕ}
+use Rattle.std.specs.Prelude.{[], ◌&&◌, ◌==◌, ◌∷◌, ◌≡◌, Bool, Err, List, None, Ok, Option, Result, Some, codes, filter_map, is_some, length, not, true, false, unwrap_or, ℕ}
 use Rattle.std.specs.List.{list_any}
 use Rattle.url.specs.Parser.{parse_url}
 use Rattle.wt_meaning.specs.Calls.{being_opened}
@@ -15,7 +15,7 @@ use Rattle.wt_seam_spec.specs.Reports.{datagrams_of, end_of, stop_of}
 use Rattle.wt_seam_spec.specs.Sent.{has_dialled, is_finished, sent_on}
 use Rattle.wt_seam_spec.specs.Sent as sends
 use Rattle.wt_seam_spec.specs.Streams.{local_count, peer_bi, peer_count, peer_uni}
-use Rattle.wt_sessions.specs.Answers as codes
+use Rattle.wt_sessions.specs.Answers as answers
 use Rattle.wt_sessions.specs.Connection.{opening_session}
 use Rattle.wt_sessions.specs.Driver as drivers
 use Rattle.wt_sessions.specs.Driver.{call_view, delivers, gives_up, members_of, stream_table}
@@ -33,20 +33,20 @@ use Rattle.wt_turn.specs.declared.call.Call.TheVariants as calls
 
 -- ---- what a moment looks at
 
--- the same of every stream
+-- what the transport reported of each stream is the same
 pub record ViewsAgree (side : Side) (h : History) (t : TransportView) : Type 0 where
   pub own : t.side ≡ side
   pub contents : (k : ℕ) → t.contents k ≡ contents h k
   pub end : (k : ℕ) → t.end k ≡ end_of (events h) k
   pub stopped : (k : ℕ) → t.is_stopped k ≡ is_some (stop_of (events h) k)
 
--- the same of what calls did
+-- what calls gave, ended and established is the same
 pub record CallsAgree (h : History) (calls : CallView) : Type 0 where
   pub accepted : (k : ℕ) → calls.accepted k ≡ is_handed_out h k
   pub ended : (s : ℕ) → calls.ended s ≡ is_gone_by_call h s
   pub established : (s : ℕ) → was_established calls s ≡ is_established h s
 
--- and as many streams, the same datagrams, the established sessions in order
+-- both of these, and the numbers of streams, the datagrams, and the established sessions, by id
 pub record SeesAlike (side : Side) (h : History) (t : TransportView) (view : CallView) (offset : ℕ → ℕ) : Type 0 where
   pub views : ViewsAgree side h t
   pub ready : t.ready ≡ is_ready side h
@@ -58,7 +58,7 @@ pub record SeesAlike (side : Side) (h : History) (t : TransportView) (view : Cal
 
 -- ---- what went out
 
--- both say the same of every stream
+-- of each stream the same went out, and both dialled or neither did
 pub record SameOut (as_ bs : List Action) : Type 0 where
   pub sent : (k : ℕ) → sent_on as_ k ≡ sent_on bs k
   pub finished : (k : ℕ) → is_finished as_ k ≡ is_finished bs k
@@ -68,7 +68,7 @@ pub record SameOut (as_ bs : List Action) : Type 0 where
 
 -- ---- what calls ask of streams
 
--- the halves that the application has, and how far it read them
+-- of each stream: whether it was given up and reset, how much of it was read, and the priority, until it is done
 pub record HalvesAgree (h : History) (log : Log) : Type 0 where
   pub given_up : (k : ℕ) → is_given_up h k ≡ list_any (gives_up k) (calls_of log)
   pub reset : (k : ℕ) → is_reset h k ≡ sends.is_reset log k
@@ -90,9 +90,9 @@ fails_opening k _ = false
 -- the call begins this response
 abbrev pub IsResponse : Bool → List ℕ → Call → Type 0
 IsResponse true head (calls.Accept headers) = head ≡ acceptance_frame headers
-IsResponse false head calls.Forbidden = head ≡ response_bytes (Rattle.std.specs.Prelude.codes "403")
-IsResponse false head calls.NotFound = head ≡ response_bytes (Rattle.std.specs.Prelude.codes "404")
-IsResponse false head calls.TooManyRequests = head ≡ response_bytes (Rattle.std.specs.Prelude.codes "429")
+IsResponse false head calls.Forbidden = head ≡ response_bytes (codes "403")
+IsResponse false head calls.NotFound = head ≡ response_bytes (codes "404")
+IsResponse false head calls.TooManyRequests = head ≡ response_bytes (codes "429")
 IsResponse accepts head _ = ⊥
 
 -- the call begins a connect with this request
@@ -109,7 +109,7 @@ BegunAgrees (handshakes.Connecting reserved head) (Some c) = IsConnect reserved 
 BegunAgrees (handshakes.Connecting reserved head) None = ⊥
 BegunAgrees _ begun = Unit {0}
 
--- how far the handshake is
+-- the handshake is as far in both
 pub record HandshakeAgrees (side : Side) (h : History) (state : HandshakeState) : Type 0 where
   pub waiting : is_waiting h ≡ is_continuable state
   pub requested : is_client side ≡ false → has_request h ≡ awaits_answer state
@@ -118,9 +118,9 @@ pub record HandshakeAgrees (side : Side) (h : History) (state : HandshakeState) 
 
 -- ---- the whole
 
--- the history stands for the log; its sessions' parts begin at these offsets
+-- the history stands for the log; its sessions' parts of their streams begin at these offsets
 pub record Stands (side : Side) (offset : ℕ → ℕ) (h : History) (log : Log) : Type 0 where
-  pub first : is_first h ≡ codes.is_first log
+  pub first : is_first h ≡ answers.is_first log
   pub came : Agrees h log
   pub out : SameOut (actions_out h) (actions_of log)
   pub table : IsTable (findings side h) (stream_table side log)
