@@ -69,7 +69,7 @@ head_of (Some calls.NotFound) = response_bytes (codes "404")
 head_of (Some calls.TooManyRequests) = response_bytes (codes "429")
 head_of _ = []
 
--- it is a response of status 200
+-- the call that was begun last is a response of status 200
 abbrev pub is_acceptance : Option Call → Bool
 is_acceptance (Some (calls.Accept headers)) = true
 is_acceptance _ = false
@@ -88,7 +88,7 @@ pub record EstablishedFor (side : Side) (h later : History) (s : ℕ) : Type 0 w
   pub open_before : is_open h ≡ true
   pub new : is_established h s ≡ false
 
--- so does each session that a reply gives
+-- each session that a reply gives rests on that
 abbrev pub EstablishedRightly : Side → History → Turn → Answer → Type 0
 EstablishedRightly side h turn a = (s : ℕ) → session_in a.reply ≡ Some s → EstablishedFor side h (with_pair h turn a) s
 
@@ -110,7 +110,7 @@ pub record AcceptedFor (side : Side) (h : History) (id kind s : ℕ) : Type 0 wh
 abbrev pub UniAccepted : Side → History → Option ℕ → ℕ → Type 0
 UniAccepted side h name id = (s : ℕ) × (named h name ≡ Some s) × AcceptedFor side h id (peer_uni side) s
 
--- so is a bidirectional one
+-- so is a bidirectional stream
 abbrev pub BiAccepted : Side → History → Option ℕ → ℕ → Type 0
 BiAccepted side h name id = (s : ℕ) × (named h name ≡ Some s) × AcceptedFor side h id (peer_bi side) s
 
@@ -160,7 +160,7 @@ payloads (p ∷ h) s = payloads h s ++ (if receives h s p.turn p.answer.reply th
 abbrev pub DatagramReceived : Side → History → Option ℕ → List ℕ → Type 0
 DatagramReceived side h name payload = (s : ℕ) × (named h name ≡ Some s) × (first_datagram side h s ≡ Some payload)
 
--- they are the first of those that were admitted for it
+-- the payloads that a session received are the first of those that were admitted for it
 abbrev pub DatagramsInOrder : Side → History → Type 0
 DatagramsInOrder side h =
     (s : ℕ) → payloads h s
@@ -238,7 +238,7 @@ pub record StreamTold (side : Side) (h later : History) (own a : Answer) (k : �
 abbrev pub leaves_open : Side → History → Turn → Bool
 leaves_open side h turn = is_open (with_pair h turn (own_answer side h turn))
 
--- what is found in front of what makes the session gone
+-- of these findings, those in front of the one that makes the session gone
 abbrev pub until_gone : ℕ → List Finding → List Finding
 until_gone s [] = []
 until_gone s (f ∷ later) = if makes_gone s f then [] else f ∷ until_gone s later
@@ -296,11 +296,12 @@ abbrev pub fault_closes : Option ErrorCode → List Action
 fault_closes None = []
 fault_closes (Some code) = actions.Close (code_of code) [] ∷ []
 
--- what a rejection of this request may end: its stream is finished; where the peer stopped that, or no session lives, it closes
+-- what a rejection of this request may end: its stream is finished; where the peer stopped that, or no session lives, the connection is closed
 abbrev pub rejection_ends : Option ℕ → List Action
 rejection_ends request = finish_of request ++ actions.Close 0x104 [] ∷ actions.Close 0 [] ∷ []
 
--- what a handshake may end: a connect that fails closes, with its response's fault if that is why; so does an acceptance whose stream the peer stopped
+-- what a handshake may end: a connect that fails closes the connection, with its response's fault if that is why; so does an acceptance
+-- whose stream the peer stopped
 abbrev pub handshake_ends : History → Option Call → List Action
 handshake_ends h (Some (calls.Connect options lookup outcome)) = actions.Close 0 [] ∷ fault_closes (response_fault (response_walk_of (contents h 0) (end_of (events h) 0)))
 handshake_ends h (Some (calls.Accept headers)) = actions.Close 0x104 [] ∷ []
@@ -350,7 +351,7 @@ pub record SettingsOut (side : Side) (h : History) : Type 0 where
   pub stream : (local_count (actions_out h) (local_uni side) == 0) ≡ false
   pub sent : out h (local_uni side) ≡ take (credit (events h) (local_uni side)) local_control_bytes
 
--- so it is wherever a turn leaves the connection open but for what is found, and the peer allows a unidirectional stream
+-- so it is after each turn that leaves the connection open but for what is found, where the peer allows a unidirectional stream
 abbrev pub SettingsGoOut : Side → History → Turn → Answer → Type 0
 SettingsGoOut side h turn a =
     leaves_open side h turn ≡ true → nat_le 1 (unis_allowed (events (with_pair h turn a))) ≡ true → SettingsOut side (with_pair h turn a)
@@ -379,11 +380,11 @@ pub record AcceptsAllowed (side : Side) (h : History) (id : ℕ) (all : List ℕ
   pub exactly : says_accepted (next side h (turns.Call call)).reply ≡ (has_sending side h id && (may_write h id && enough))
   pub bytes : says_accepted (next side h (turns.Call call)).reply ≡ true → accepted_by id (turns.Call call) (next side h (turns.Call call)).reply ≡ take (credit_left h id) all
 
--- enough for a write is credit of a byte, unless it has none
+-- enough for a write is credit of one byte, and none where it has no bytes
 abbrev pub WriteAccepts : Side → History → ℕ → List ℕ → Type 0
 WriteAccepts side h id all = AcceptsAllowed side h id all (calls.Write id all) (is_nothing all || not (credit_left h id == 0))
 
--- a write of all bytes needs none
+-- a write of all bytes needs no credit: it says how many it accepts
 abbrev pub WriteAllAccepts : Side → History → ℕ → List ℕ → Type 0
 WriteAllAccepts side h id all = AcceptsAllowed side h id all (calls.WriteAll id all) true
 
@@ -407,7 +408,7 @@ abbrev pub header_on : History → ℕ → Option (Option ℕ) → List ℕ
 header_on h k None = []
 header_on h k (Some name) = header_for k (named h name)
 
--- the frame of a connect or response, else this
+-- the frame of a connect or response, else this header
 abbrev pub frame_or : Option Call → List ℕ → List ℕ
 frame_or None header = header
 frame_or (Some c) header = head_of (Some c)
@@ -434,7 +435,7 @@ sends_on k _ = false
 abbrev pub acts_on : ℕ → Action → Bool
 acts_on k a = sends_on k a || is_reset_of k a
 
--- behind an element that passes the first test none passes the second
+-- behind each element that passes the first test none passes the second
 abbrev pub NoneBehind : {T : Type 0} → (T → Bool) → (T → Bool) → List T → Type 0
 NoneBehind first later [] = Unit {0}
 NoneBehind first later (x ∷ xs) = (first x ≡ true → list_any later xs ≡ false) × NoneBehind first later xs

@@ -23,7 +23,7 @@ use Rattle.wt_turn.specs.declared.call.Call.TheVariants as calls
 
 -- ---- sessions
 
--- the test of the session that a call names; without one nothing is asked
+-- the test holds of the session that a call names
 abbrev pub on_named : Option ℕ → (ℕ → Bool) → Bool
 on_named None test = false
 on_named (Some s) test = test s
@@ -47,7 +47,7 @@ request_waits side h = list_any (λ (q : ℕ × Fields). not (was_given h q.0)) 
 
 -- ---- handshakes
 
--- a rest of the stream's head lacks credit, and the peer didn't stop the stream
+-- the rest of the stream's head lacks credit, and the peer didn't stop the stream
 abbrev pub awaits_credit : History → ℕ → List ℕ → Bool
 awaits_credit h k left = not (is_refused h k left) && lacks_credit h k left
 
@@ -76,7 +76,7 @@ response_waits h calls.NotFound = rejection_waits h (unwrap_or (last_request h) 
 response_waits h calls.TooManyRequests = rejection_waits h (unwrap_or (last_request h) 0) (head_left h (unwrap_or (last_request h) 0) (response_bytes (codes "429")))
 response_waits h c = false
 
--- a connect has a target, where the test holds
+-- the connect has a target of which the test holds
 abbrev pub on_target : Result Target ConnectingError → (Target → Bool) → Bool
 on_target (Err e) test = false
 on_target (Ok t) test = test t
