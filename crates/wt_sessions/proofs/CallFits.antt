@@ -4,6 +4,8 @@ use Rattle.std.specs.Prelude.{◌/◌, is_some, Option, Some, None, Result, Ok, 
 use Rattle.std.specs.List.{cons_option, list_any}
 use Rattle.std.specs.Option.{option_or}
 use Rattle.std.proofs.lemmas.Bool.{eq-eqb, true≢false}
+use Rattle.wt_meaning.specs.Handshakes.{is_nothing}
+use Rattle.wt_meaning.specs.Lawful.{is_client}
 use Rattle.wt_meaning.specs.Targets.{Target}
 use Rattle.wt_proto.specs.declared.response_walk.ResponseWalk.{ResponseWalk}
 use Rattle.wt_proto.specs.declared.verdict.Verdict.{Verdict}
@@ -17,11 +19,11 @@ use Rattle.wt_seam_spec.specs.Streams.{contents, local_bi, local_count, local_un
 use Rattle.wt_sessions.proofs.Entries.{any-insert}
 use Rattle.wt_sessions.proofs.Indexed.{AllOf, all-filter, all-found, all-have-verdicts, log-indexed}
 use Rattle.wt_sessions.proofs.Turns.{Holds, MayCome, call-holds, classified-known, delivered-known, established-known, is_asked, is_dialling, own-known}
-use Rattle.wt_sessions.specs.Answers.{in_session, is_client, on_session}
+use Rattle.wt_sessions.specs.Answers.{in_session, on_session}
 use Rattle.wt_sessions.specs.Connect.{dial}
 use Rattle.wt_sessions.specs.Connection.{accept_stream, continue_opening, datagram_allowed, datagram_within, end_session, ends_opening, give_datagram, give_stream, is_opening, next_datagram, next_stream, open_stream, opened_for, opened_reply, poll_for, poll_opening, receive_datagram, send_datagram, send_header, session_end_actions, starts_opening, stream_header, waits_for}
 use Rattle.wt_sessions.specs.Driver.{call_view, dispatched, ending_actions, establishes, first_session, is_living, is_session_gone, sessions_after, sessions_of, settings_came, stream_table}
-use Rattle.wt_sessions.specs.Effect.{Effect, close_when_open, driver_error, head_left, is_covered, is_empty, log_call, pending_or_failed, poll_sending, reply_with, transport_error}
+use Rattle.wt_sessions.specs.Effect.{Effect, close_when_open, driver_error, head_left, is_covered, log_call, pending_or_failed, poll_sending, reply_with, transport_error}
 use Rattle.wt_sessions.specs.Handshake.{HandshakeState, Connecting, Responding, abandon, accept_response, await_or_fail, await_response, close_when_alone, continue_by, continue_connect, deliver, establish, fail_connect, finish_rejection, handshake_state, has_success, is_refused, loss_to_connect, open_request, queued_requests, read_response, reject_response, request_end, requested_stream, respond, send_request, unless_reserved}
 use Rattle.wt_sessions.specs.Moment.{is_known, is_peers}
 use Rattle.wt_sessions.specs.StreamTable.{Admitted, Classified, Session, StreamTable, Waiting, is_gone, is_queued, is_session, verdict_of, waits_by, waits_in, was_established}
@@ -310,7 +312,7 @@ module _ (side : Side) (log : Log) (held : Holds side log) where
 
     request-leads : (own : List Action) (left : List ℕ) → Leads side (send_request side log (local_bi side) own left)
     request-leads own left =
-        either side (is_empty left) _ _ (await-leads own)
+        either side (is_nothing left) _ _ (await-leads own)
         (either side (not (is_open log)) _ _ (fails own (loss_to_connect log))
         (either side (is_some (stop_of (events_of log) (local_bi side))) _ _ (abandons own connects.SessionRejected)
         (either side (is_covered log (local_bi side) left) _ _ (await-leads (own ++ send_of (local_bi side) left))

@@ -4,6 +4,7 @@ use Rattle.std.specs.Prelude.{Option, Some, None, Result, Ok, Err, ◌==◌, ◌
 use Rattle.std.specs.List.{list_any}
 use Rattle.std.proofs.lemmas.Bool.{eqb-true, or_parts}
 use Rattle.wt_message.specs.Datagram.{datagram_of}
+use Rattle.wt_meaning.specs.Moments.{ids_from}
 use Rattle.wt_meaning.specs.SessionWalk.{is_over, session_walk_of}
 use Rattle.wt_proto.specs.Bi.{bi_verdict_of}
 use Rattle.wt_proto.specs.Uni.{uni_verdict_of}
@@ -17,7 +18,7 @@ use Rattle.wt_sessions.proofs.Steps.{AreDistinct, gone-apart, is_among}
 use Rattle.wt_sessions.proofs.StreamIds.{all-miss, bi-low, bi-peers, kinds-differ, kinds-differ-so, later-misses, uni-low, uni-peers}
 use Rattle.wt_sessions.specs.Driver.{ControlSent}
 use Rattle.wt_sessions.specs.Moment.{is_peers}
-use Rattle.wt_sessions.specs.Scan.{admit_datagram, bi_ids, check_control, check_each, check_living, check_qpack, check_sessions, classify, critical_if, in_order, is_admitted, is_unclassified, on_progress, places_after, scan, scan_kind, scan_order, session_walked, steps, stream_ids, take_datagrams, take_each, take_parsed, uni_ids, unless_ended, with_fault, with_no_actions}
+use Rattle.wt_sessions.specs.Scan.{admit_datagram, bi_ids, check_control, check_each, check_living, check_qpack, check_sessions, classify, critical_if, in_order, is_admitted, is_unclassified, on_progress, places_after, scan, scan_kind, scan_order, session_walked, steps, take_datagrams, take_each, take_parsed, uni_ids, unless_ended, with_fault, with_no_actions}
 use Rattle.wt_sessions.specs.StreamTable.{CallView, DriverProgress, control_start, decoder_start, dispatched_streams, encoder_start, first_at, Session, StreamTable, TransportView, is_closed, is_gone, is_turned_away, verdict_of}
 use Rattle.wt_wire.specs.declared.error.ErrorCode.{ErrorCode}
 use Rattle.wt_proto.specs.declared.verdict.Verdict.TheVariants as verdicts
@@ -262,7 +263,7 @@ module _ (t : TransportView) (calls : CallView) where
       )
       (progress-kept with_no_actions table refl kept)
 
-  sound-ids : (kind : ℕ) (table : StreamTable) → ((n : ℕ) → verdict_of (4 * n + kind) table.classified ≡ None → IsFresh calls table (4 * n + kind)) → (n count : ℕ) → Sound t calls table (stream_ids kind n count)
+  sound-ids : (kind : ℕ) (table : StreamTable) → ((n : ℕ) → verdict_of (4 * n + kind) table.classified ≡ None → IsFresh calls table (4 * n + kind)) → (n count : ℕ) → Sound t calls table (ids_from kind n count)
   sound-ids kind table fresh n zero = tt
   sound-ids kind table fresh n (suc count) = (fresh n, later-misses kind n count, sound-ids kind table fresh (suc n) count)
 

@@ -3,6 +3,7 @@ use Rattle.std.proofs.Common.{add-one, add-zero, arith, length, length-append, �
 use Rattle.std.specs.Prelude.{None, ◌==◌, ◌||◌, ◌&&◌, not}
 use Rattle.std.specs.List.{list_any}
 use Rattle.std.proofs.lemmas.Bool.{eqb-true, false_from_ne_true}
+use Rattle.wt_meaning.specs.Moments.{ids_from}
 use Rattle.wt_seam_spec.specs.Sent.{sent_on, with_sent_piece}
 use Rattle.wt_seam_spec.specs.Streams.{local_count, local_uni, one_more_if, opens, peer_bi, peer_count, peer_opens, peer_uni}
 use Rattle.wt_sessions.proofs.Entries.{AreSorted, accepted-follows, any-insert, delivered-follows, distinct-insert, ended-follows, established-follows, opening-follows, received-follows, sorted-insert}
@@ -14,7 +15,7 @@ use Rattle.wt_sessions.specs.Driver.{apply_if, call_view, control_sent, flush, i
 use Rattle.wt_sessions.specs.DriverState.{DriverState, state_by, state_of}
 use Rattle.wt_sessions.specs.Effect.{log_call}
 use Rattle.wt_sessions.specs.Moment.{Fits, MayFollow, MayRecord, actions_if, flush_state, is_known, is_peers, moment_actions, moment_state, scan_if, scans, state_with_actions}
-use Rattle.wt_sessions.specs.Scan.{is_unclassified, scan_order, stream_ids}
+use Rattle.wt_sessions.specs.Scan.{is_unclassified, scan_order}
 use Rattle.wt_sessions.specs.Step.{after_entry, control_after, scan_state, sent_length, step_actions}
 use Rattle.wt_sessions.specs.StreamTable.{CallView, StreamTable, TransportView, is_closed, is_session, is_turned_away, verdict_of, was_established}
 use Rattle.wt_turn.specs.Log.{CallRecord, Called, DatagramReceived, Entry, Event, Log, OpeningStarted, PeerBi, PeerUni, Received, Reported, ReportedLate, RequestDelivered, RequestRejected, Sent, SessionEstablished, StreamAccepted, actions_of, calls_of, ends_by, events_of, is_open, with_actions}
@@ -26,8 +27,8 @@ use Rattle.wt_turn.specs.declared.action.Action.TheVariants as actions
 -- ---- what an entry that may follow keeps
 
 -- what misses more of a kind misses those before
-if-more-misses : (b : Bool) (k kind n : ℕ) → is_in k (stream_ids kind 0 (one_more_if b n)) ≡ false → is_in k (stream_ids kind 0 n) ≡ false
-if-more-misses true k kind n e = fewer-miss k kind n (ap (λ (m : ℕ). is_in k (stream_ids kind 0 m)) (sym (add-one n)) ∙ e)
+if-more-misses : (b : Bool) (k kind n : ℕ) → is_in k (ids_from kind 0 (one_more_if b n)) ≡ false → is_in k (ids_from kind 0 n) ≡ false
+if-more-misses true k kind n e = fewer-miss k kind n (ap (λ (m : ℕ). is_in k (ids_from kind 0 m)) (sym (add-one n)) ∙ e)
 if-more-misses false k kind n e = e
 
 -- a known stream is none of the peer's without a verdict
@@ -150,12 +151,12 @@ calls-sorted (r ∷ rs) = record-sorted r rs (calls-sorted rs)
 -- ---- the peer opens a stream
 
 filter-more : (table : StreamTable) (kind n : ℕ) → verdict_of (4 * n + kind) table.classified ≡ None
-    → filter (is_unclassified table) (stream_ids kind 0 (n + 1)) ≡ filter (is_unclassified table) (stream_ids kind 0 n) ++ (4 * n + kind) ∷ []
+    → filter (is_unclassified table) (ids_from kind 0 (n + 1)) ≡ filter (is_unclassified table) (ids_from kind 0 n) ++ (4 * n + kind) ∷ []
 filter-more table kind n none =
-    ap (λ (m : ℕ). filter (is_unclassified table) (stream_ids kind 0 m)) (add-one n)
+    ap (λ (m : ℕ). filter (is_unclassified table) (ids_from kind 0 m)) (add-one n)
     ∙ (ap (filter (is_unclassified table)) (ids-more kind 0 n n (omega arith))
-    ∙ (filter-both (is_unclassified table) (stream_ids kind 0 n) ((4 * n + kind) ∷ [])
-    ∙ (λ i. filter (is_unclassified table) (stream_ids kind 0 n) ++ cond (is_none (none i)) ((4 * n + kind) ∷ []) [])))
+    ∙ (filter-both (is_unclassified table) (ids_from kind 0 n) ((4 * n + kind) ∷ [])
+    ∙ (λ i. filter (is_unclassified table) (ids_from kind 0 n) ++ cond (is_none (none i)) ((4 * n + kind) ∷ []) [])))
 
 peer-counts : (side : Side) (n : ℕ) → (one_more_if (peer_uni side == peer_uni side) n ≡ n + 1) × (one_more_if (peer_bi side == peer_bi side) n ≡ n + 1)
     × (one_more_if (peer_uni side == peer_bi side) n ≡ n) × (one_more_if (peer_bi side == peer_uni side) n ≡ n)
@@ -185,17 +186,17 @@ module _ (side : Side) (log : Log) (kept : Kept (transport_view side log) (call_
   reported-uni : before_steps side log (Reported PeerUni) ≡ after_entry (transport_view side log) (Reported PeerUni) (state_of side log)
   unfolding state_of
   reported-uni = λ i. record (state_of side log) {
-    unis = (ap (λ (n : ℕ). filter (is_unclassified (stream_table side log)) (stream_ids (peer_uni side) 0 n)) ((peer-counts side unis_count).0)
+    unis = (ap (λ (n : ℕ). filter (is_unclassified (stream_table side log)) (ids_from (peer_uni side) 0 n)) ((peer-counts side unis_count).0)
         ∙ filter-more (stream_table side log) (peer_uni side) unis_count next-uni) i;
-    bis = filter (is_unclassified (stream_table side log)) (stream_ids (peer_bi side) 0 ((peer-counts side bis_count).2 i));
+    bis = filter (is_unclassified (stream_table side log)) (ids_from (peer_bi side) 0 ((peer-counts side bis_count).2 i));
   }
 
   reported-bi : before_steps side log (Reported PeerBi) ≡ after_entry (transport_view side log) (Reported PeerBi) (state_of side log)
   unfolding state_of
   reported-bi = λ i. record (state_of side log) {
-    bis = (ap (λ (n : ℕ). filter (is_unclassified (stream_table side log)) (stream_ids (peer_bi side) 0 n)) ((peer-counts side bis_count).1)
+    bis = (ap (λ (n : ℕ). filter (is_unclassified (stream_table side log)) (ids_from (peer_bi side) 0 n)) ((peer-counts side bis_count).1)
         ∙ filter-more (stream_table side log) (peer_bi side) bis_count next-bi) i;
-    unis = filter (is_unclassified (stream_table side log)) (stream_ids (peer_uni side) 0 ((peer-counts side unis_count).3 i));
+    unis = filter (is_unclassified (stream_table side log)) (ids_from (peer_uni side) 0 ((peer-counts side unis_count).3 i));
   }
 
   reported-in : (e : Event) → before_steps side log (Reported e) ≡ after_entry (transport_view side log) (Reported e) (state_of side log)

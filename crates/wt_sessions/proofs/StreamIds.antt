@@ -2,11 +2,11 @@
 use Rattle.std.proofs.Common.{arith, ◌≡◌, ◌≢◌, ◌<◌, ◌≤◌, ℕ, zero, suc, ◌+◌, ◌*◌, ◌%◌, Bool, true, false, List, [], ◌∷◌, ◌++◌, refl, sym, ap, ◌∙◌}
 use Rattle.std.specs.Prelude.{◌==◌, ◌||◌}
 use Rattle.std.proofs.lemmas.Bool.{eq-eqb, eqb-true, or_from, or_parts, false_from_ne_true}
+use Rattle.wt_meaning.specs.Moments.{ids_from}
 use Rattle.wt_seam_spec.specs.Streams.{peer_bi, peer_uni}
 use Rattle.wt_sessions.proofs.Moment.{AllMiss}
 use Rattle.wt_sessions.proofs.Scans.{is_in}
 use Rattle.wt_sessions.specs.Moment.{is_peers}
-use Rattle.wt_sessions.specs.Scan.{stream_ids}
 use Rattle.wt_wire.specs.declared.side.Side.{Side}
 use Rattle.wt_wire.specs.declared.side.Side.TheVariants.{Client, Server}
 
@@ -16,35 +16,35 @@ pub record Among (kind n count k : ℕ) : Type 0 where
   pub below : index < n + count
   pub is : k ≡ 4 * index + kind
 
-pub among : (kind n count k : ℕ) → is_in k (stream_ids kind n count) ≡ true → Among kind n count k
+pub among : (kind n count k : ℕ) → is_in k (ids_from kind n count) ≡ true → Among kind n count k
 among kind n zero k e = absurd cc
 among kind n (suc count) k e = by (4 * n + kind == k) refl e (among kind (suc n) count k)
   where
-    by : (b : Bool) → (4 * n + kind == k) ≡ b → (b || is_in k (stream_ids kind (suc n) count)) ≡ true → (is_in k (stream_ids kind (suc n) count) ≡ true → Among kind (suc n) count k) → Among kind n (suc count) k
+    by : (b : Bool) → (4 * n + kind == k) ≡ b → (b || is_in k (ids_from kind (suc n) count)) ≡ true → (is_in k (ids_from kind (suc n) count) ≡ true → Among kind (suc n) count k) → Among kind n (suc count) k
     by true f g again = record { index = n; from = omega arith; below = omega arith; is = sym (eqb-true (4 * n + kind) k f) }
     by false f g again = let a = again g in record { index = a.index; from = omega arith; below = omega arith; is = a.is }
 
-misses : (kind n count k : ℕ) → (Among kind n count k → ⊥) → is_in k (stream_ids kind n count) ≡ false
-misses kind n count k none = false_from_ne_true (is_in k (stream_ids kind n count)) (λ e. none (among kind n count k e))
+misses : (kind n count k : ℕ) → (Among kind n count k → ⊥) → is_in k (ids_from kind n count) ≡ false
+misses kind n count k none = false_from_ne_true (is_in k (ids_from kind n count)) (λ e. none (among kind n count k e))
 
 -- an id is of its kind, and comes once
-pub kind-is : (kind n count k : ℕ) → kind < 4 → is_in k (stream_ids kind n count) ≡ true → k % 4 ≡ kind
+pub kind-is : (kind n count k : ℕ) → kind < 4 → is_in k (ids_from kind n count) ≡ true → k % 4 ≡ kind
 kind-is kind n count k low e = let a = among kind n count k e in omega arith
 
-pub later-misses : (kind n count : ℕ) → is_in (4 * n + kind) (stream_ids kind (suc n) count) ≡ false
+pub later-misses : (kind n count : ℕ) → is_in (4 * n + kind) (ids_from kind (suc n) count) ≡ false
 later-misses kind n count = misses kind (suc n) count (4 * n + kind) (λ a. omega arith)
 
-pub next-misses : (kind n count m : ℕ) → n + count ≤ m → is_in (4 * m + kind) (stream_ids kind n count) ≡ false
+pub next-misses : (kind n count m : ℕ) → n + count ≤ m → is_in (4 * m + kind) (ids_from kind n count) ≡ false
 next-misses kind n count m le = misses kind n count (4 * m + kind) (λ a. omega arith)
 
-pub kinds-miss : (kind other n count m : ℕ) → kind < 4 → other < 4 → kind ≢ other → is_in (4 * m + other) (stream_ids kind n count) ≡ false
+pub kinds-miss : (kind other n count m : ℕ) → kind < 4 → other < 4 → kind ≢ other → is_in (4 * m + other) (ids_from kind n count) ≡ false
 kinds-miss kind other n count m low lower ne = misses kind n count (4 * m + other) (λ a. omega arith)
 
-pub all-miss : (kind other n count m more : ℕ) → kind < 4 → other < 4 → kind ≢ other → AllMiss (stream_ids kind n count) (stream_ids other m more)
+pub all-miss : (kind other n count m more : ℕ) → kind < 4 → other < 4 → kind ≢ other → AllMiss (ids_from kind n count) (ids_from other m more)
 all-miss kind other n count m zero low lower ne = tt
 all-miss kind other n count m (suc more) low lower ne = (kinds-miss kind other n count m low lower ne, all-miss kind other n count (suc m) more low lower ne)
 
-pub ids-more : (kind n count m : ℕ) → m ≡ n + count → stream_ids kind n (suc count) ≡ stream_ids kind n count ++ (4 * m + kind) ∷ []
+pub ids-more : (kind n count m : ℕ) → m ≡ n + count → ids_from kind n (suc count) ≡ ids_from kind n count ++ (4 * m + kind) ∷ []
 ids-more kind n zero m e = let same : n ≡ m = omega arith in ap (λ (i : ℕ). (4 * i + kind) ∷ []) same
 ids-more kind n (suc count) m e = ap (λ (ks : List ℕ). (4 * n + kind) ∷ ks) (ids-more kind (suc n) count m (omega arith))
 
@@ -79,5 +79,5 @@ front-misses k [] ys e = refl
 front-misses k (x ∷ xs) ys e = let parts = or_parts (x == k) (is_in k (xs ++ ys)) e in or_from (x == k) (is_in k xs) parts.0 (front-misses k xs ys parts.1)
 
 -- what misses one more of a kind misses those before it
-pub fewer-miss : (k kind count : ℕ) → is_in k (stream_ids kind 0 (suc count)) ≡ false → is_in k (stream_ids kind 0 count) ≡ false
-fewer-miss k kind count e = front-misses k (stream_ids kind 0 count) ((4 * count + kind) ∷ []) (sym (ap (is_in k) (ids-more kind 0 count count (omega arith))) ∙ e)
+pub fewer-miss : (k kind count : ℕ) → is_in k (ids_from kind 0 (suc count)) ≡ false → is_in k (ids_from kind 0 count) ≡ false
+fewer-miss k kind count e = front-misses k (ids_from kind 0 count) ((4 * count + kind) ∷ []) (sym (ap (is_in k) (ids-more kind 0 count count (omega arith))) ∙ e)

@@ -3,6 +3,7 @@ use Rattle.std.proofs.Common.{◌≡◌, ℕ, ℤ, Bool, true, false, cond, List
 use Rattle.std.specs.Prelude.{Option, Some, None, codes, nat_lt, not, take, ◌==◌, ◌&&◌}
 use Rattle.std.proofs.lemmas.Bool.{and_parts}
 use Rattle.url.specs.Parser.{parse_url}
+use Rattle.wt_meaning.specs.Lawful.{is_client}
 use Rattle.wt_meaning.specs.Targets.{target_of}
 use Rattle.wt_message.specs.FixedBytes.{response_bytes}
 use Rattle.wt_seam_spec.specs.Arrivals.{event_entry, log_event}
@@ -12,7 +13,7 @@ use Rattle.wt_seam_spec.specs.Reports.{datagram_fact, end_of}
 use Rattle.wt_seam_spec.specs.Streams.{local_bi, local_uni, peer_bi, peer_uni}
 use Rattle.wt_sessions.proofs.CallFits.{Leads, accept-leads, continue-leads, dial-leads, does, either, end-leads, incoming-leads, not-true, open-leads, poll-leads, polls, receive-leads, respond-leads, send-leads, session-leads}
 use Rattle.wt_sessions.proofs.Turns.{Holds, entry-holds, flush-holds, is_asked, start-holds}
-use Rattle.wt_sessions.specs.Answers.{call_effect, is_client, is_first, is_lawful, log_after, log_from, may_respond, on_receiving, on_sending, receive}
+use Rattle.wt_sessions.specs.Answers.{call_effect, is_first, is_lawful, log_after, log_from, may_respond, on_receiving, on_sending, receive}
 use Rattle.wt_sessions.specs.Connection.{closed_reply, payload_limit}
 use Rattle.wt_sessions.specs.Driver.{call_view, flush, log_and_flush}
 use Rattle.wt_sessions.specs.Effect.{Effect}

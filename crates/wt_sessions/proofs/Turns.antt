@@ -3,10 +3,10 @@ use Rattle.std.proofs.Common.{◌≡◌, ℕ, Bool, true, false, cond, List, [],
 use Rattle.std.specs.Prelude.{Option, Some, None, ◌==◌, ◌||◌, ◌&&◌, not}
 use Rattle.std.specs.List.{list_any}
 use Rattle.std.proofs.lemmas.Bool.{eq-eqb, eqb-true, true≢false}
+use Rattle.wt_meaning.specs.Lawful.{is_client}
 use Rattle.wt_sessions.proofs.Entries.{any-insert}
 use Rattle.wt_sessions.proofs.Following.{Kept}
 use Rattle.wt_sessions.proofs.LogFollows.{kept-of}
-use Rattle.wt_sessions.specs.Answers.{is_client}
 use Rattle.wt_sessions.specs.Connection.{starts_opening}
 use Rattle.wt_proto.specs.declared.verdict.Verdict.{Verdict}
 use Rattle.wt_sessions.specs.Driver.{transport_view, apply_if, call_view, flush, is_moment, log_and_flush, pending_actions, stream_table}

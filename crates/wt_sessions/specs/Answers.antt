@@ -1,6 +1,7 @@
 -- The one answer to each turn, which turn may come next, and the answers to a list of turns (a turn is one event of the
 -- transport or one call; this repository's own).
 use Rattle.std.specs.Prelude.{[], ◌&&◌, ◌-◌, ◌∷◌, Bool, List, None, Option, Some, codes, false, if◌then◌else◌, length, not, take, true, ℕ}
+use Rattle.wt_meaning.specs.Lawful.{is_client}
 use Rattle.wt_message.specs.FixedBytes.{response_bytes}
 use Rattle.wt_seam_spec.specs.Arrivals.{fits, log_turn}
 use Rattle.wt_seam_spec.specs.Joined.{joined_actions}
@@ -12,7 +13,6 @@ use Rattle.wt_turn.specs.declared.answer.Answer.{Answer}
 use Rattle.wt_turn.specs.declared.call.Call.{Call}
 use Rattle.wt_turn.specs.declared.turn.Turn.{Turn}
 use Rattle.wt_wire.specs.declared.side.Side.{Side}
-use Rattle.wt_wire.specs.declared.side.Side.TheVariants.{Client, Server}
 use Rattle.wt_sessions.specs.Connect.{connect}
 use Rattle.wt_sessions.specs.Connection.{accept_stream, close_connection, closed_reply, end_session, open_stream, payload_limit, poll_opening, receive_datagram, send_datagram}
 use Rattle.wt_sessions.specs.Driver.{call_view, first_session, flush, log_and_flush}
@@ -107,11 +107,6 @@ abbrev pub log_after : Side → Log → Turn → Log
 log_after side log turn = (turn_effect side log turn).log
 
 -- ---- which turn may come next
-
--- this end is the client
-abbrev pub is_client : Side → Bool
-is_client Client = true
-is_client Server = false
 
 -- nothing happened yet
 abbrev pub is_first : Log → Bool

@@ -1,7 +1,8 @@
 -- The calls on an established session: its streams are given in the order in which they were classified, its datagrams in the order
 -- in which they came (draft-ietf-webtrans-http3, sections 4.2 to 4.4 and 5; RFC 9297, section 2.1).
-use Rattle.std.specs.Prelude.{[], ◌%◌, ◌&&◌, ◌++◌, ◌-◌, ◌/◌, ◌==◌, ◌∷◌, Bool, List, None, Option, Some, false, find, if◌then◌else◌, is_some, length, nat_lt, not, true, ℕ}
+use Rattle.std.specs.Prelude.{[], ◌%◌, ◌&&◌, ◌++◌, ◌-◌, ◌/◌, ◌==◌, ◌∷◌, Bool, List, None, Option, Some, false, find, if◌then◌else◌, is_some, length, nat_lt, not, ℕ}
 use Rattle.std.specs.List.{list_any}
+use Rattle.wt_meaning.specs.Sends.{action_if}
 use Rattle.wt_message.specs.Datagram.{datagram_bytes}
 use Rattle.wt_seam_spec.specs.Joined.{send_of}
 use Rattle.wt_seam_spec.specs.Outgoing.{actions_to_open, bytes_within_credit, if_open, may_open, next_id}
@@ -16,7 +17,7 @@ use Rattle.wt_wire.specs.declared.side.Side.{Side}
 use Rattle.wt_sessions.specs.Driver.{accepts_stream, dispatched, ending_actions, is_living, is_session_gone}
 use Rattle.wt_sessions.specs.Effect.{Effect, head_left, is_covered, log_call, pending_or_failed, poll_only, poll_sending, reply_with, session_error, transport_error}
 use Rattle.wt_sessions.specs.Handshake.{is_refused}
-use Rattle.wt_sessions.specs.StreamTable.{Admitted, Waiting, action_if}
+use Rattle.wt_sessions.specs.StreamTable.{Admitted, Waiting}
 use Rattle.wt_turn.specs.declared.action.Action.TheVariants as actions
 use Rattle.wt_turn.specs.declared.stream_error.SendDatagramError.TheVariants as datagrams
 use Rattle.wt_turn.specs.declared.datagram_fact.DatagramFact.TheVariants as facts

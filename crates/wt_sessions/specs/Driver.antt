@@ -4,6 +4,7 @@ use Rattle.std.specs.Prelude.{[], ◌&&◌, ◌++◌, ◌==◌, ◌∷◌, Bool,
 use Rattle.std.specs.List.{list_any}
 use Rattle.std.specs.Option.{option_or}
 use Rattle.wt_meaning.specs.ControlBytes.{local_control_bytes}
+use Rattle.wt_meaning.specs.Sends.{action_if}
 use Rattle.wt_seam_spec.specs.Joined.{send_of}
 use Rattle.wt_seam_spec.specs.Reports.{credit, datagrams_of, end_of, if_same, is_connected, is_running, stop_of, unis_allowed}
 use Rattle.wt_seam_spec.specs.Sent.{is_finished, is_reset, sent_on}
@@ -164,15 +165,10 @@ control_sent side log = record {
   sent = length (sent_on (actions_of log) (local_uni side));
 }
 
--- the stream is opened where the test holds
-abbrev pub opened_if : Bool → ℕ → List Action
-opened_if true id = actions.Opened id ∷ []
-opened_if false id = []
-
 -- this end's first stream is its control stream; it opens as soon as it may, and sends as far as credit goes
 abbrev pub control_actions : Bool → ℕ → ℕ → ControlSent → List Action
 control_actions false id credit s = []
-control_actions true id credit s = opened_if (not s.opened) id ++ send_of id (drop s.sent (take credit local_control_bytes))
+control_actions true id credit s = action_if (not s.opened) (actions.Opened id) ++ send_of id (drop s.sent (take credit local_control_bytes))
 
 -- a fault closes the connection with its code
 abbrev pub close_actions : Option ErrorCode → List Action

@@ -1,8 +1,8 @@
 -- What a driver keeps of a log, as data: the peer's streams that have no verdict, and its table by its uses.
-use Rattle.std.specs.Prelude.{◌∷◌, [], Bool, List, Option, filter, find, if◌then◌else◌, not, ℕ}
+use Rattle.std.specs.Prelude.{Bool, List, Option, filter, find, not, ℕ}
 use Rattle.wt_sessions.specs.Driver.{ControlSent, call_view, control_sent, stream_table, transport_view}
 use Rattle.wt_sessions.specs.Scan.{bi_ids, is_unclassified, uni_ids}
-use Rattle.wt_sessions.specs.StreamTable.{CallView, Classified, Closed, Dispatched, DriverProgress, Session, StreamTable, TransportView, dispatched_streams, is_closed, is_gone}
+use Rattle.wt_sessions.specs.StreamTable.{CallView, Closed, Dispatched, DriverProgress, Session, StreamTable, TransportView, dispatched_streams, is_closed, is_gone}
 use Rattle.wt_turn.specs.Log.{Log, is_open}
 use Rattle.wt_wire.specs.declared.side.Side.{Side}
 
@@ -33,7 +33,3 @@ state_by t calls sent open_ table = record {
 -- what a driver keeps of a log
 unfoldable pub state_of : Side → Log → DriverState
 state_of side log = state_by (transport_view side log) (call_view log) (control_sent side log) (is_open log) (stream_table side log)
-
--- the queued requests, once SETTINGS came
-abbrev pub requests_now : DriverState → List Classified
-requests_now s = if s.progress.settings then s.dispatched.requests else []

@@ -1,13 +1,12 @@
 -- What a turn leads to, and how an ended connection is reported.
-use Rattle.std.specs.Prelude.{[], ◌&&◌, ◌∷◌, Bool, List, None, Option, Some, drop, false, find, if◌then◌else◌, length, true, ℕ}
+use Rattle.std.specs.Prelude.{[], ◌&&◌, Bool, List, None, Option, Some, drop, false, find, if◌then◌else◌, length, true, ℕ}
+use Rattle.wt_meaning.specs.Handshakes.{is_nothing, loss_error}
 use Rattle.wt_seam_spec.specs.Outgoing.{bytes_within_credit, if_open}
 use Rattle.wt_seam_spec.specs.Reports.{loss_of}
 use Rattle.wt_seam_spec.specs.Sent.{sent_on}
 use Rattle.wt_turn.specs.Log.{CallRecord, Called, Log, Polled, actions_of, events_of, is_open, with_actions}
-use Rattle.wt_turn.specs.ProtoError.{error_of_loss}
 use Rattle.wt_turn.specs.declared.action.Action.{Action}
 use Rattle.wt_turn.specs.declared.connection_error.ConnectionError.{ConnectionError}
-use Rattle.wt_turn.specs.declared.loss.LossReason.{LossReason}
 use Rattle.wt_turn.specs.declared.reply.Reply.{Reply}
 use Rattle.wt_wire.specs.declared.error.ErrorCode.{ErrorCode}
 use Rattle.wt_wire.specs.declared.side.Side.{Side}
@@ -40,14 +39,9 @@ poll_only side log reply = poll_sending side log [] reply
 
 -- ---- how a connection ended
 
--- the loss, or a local close
-abbrev pub loss_or_local : Option LossReason → ConnectionError
-loss_or_local None = errors.LocallyClosed
-loss_or_local (Some reason) = error_of_loss reason
-
 -- the end as the transport reports it: its loss, or a local close
 abbrev pub transport_error : Log → ConnectionError
-transport_error log = loss_or_local (loss_of (events_of log))
+transport_error log = loss_error (loss_of (events_of log))
 
 -- the fault with which the driver ended the connection, and without one the transport's end
 abbrev pub error_of_fault : Log → Option ErrorCode → ConnectionError
@@ -74,18 +68,13 @@ pending_or_failed side log s = if is_open log && is_living side log s then repli
 
 -- ---- what a call sends of its own
 
--- there are no bytes
-abbrev pub is_empty : List ℕ → Bool
-is_empty [] = true
-is_empty (b ∷ bytes) = false
-
 -- what of a stream's head isn't out yet; the head is what this layer sends first: a request, a response or a header
 abbrev pub head_left : Log → ℕ → List ℕ → List ℕ
 head_left log k head = drop (length (sent_on (actions_of log) k)) head
 
 -- the credit covers all of these bytes
 abbrev pub is_covered : Log → ℕ → List ℕ → Bool
-is_covered log k bytes = is_empty (drop (length (bytes_within_credit log k bytes)) bytes)
+is_covered log k bytes = is_nothing (drop (length (bytes_within_credit log k bytes)) bytes)
 
 -- the connection is closed with this code and no reason, where it is open
 abbrev pub close_when_open : Log → ℕ → List Action

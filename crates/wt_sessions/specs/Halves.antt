@@ -1,7 +1,7 @@
 -- The calls on the halves of a stream that was given to the application (RFC 9000, sections 2.4 and 3).
 use Rattle.std.specs.Prelude.{[], ◌%◌, ◌&&◌, ◌+◌, ◌==◌, ◌||◌, ◌∷◌, Bool, List, None, Option, Some, drop, false, if◌then◌else◌, is_some, length, nat_lt, not, suc, take, true, zero, ℕ, ℤ}
 use Rattle.std.specs.List.{list_any}
-use Rattle.wt_proto.specs.declared.verdict.Verdict.{Verdict}
+use Rattle.wt_meaning.specs.Halves.{body_start}
 use Rattle.wt_seam_spec.specs.Joined.{send_of}
 use Rattle.wt_seam_spec.specs.Outgoing.{bytes_within_credit, if_open}
 use Rattle.wt_seam_spec.specs.Reports.{end_of, is_acknowledged, stop_of}
@@ -21,7 +21,6 @@ use Rattle.wt_wire.specs.declared.side.StreamEnd.TheVariants as ends
 use Rattle.wt_turn.specs.declared.stream_error.StreamReadExactError.TheVariants as exacts
 use Rattle.wt_turn.specs.declared.stream_error.StreamReadError.TheVariants as reads
 use Rattle.wt_turn.specs.declared.reply.Reply.TheVariants as replies
-use Rattle.wt_proto.specs.declared.verdict.Verdict.TheVariants as verdicts
 use Rattle.wt_turn.specs.declared.stream_error.StreamWriteError.TheVariants as writes
 
 -- ---- which halves it has
@@ -128,11 +127,6 @@ bytes_read k _ = 0
 abbrev pub total_read : ℕ → List CallRecord → ℕ
 total_read k [] = 0
 total_read k (r ∷ earlier) = bytes_read k r + total_read k earlier
-
--- where the application's part of a stream begins: after the peer's header
-abbrev pub body_start : Option Verdict → ℕ
-body_start (Some (verdicts.WebTransport session offset)) = offset
-body_start _ = 0
 
 -- what came for the stream and wasn't read
 abbrev pub unread_body : Side → Log → ℕ → List ℕ

@@ -1,6 +1,7 @@
 -- The handshake of both sides up to the established session (RFC 9220, section 3; RFC 9114, section 4.4;
 -- draft-ietf-webtrans-http3, section 3). The order of a connect's steps is this repository's rule.
 use Rattle.std.specs.Prelude.{[], ◌&&◌, ◌++◌, ◌==◌, ◌||◌, ◌∷◌, Bool, List, None, Option, Some, codes, false, if◌then◌else◌, is_some, not, true, ℕ}
+use Rattle.wt_meaning.specs.Handshakes.{is_nothing}
 use Rattle.wt_message.specs.FixedBytes.{headers_frame_bytes}
 use Rattle.wt_proto.specs.ResponseWalk.{response_walk_of}
 use Rattle.wt_message.specs.Responses.{status_of}
@@ -21,7 +22,7 @@ use Rattle.wt_wire.specs.HeaderList.{Fields, with_field}
 use Rattle.wt_wire.specs.Status.{is_successful}
 use Rattle.wt_wire.specs.declared.side.Side.{Side}
 use Rattle.wt_sessions.specs.Driver.{dispatched, ending_actions, has_no_session, settings_came, stream_table}
-use Rattle.wt_sessions.specs.Effect.{Effect, close_when_open, driver_error, head_left, is_covered, is_empty, log_call, poll_only, poll_sending, reply_with, transport_error}
+use Rattle.wt_sessions.specs.Effect.{Effect, close_when_open, driver_error, head_left, is_covered, log_call, poll_only, poll_sending, reply_with, transport_error}
 use Rattle.wt_sessions.specs.StreamTable.{Classified, verdict_of}
 use Rattle.wt_turn.specs.declared.action.Action.TheVariants as actions
 use Rattle.wt_turn.specs.declared.connecting_error.ConnectingError.TheVariants as connects
@@ -111,7 +112,7 @@ response_head digits headers = headers_frame_bytes (with_field (codes ":status")
 
 -- the peer stopped the stream before all of its head was out
 abbrev pub is_refused : Log → ℕ → List ℕ → Bool
-is_refused log k left = is_some (stop_of (events_of log) k) && not (is_empty left)
+is_refused log k left = is_some (stop_of (events_of log) k) && not (is_nothing left)
 
 -- the acceptance fails
 abbrev pub fail_acceptance : Side → Log → List Action → ConnectionError → Effect
@@ -196,7 +197,7 @@ await_response side log id own = read_response side log id own (response_walk_of
 -- the request goes out as far as credit goes; once it is out, its response is awaited
 abbrev pub send_request : Side → Log → ℕ → List Action → List ℕ → Effect
 send_request side log id own left =
-    if is_empty left then await_response side log id own else
+    if is_nothing left then await_response side log id own else
     (if not (is_open log) then fail_connect side log own (loss_to_connect log) else
     (if is_some (stop_of (events_of log) id) then abandon side log own connects.SessionRejected else
     (if is_covered log id left then await_response side log id (own ++ send_of id left)

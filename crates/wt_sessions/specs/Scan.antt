@@ -1,9 +1,11 @@
 -- One moment of the driver: its steps in their order, up to the first fault. (How many streams are looked at, and the order of the
 -- steps, is this repository's rule.)
-use Rattle.std.specs.Prelude.{[], ◌&&◌, ◌*◌, ◌++◌, ◌+◌, ◌==◌, ◌||◌, ◌∷◌, Bool, Err, List, None, Ok, Option, Result, Some, drop, false, filter, if◌then◌else◌, is_none, is_some, map, not, suc, true, zero, ℕ}
+use Rattle.std.specs.Prelude.{[], ◌&&◌, ◌*◌, ◌++◌, ◌||◌, ◌∷◌, Bool, Err, List, None, Ok, Option, Result, Some, drop, false, filter, if◌then◌else◌, is_none, is_some, map, not, suc, true, zero, ℕ}
 use Rattle.wt_proto.specs.Bi.{bi_verdict_of}
 use Rattle.wt_proto.specs.ControlWalk.{control_walk_of}
 use Rattle.wt_message.specs.Datagram.{datagram_of}
+use Rattle.wt_meaning.specs.Moments.{ids_from}
+use Rattle.wt_meaning.specs.Sends.{action_if}
 use Rattle.wt_meaning.specs.SessionWalk.{is_over, session_walk_of}
 use Rattle.wt_proto.specs.Uni.{uni_verdict_of}
 use Rattle.wt_proto.specs.declared.control_walk.ControlWalk.{ControlWalk}
@@ -15,7 +17,7 @@ use Rattle.wt_turn.specs.declared.action.Action.{Action}
 use Rattle.wt_wire.specs.Codes.{code_of}
 use Rattle.wt_wire.specs.declared.error.ErrorCode.{ErrorCode}
 use Rattle.wt_wire.specs.declared.side.StreamEnd.{StreamEnd}
-use Rattle.wt_sessions.specs.StreamTable.{Admitted, CallView, Consequence, Dispatched, DriverProgress, Session, StreamTable, TransportView, action_if, consequence, control_start, decoder_start, dispatched_streams, encoder_start, first_at, gone_actions, has_room, is_gone, verdict_of}
+use Rattle.wt_sessions.specs.StreamTable.{Admitted, CallView, Consequence, Dispatched, DriverProgress, Session, StreamTable, TransportView, consequence, control_start, decoder_start, dispatched_streams, encoder_start, first_at, gone_actions, has_room, is_gone, verdict_of}
 use Rattle.wt_turn.specs.declared.action.Action.TheVariants as actions
 use Rattle.wt_wire.specs.declared.side.StreamEnd.TheVariants as ends
 use Rattle.wt_wire.specs.declared.error.ErrorCode.TheVariants as h3
@@ -80,18 +82,13 @@ is_unclassified table k = is_none (verdict_of k table.classified)
 abbrev pub scan_kind : TransportView → CallView → (ℕ → Verdict) → List ℕ → StreamTable → StreamTable
 scan_kind t calls verdict ids table = if t.ready then scan t calls verdict 4 (filter (is_unclassified table) ids) table else table
 
--- the ids of a kind's streams, from the nth on (RFC 9000, section 2.1)
-abbrev pub stream_ids : ℕ → ℕ → ℕ → List ℕ
-stream_ids kind n zero = []
-stream_ids kind n (suc count) = (4 * n + kind) ∷ stream_ids kind (suc n) count
-
 -- the peer's unidirectional streams, by id
 abbrev pub uni_ids : TransportView → List ℕ
-uni_ids t = stream_ids (peer_uni t.side) 0 t.unis
+uni_ids t = ids_from (peer_uni t.side) 0 t.unis
 
 -- the peer's bidirectional streams, by id
 abbrev pub bi_ids : TransportView → List ℕ
-bi_ids t = stream_ids (peer_bi t.side) 0 t.bis
+bi_ids t = ids_from (peer_bi t.side) 0 t.bis
 
 -- the table after the scan of the unidirectional streams
 abbrev pub scan_unis : TransportView → CallView → StreamTable → StreamTable

@@ -1,5 +1,5 @@
 -- One moment on what a driver keeps: the steps in their order, what goes out, and what an entry of the log changes.
-use Rattle.std.specs.Prelude.{[], ◌&&◌, ◌*◌, ◌++◌, ◌+◌, ◌==◌, ◌||◌, ◌∷◌, Bool, Err, List, None, Ok, Option, Result, Some, drop, false, filter, if◌then◌else◌, is_some, length, map, not, suc, true, zero, ℕ}
+use Rattle.std.specs.Prelude.{[], ◌&&◌, ◌*◌, ◌++◌, ◌+◌, ◌==◌, ◌||◌, ◌∷◌, Bool, Err, List, None, Ok, Option, Result, Some, drop, false, filter, if◌then◌else◌, length, not, suc, true, zero, ℕ}
 use Rattle.wt_proto.specs.Bi.{bi_verdict_of}
 use Rattle.wt_message.specs.Datagram.{datagram_of}
 use Rattle.wt_meaning.specs.SessionWalk.{is_over, session_walk_of}

@@ -12,7 +12,7 @@ use Rattle.wt_seam_spec.specs.Reports.{credit, unis_allowed}
 use Rattle.wt_seam_spec.specs.Sent.{sent_on}
 use Rattle.wt_seam_spec.specs.Streams.{local_count, local_uni}
 use Rattle.wt_sessions.specs.Answers.{actions_since}
-use Rattle.wt_sessions.specs.Driver.{apply_if, control_actions, control_sent, flush, opened_if, pending_actions}
+use Rattle.wt_sessions.specs.Driver.{apply_if, control_actions, control_sent, flush, pending_actions}
 use Rattle.wt_sessions.specs.Effect.{log_call}
 use Rattle.wt_sessions_agree.proofs.Basics.{take-none}
 use Rattle.wt_sessions_agree.proofs.OutLaws.{acted, since-is}
@@ -76,7 +76,7 @@ pub control-agrees : (side : Side) (h : History) (log : Log) → events h ≡ ev
     → sends.control_actions side h ≡ control_actions (nat_lt 0 (unis_allowed (events_of log))) (local_uni side) (credit (events_of log) (local_uni side)) (control_sent side log)
 control-agrees side h log e s = rw (e, one-lt (unis_allowed (events_of log))) (by (nat_lt 0 (unis_allowed (events_of log))))
   where
-    opened : (b : Bool) → action_if b (actions.Opened (local_uni side)) ≡ opened_if (not (not b)) (local_uni side)
+    opened : (b : Bool) → action_if b (actions.Opened (local_uni side)) ≡ action_if (not (not b)) (actions.Opened (local_uni side))
     opened true = refl
     opened false = refl
 
@@ -90,5 +90,5 @@ control-agrees side h log e s = rw (e, one-lt (unis_allowed (events_of log))) (b
         (ap (λ (xs : List Action). xs ++ send_of (local_uni side)
         (take (credit (events_of log) (local_uni side) - length (sent_on (actions_of log) (local_uni side))) (drop (length (sent_on (actions_of log) (local_uni side))) local_control_bytes)))
         (opened (local_count (actions_of log) (local_uni side) == 0))
-        ∙ ap (λ (bytes : List ℕ). opened_if (not (not (local_count (actions_of log) (local_uni side) == 0))) (local_uni side) ++ send_of (local_uni side) bytes)
+        ∙ ap (λ (bytes : List ℕ). action_if (not (not (local_count (actions_of log) (local_uni side) == 0))) (actions.Opened (local_uni side)) ++ send_of (local_uni side) bytes)
         (front-rest (length (sent_on (actions_of log) (local_uni side))) (credit (events_of log) (local_uni side)) local_control_bytes))

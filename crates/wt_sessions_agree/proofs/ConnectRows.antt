@@ -23,7 +23,8 @@ use Rattle.wt_sessions.specs.Handshake as ladders
 use Rattle.wt_sessions_agree.proofs.Basics.{and-false, take-none}
 use Rattle.wt_sessions_agree.proofs.ConnectionRows.{covered-out, head-is, lacks-is, may-open, send-is}
 use Rattle.wt_sessions_agree.proofs.WaitLaws.{driver-is, transport-is}
-use Rattle.wt_sessions_agree.specs.Records.{effect_of, part_start}
+use Rattle.wt_sessions_agree.specs.Orderly.{begins_at}
+use Rattle.wt_sessions_agree.specs.Records.{effect_of}
 use Rattle.wt_sessions_agree.specs.Stands.{Stands}
 use Rattle.wt_turn.specs.Log.{Connected, Event, Log, PeerBi, PeerUni, actions_of, all_events_of, events_of}
 use Rattle.wt_turn.specs.Log as logs
@@ -61,7 +62,7 @@ module _ (offset : ℕ → ℕ) (h : History) (log : Log) (x : Stands Client off
   response-by own (responses.Response fields at) e false f true g = rw (g, x.came.openness, f, driver-is Client offset h log x) refl
   response-by own (responses.Response fields at) e true f true g = rw (g, x.came.openness, f) (ap (λ (n : ℕ). ladders.establish Client log own 0 n) (sym start))
     where
-      start : part_start Client h 0 ≡ at
+      start : begins_at h (findings Client h) 0 ≡ at
       start = rw (facts.unknown, e) refl
 
   response-agrees : (own : List Action) → ladders.await_response Client log 0 own

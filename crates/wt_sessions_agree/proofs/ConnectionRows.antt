@@ -149,21 +149,17 @@ module _ (side : Side) (offset : ℕ → ℕ) (h : History) (log : Log) (x : Sta
   pub head-is : (k : ℕ) (head : List ℕ) → head_left h k head ≡ effects.head_left log k head
   head-is k head = ap (λ (bytes : List ℕ). drop (length bytes) head) (x.out.sent k)
 
-  empty-is : (bytes : List ℕ) → is_nothing bytes ≡ effects.is_empty bytes
-  empty-is [] = refl
-  empty-is (b ∷ bytes) = refl
-
   pub refused-is : (k : ℕ) (left : List ℕ) → is_refused h k left ≡ handshakes.is_refused log k left
-  refused-is k left = rw (x.came.events, empty-is left) refl
+  refused-is k left = rw x.came.events refl
 
   credit-is : (k : ℕ) → logs.is_open log ≡ true → credit_left h k ≡ outgoing.credit_left log k
   credit-is k o = rw (open-events h (x.came.openness ∙ o), x.came.all_events, x.out.sent k) refl
 
   -- a list's rest behind a front of it
-  rest-empty : (n : ℕ) (xs : List ℕ) → is_nothing (drop n xs) ≡ effects.is_empty (drop (length (take n xs)) xs)
+  rest-empty : (n : ℕ) (xs : List ℕ) → is_nothing (drop n xs) ≡ is_nothing (drop (length (take n xs)) xs)
   rest-empty n [] = by n
     where
-      by : (n : ℕ) → is_nothing (drop n []) ≡ effects.is_empty (drop (length (take {A = ℕ} n [])) [])
+      by : (n : ℕ) → is_nothing (drop n []) ≡ is_nothing (drop (length (take {A = ℕ} n [])) [])
       by zero = refl
       by (suc n) = refl
   rest-empty zero (b ∷ xs) = refl
@@ -176,7 +172,7 @@ module _ (side : Side) (offset : ℕ → ℕ) (h : History) (log : Log) (x : Sta
   send-is k left o = ap (λ (n : ℕ). send_of k (take n left)) (credit-is k o)
 
   -- where credit covers all, all goes out
-  all-out : (n : ℕ) (xs : List ℕ) → effects.is_empty (drop (length (take n xs)) xs) ≡ true → take n xs ≡ xs
+  all-out : (n : ℕ) (xs : List ℕ) → is_nothing (drop (length (take n xs)) xs) ≡ true → take n xs ≡ xs
   all-out n [] e = by n
     where
       by : (n : ℕ) → take {A = ℕ} n [] ≡ []
@@ -283,13 +279,9 @@ module _ (side : Side) (offset : ℕ → ℕ) (h : History) (log : Log) (x : Sta
       (row true replies.Done (if is_open h && is_living side h s then session_finish h s ++ session_gone_actions side h (findings side h) s else []) ∷ []))
   end-agrees name s n g = by (logs.is_open log) refl (drivers.is_living side log s) refl
     where
-      finishes : (b : Bool) → action_if b (actions.Finish s) ≡ tables.action_if b (actions.Finish s)
-      finishes true = refl
-      finishes false = refl
-
       by : (o : Bool) → logs.is_open log ≡ o → (l : Bool) → drivers.is_living side log s ≡ l → ladders.end_session side log s
           ≡ effect_of side h log (calls.EndSession name) (first_row
           (row true replies.Done (if is_open h && is_living side h s then session_finish h s ++ session_gone_actions side h (findings side h) s else []) ∷ []))
-      by true e true l = rw (x.came.openness, living-is side offset h log s x, e, l, n, g l, x.came.events, finishes (not (is_some (stop_of (events_of log) s)))) refl
+      by true e true l = rw (x.came.openness, living-is side offset h log s x, e, l, n, g l, x.came.events) refl
       by true e false l = rw (x.came.openness, living-is side offset h log s x, e, l, n) refl
       by false e l q = rw (x.came.openness, e) refl

@@ -33,7 +33,7 @@ use Rattle.wt_sessions_agree.proofs.MembersLaws.{gone-alike}
 use Rattle.wt_sessions_agree.proofs.RowsAgree.{EndsAgree, is_due}
 use Rattle.wt_sessions_agree.proofs.WaitLaws.{gone-is}
 use Rattle.wt_sessions_agree.specs.Members.{MembersIn}
-use Rattle.wt_sessions_agree.specs.Records.{part_start}
+use Rattle.wt_sessions_agree.specs.Orderly.{begins_at}
 use Rattle.wt_sessions_agree.specs.Stands.{BegunAgrees, IsResponse, Stands}
 use Rattle.wt_turn.specs.Log.{Event, Log, calls_of}
 use Rattle.wt_turn.specs.Turns.{event_of}
@@ -134,7 +134,7 @@ module _ (offset : ℕ → ℕ) (h : History) (log : Log) (i : IsHistory Server 
   due-gone : session_gone_actions Server h (findings Server h) (requested_stream (calls_of log)) ≡ ending_actions Server log (requested_stream (calls_of log))
   due-gone = gone (requested_stream (calls_of log)) (ap (is_gone h (findings Server h)) (sym x.request) ∙ due-not-gone h i (due-is offset h log x d))
 
-  due-start : part_start Server h (requested_stream (calls_of log)) ≡ request_end (tables.verdict_of (requested_stream (calls_of log)) (stream_table Server log).classified)
+  due-start : begins_at h (findings Server h) (requested_stream (calls_of log)) ≡ request_end (tables.verdict_of (requested_stream (calls_of log)) (stream_table Server log).classified)
   due-start =
       let r : DueRequest h = due-request h i (due-is offset h log x d) in
       let same : requested_stream (calls_of log) ≡ r.id = sym x.request ∙ ap (λ (o : Option ℕ). unwrap_or o 0) r.last in

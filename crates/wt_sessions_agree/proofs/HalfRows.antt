@@ -214,14 +214,9 @@ module _ (side : Side) (h : History) (log : Log) (k : ℕ) (a : HalfAgrees h log
 
 -- ---- what is unread
 
-body-agrees : (o : Option Verdict) → body_start o ≡ ladders.body_start o
-body-agrees None = refl
-body-agrees (Some verdicts.Incomplete) = refl
-body-agrees (Some _) = refl
-
 pub unread-agrees : (side : Side) (offset : ℕ → ℕ) (h : History) (log : Log) (k : ℕ) → Stands side offset h log → unread side h k ≡ ladders.unread_body side log k
 unread-agrees side offset h log k s =
     ap (λ (n : ℕ). drop (n + length (was_read h k)) (contents h k))
-    (body-agrees (verdict_of (findings side h) k) ∙ ap ladders.body_start (verdicts-agree k (findings side h) (stream_table side log) s.table))
-    ∙ ap (λ (n : ℕ). drop (ladders.body_start (tables.verdict_of k (stream_table side log).classified) + n) (contents h k)) (s.halves.read k)
-    ∙ ap (drop (ladders.body_start (tables.verdict_of k (stream_table side log).classified) + ladders.total_read k (calls_of log))) (s.came.contents k)
+    (ap body_start (verdicts-agree k (findings side h) (stream_table side log) s.table))
+    ∙ ap (λ (n : ℕ). drop (body_start (tables.verdict_of k (stream_table side log).classified) + n) (contents h k)) (s.halves.read k)
+    ∙ ap (drop (body_start (tables.verdict_of k (stream_table side log).classified) + ladders.total_read k (calls_of log))) (s.came.contents k)

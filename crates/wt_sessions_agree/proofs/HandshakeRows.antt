@@ -25,7 +25,8 @@ use Rattle.wt_sessions.specs.StreamTable as tables
 use Rattle.wt_sessions_agree.proofs.ConnectionRows.{covered-out, lacks-is, refused-is, send-is}
 use Rattle.wt_sessions_agree.proofs.WaitLaws.{driver-is, transport-is}
 use Rattle.wt_sessions_agree.specs.Agrees.{classified_in}
-use Rattle.wt_sessions_agree.specs.Records.{effect_of, failure_record, part_start, pending_record}
+use Rattle.wt_sessions_agree.specs.Orderly.{begins_at}
+use Rattle.wt_sessions_agree.specs.Records.{effect_of, failure_record, pending_record}
 use Rattle.wt_sessions_agree.specs.Stands.{Stands}
 use Rattle.wt_turn.specs.Log.{AcceptanceFailed, CallRecord, Log, actions_of, calls_of, events_of}
 use Rattle.wt_turn.specs.Log as logs
@@ -82,7 +83,7 @@ module _ (side : Side) (offset : ℕ → ℕ) (h : History) (log : Log) (x : Sta
   -- ---- a server's response
 
   pub accept-agrees : (c : Call) (waiting : CallRecord) (s : ℕ) (left : List ℕ) → pending_record c ≡ waiting → failure_record c ≡ AcceptanceFailed
-      → part_start side h s ≡ request_end (tables.verdict_of s (stream_table side log).classified)
+      → begins_at h (findings side h) s ≡ request_end (tables.verdict_of s (stream_table side log).classified)
       → accept_response side log s left waiting ≡ effect_of side h log c (first_row (acceptance_rows h s left))
   accept-agrees c waiting s left p f starts = by (logs.is_open log) refl (ladders.is_refused log s left) refl (is_covered log s left) refl
     where

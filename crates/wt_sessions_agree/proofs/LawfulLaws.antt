@@ -116,7 +116,7 @@ module _ (side : Side) (offset : ℕ → ℕ) (h : History) (log : Log) (x : Sta
       asked (p ∷ h) e = e
 
   incoming-by : (s : Side) → side ≡ s → (not (is_client s) && not (is_first h) && not (list_any (λ (p : Pair). fails_incoming p.turn p.answer.reply) h) && all_answered h)
-      ≡ (not (answers.is_client s) && not (answers.is_first log) && awaits_request (handshake_state (calls_of log)))
+      ≡ (not (is_client s) && not (answers.is_first log) && awaits_request (handshake_state (calls_of log)))
   incoming-by Client q = refl
   incoming-by Server q =
       let a : is_client side ≡ false = ap is_client q in
@@ -128,7 +128,7 @@ module _ (side : Side) (offset : ℕ → ℕ) (h : History) (log : Log) (x : Sta
       by true false d = refl
       by false n d = refl
 
-  connect-by : (s : Side) → (is_client s && is_first h) ≡ (answers.is_client s && answers.is_first log)
+  connect-by : (s : Side) → (is_client s && is_first h) ≡ (is_client s && answers.is_first log)
   connect-by Client = x.first
   connect-by Server = refl
 

@@ -260,15 +260,8 @@ module _ (side : Side) (h : History) (found : List Finding) (calls : CallView) (
 
 -- ---- what goes out for them
 
-acts-alike : (b : Bool) (a : Action) → sends.action_if b a ≡ tables.action_if b a
-acts-alike true a = refl
-acts-alike false a = refl
-
-both-alike : (b c : Bool) (x y : Action) → sends.action_if b x ++ sends.action_if c y ≡ tables.action_if b x ++ tables.action_if c y
-both-alike b c x y = rw (acts-alike b x, acts-alike c y) refl
-
 ends-alike : (side : Side) (h : History) (t : TransportView) → HalvesSeen side h t → (k : ℕ) → stream_gone_actions side h k ≡ stream_ends t k
-ends-alike side h t seen k = rw (seen.receives k, seen.sends k) (both-alike _ _ _ _)
+ends-alike side h t seen k = rw (seen.receives k, seen.sends k) refl
 
 all-alike : (f g : ℕ → List Action) → ((k : ℕ) → f k ≡ g k) → (ids : List ℕ) → flat_map f ids ≡ flat_map g ids
 all-alike f g e [] = refl

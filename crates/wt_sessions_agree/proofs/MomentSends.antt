@@ -356,13 +356,9 @@ module _ (side : Side) (h : History) (t : TransportView) (calls : CallView) (off
       gone : session_gone_actions side h found k ≡ gone_actions t (dispatched_streams calls table) k
       gone = alike found table keep.good keep.holds k (living _ _ l)
 
-      finish : (b : Bool) → sends.action_if (not b) (actions.Finish k) ≡ tables.action_if (not b) (actions.Finish k)
-      finish true = refl
-      finish false = refl
-
       acts : (b : Bool) → actions_for side h found (SessionClosed k code reason b) ≡ session_end t k b ++ gone_actions t (dispatched_streams calls table) k
       acts true = ap (λ (l : List Action). actions.ResetOut k 0x100 ∷ l) gone
-      acts false = rw (s.views.stopped k, sym gone) (ap (λ (l : List Action). l ++ session_gone_actions side h found k) (finish (is_some (stop_of (events h) k))))
+      acts false = rw (s.views.stopped k, sym gone) refl
 
   walk-kept : WalkKeeps h t calls Keeps
   walk-kept = record { table = λ found table keep. keep.holds; walked = λ found table k by_capsule walk f l keep. walked found table k by_capsule walk f l keep }

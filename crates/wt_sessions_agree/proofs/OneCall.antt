@@ -47,8 +47,8 @@ use Rattle.wt_sessions_agree.proofs.TurnKeeps.{acted-calls, flushed-first, reset
 use Rattle.wt_sessions_agree.specs.Agreement.{Agree, TurnAgrees}
 use Rattle.wt_sessions_agree.specs.Agrees.{IsTable}
 use Rattle.wt_sessions_agree.specs.Members.{HalvesSeen, MembersIn}
-use Rattle.wt_sessions_agree.specs.Orderly.{Orderly, session_at}
-use Rattle.wt_sessions_agree.specs.Records.{effect_of, part_start, record_of}
+use Rattle.wt_sessions_agree.specs.Orderly.{Orderly, begins_at, session_at}
+use Rattle.wt_sessions_agree.specs.Records.{effect_of, record_of}
 use Rattle.wt_sessions_agree.specs.Stands.{CallsAgree, SameOut, SeesAlike, Stands}
 use Rattle.wt_turn.specs.Log.{CallRecord, Called, Log, Polled, actions_of, all_events_of, calls_of, closes, events_of, with_actions}
 use Rattle.wt_turn.specs.Log as logs
@@ -279,6 +279,6 @@ module _ (side : Side) (offset : ℕ → ℕ) (h : History) (log : Log) (x : Sta
           (λ o d. idle-call side h pair hist o e c refl)
       by (Some id) e =
           let r : mine.reply ≡ replies.Session id = session-reply mine.reply id e in
-          agrees (with-offset id (part_start side h id) offset) (λ log2 called. sessions-session side offset h log x hist c lawful log2 called id r)
+          agrees (with-offset id (begins_at h (findings side h) id) offset) (λ log2 called. sessions-session side offset h log x hist c lawful log2 called id r)
           (order-session side offset h log x hist c lawful now called-now id r)
           (λ o d. absurd (let t = gives-idle id e in cc (sym t ∙ d)))

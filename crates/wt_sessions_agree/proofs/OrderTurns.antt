@@ -24,6 +24,7 @@ use Rattle.wt_seam_spec.specs.Joined.{join_all}
 use Rattle.wt_seam_spec.specs.Reports.{end_of}
 use Rattle.wt_sessions.specs.Driver.{accepts_stream, call_view, delivers, ends_session, members_of, sessions_of}
 use Rattle.wt_sessions.specs.Driver as drivers
+use Rattle.wt_sessions.specs.Moment.{is_peers}
 use Rattle.wt_sessions.specs.StreamTable.{Admitted}
 use Rattle.wt_sessions_agree.proofs.CameAgrees.{called-contents, called-events}
 use Rattle.wt_sessions_agree.proofs.DatagramLaws.{pair-of}
@@ -34,8 +35,8 @@ use Rattle.wt_sessions_agree.proofs.RecordLaws.{Passes, done-passes, failure-asi
 use Rattle.wt_sessions_agree.proofs.SessionTurns.{with-offset}
 use Rattle.wt_sessions_agree.proofs.TurnKeeps.{view-of}
 use Rattle.wt_sessions_agree.proofs.WaitLaws.{waiting-pairs}
-use Rattle.wt_sessions_agree.specs.Orderly.{Orderly, Received, begins_at, is_of_peer}
-use Rattle.wt_sessions_agree.specs.Records.{left_datagrams, next_index, part_start, record_of}
+use Rattle.wt_sessions_agree.specs.Orderly.{Orderly, Received, begins_at}
+use Rattle.wt_sessions_agree.specs.Records.{left_datagrams, next_index, record_of}
 use Rattle.wt_sessions_agree.specs.Stands.{Stands}
 use Rattle.wt_turn.specs.Log.{CallRecord, Event, Log, calls_of}
 use Rattle.wt_turn.specs.Turns.{is_call}
@@ -201,7 +202,7 @@ module _ (side : Side) (offset : ℕ → ℕ) (h : History) (log : Log) (x : Sta
       known = λ k s. x.orderly.known k (sym (same-established pair h k e) ∙ s);
     }
 
-    pub order-session : (id : ℕ) → own.reply ≡ replies.Session id → Orderly side after (call_view log2) (with-offset id (part_start side h id) offset) (findings side h)
+    pub order-session : (id : ℕ) → own.reply ≡ replies.Session id → Orderly side after (call_view log2) (with-offset id (begins_at h (findings side h) id) offset) (findings side h)
     order-session id e = record {
       few = x.orderly.few;
       none_early = none-early-after side h (turns.Call c) (next side h (turns.Call c)) (findings side h) lawful x.orderly.none_early;
@@ -216,14 +217,14 @@ module _ (side : Side) (offset : ℕ → ℕ) (h : History) (log : Log) (x : Sta
         before : (k : ℕ) → (k == id) ≡ false → is_established after k ≡ true → is_established h k ≡ true
         before k q s = sym (now k ∙ ap (λ (b : Bool). b || is_established h k) (swapped k id q)) ∙ s
 
-        begin-by : (k : ℕ) (b : Bool) → (k == id) ≡ b → is_established after k ≡ true → begins_at after (findings side h) k ≡ with-offset id (part_start side h id) offset k
+        begin-by : (k : ℕ) (b : Bool) → (k == id) ≡ b → is_established after k ≡ true → begins_at after (findings side h) k ≡ with-offset id (begins_at h (findings side h) id) offset k
         begin-by k true q s =
-            same-begins k ∙ ap (begins_at h (findings side h)) (eqb-true k id q) ∙ sym (ap (λ (b : Bool). if b then part_start side h id else offset k) q)
+            same-begins k ∙ ap (begins_at h (findings side h)) (eqb-true k id q) ∙ sym (ap (λ (b : Bool). if b then begins_at h (findings side h) id else offset k) q)
         begin-by k false q s =
-            same-begins k ∙ x.orderly.begin k (before k q s) ∙ sym (ap (λ (b : Bool). if b then part_start side h id else offset k) q)
+            same-begins k ∙ x.orderly.begin k (before k q s) ∙ sym (ap (λ (b : Bool). if b then begins_at h (findings side h) id else offset k) q)
 
-        known-by : (k : ℕ) (b : Bool) → (k == id) ≡ b → is_established after k ≡ true → (is_of_peer side k && not (is_classified (findings side h) k)) ≡ false
+        known-by : (k : ℕ) (b : Bool) → (k == id) ≡ b → is_established after k ≡ true → (is_peers side k && not (is_classified (findings side h) k)) ≡ false
         known-by k true q s =
-            ap (λ (j : ℕ). is_of_peer side j && not (is_classified (findings side h) j)) (eqb-true k id q)
+            ap (λ (j : ℕ). is_peers side j && not (is_classified (findings side h) j)) (eqb-true k id q)
             ∙ known-new side h (turns.Call c) id (lawful, refl, hist) (established-rightly side h (turns.Call c) hist lawful id (ap session_in e))
         known-by k false q s = x.orderly.known k (before k q s)

@@ -12,12 +12,13 @@ use Rattle.wt_meaning.specs.Windows.{is_established}
 use Rattle.wt_promise.proofs.Accepted.{and-left, and-right}
 use Rattle.wt_promise.proofs.Grows.{AClassified, AClosed, ADatagram, ADequeued, AFault, ASettings, Kept, Nothing, asks_peers, checks-keep}
 use Rattle.wt_proto.specs.declared.verdict.Verdict.{Verdict}
+use Rattle.wt_sessions.specs.Moment.{is_peers}
 use Rattle.wt_sessions.specs.StreamTable.{CallView}
 use Rattle.wt_sessions_agree.proofs.Appends.{classified-append, cons-append, dequeued-append}
 use Rattle.wt_sessions_agree.proofs.DatagramLaws.{received-more, received-same}
 use Rattle.wt_sessions_agree.proofs.Few.{dequeues-none, few-checks, none-dequeued, plain-check}
 use Rattle.wt_sessions_agree.proofs.SessionLaws.{begin-same}
-use Rattle.wt_sessions_agree.specs.Orderly.{Begin, Known, Orderly, Received, is_of_peer}
+use Rattle.wt_sessions_agree.specs.Orderly.{PartsBegin, Known, Orderly, Received}
 use Rattle.wt_wire.specs.declared.error.ErrorCode.{ErrorCode}
 use Rattle.wt_wire.specs.declared.side.Side.{Side}
 use Rattle.wt_proto.specs.declared.verdict.Verdict.TheVariants as verdicts
@@ -82,12 +83,12 @@ received-kept side h calls found _ (AFault code) f r = received-same h calls fou
 
 -- where each session's part begins, and that its stream is known
 pub record Parts (side : Side) (h : History) (offset : ℕ → ℕ) (found : List Finding) : Type 0 where
-  pub begin : Begin h offset found
+  pub begin : PartsBegin h offset found
   pub known : Known side h found
 
 -- what is known stays known
 known-more : (side : Side) (h : History) (found : List Finding) (f : Finding) → Known side h found → Known side h (found ++ f ∷ [])
-known-more side h found f kn k e = by (is_of_peer side k) (is_classified found k) refl (kn k e)
+known-more side h found f kn k e = by (is_peers side k) (is_classified found k) refl (kn k e)
   where
     by : (p c : Bool) → is_classified found k ≡ c → (p && not c) ≡ false → (p && not (is_classified (found ++ f ∷ []) k)) ≡ false
     by false c q x = refl
@@ -110,8 +111,8 @@ parts-kept side h offset found _ (AClassified k v more p d c e m) f r =
     other j s false q = rw q refl
     other j s true q =
         let i : k ≡ j = eqb-true k j q in
-        let u : (is_of_peer side k && not (is_classified found k)) ≡ true = rw (p, c) refl in
-        absurd (cc (sym u ∙ ap (λ (n : ℕ). is_of_peer side n && not (is_classified found n)) i ∙ r.known j s))
+        let u : (is_peers side k && not (is_classified found k)) ≡ true = rw (p, c) refl in
+        absurd (cc (sym u ∙ ap (λ (n : ℕ). is_peers side n && not (is_classified found n)) i ∙ r.known j s))
 parts-kept side h offset found _ (ADatagram n s payload e) f r = parts-same side h offset found (DatagramRead n s payload _) (λ j q. refl) r
 parts-kept side h offset found _ (AClosed s code reason by_capsule e) f r = parts-same side h offset found (SessionClosed s code reason by_capsule) (λ j q. refl) r
 parts-kept side h offset found _ (ASettings e) f r = parts-same side h offset found SettingsRead (λ j q. refl) r

@@ -22,6 +22,7 @@ use Rattle.wt_promise.proofs.HandedOut.{verdict-stays}
 use Rattle.wt_promise.proofs.Phases.{last-given}
 use Rattle.wt_promise.proofs.Verdicts.{given-classified}
 use Rattle.wt_promise.specs.Promise.{EstablishedFor, IsHistory}
+use Rattle.wt_sessions.specs.Moment.{is_peers}
 use Rattle.wt_proto.proofs.ResponseWalkLaws.{response_walk_stays}
 use Rattle.wt_proto.specs.Bi.{bi_verdict_of}
 use Rattle.wt_proto.specs.ResponseWalk.{is_answered, response_decides, response_unfinished, response_walk_of}
@@ -31,7 +32,7 @@ use Rattle.wt_proto.specs.declared.response_walk.ResponseWalk.{ResponseWalk}
 use Rattle.wt_proto.specs.declared.verdict.Verdict.{Verdict}
 use Rattle.wt_seam_spec.specs.Reports.{end_of}
 use Rattle.wt_sessions_agree.proofs.Basics.{is-none, or-first}
-use Rattle.wt_sessions_agree.specs.Orderly.{begins_at, is_of_peer}
+use Rattle.wt_sessions_agree.specs.Orderly.{begins_at}
 use Rattle.wt_turn.specs.declared.answer.Answer.{Answer}
 use Rattle.wt_turn.specs.declared.turn.Turn.{Turn}
 use Rattle.wt_wire.specs.HeaderList.{Fields}
@@ -274,11 +275,11 @@ parted-new Client h turn k i e =
 
 -- its stream has a verdict before its moment, where the peer opened it
 pub known-new : (side : Side) (h : History) (turn : Turn) (k : ℕ) → IsHistory side (with_pair h turn (next side h turn)) → EstablishedFor side h (with_pair h turn (next side h turn)) k
-    → (is_of_peer side k && not (is_classified (findings side h) k)) ≡ false
+    → (is_peers side k && not (is_classified (findings side h) k)) ≡ false
 known-new Server h turn k i e =
     let given = last-given (with_pair h turn (next Server h turn)) k (numbered k (last_request (with_pair h turn (next Server h turn))) (and-left _ _ e.asked)) in
     let c = given-classified Server (record { turn = turn; answer = next Server h turn }) h i k given in
-    rw c (none (is_of_peer Server k))
+    rw c (none (is_peers Server k))
   where
     none : (b : Bool) → (b && not true) ≡ false
     none true = refl

@@ -17,6 +17,7 @@ use Rattle.wt_promise.proofs.Phases.{same-established}
 use Rattle.wt_promise.proofs.Silent.{established-begun}
 use Rattle.wt_promise.proofs.Verdicts.{given-classified}
 use Rattle.wt_promise.specs.Promise.{IsHistory}
+use Rattle.wt_sessions.specs.Moment.{is_peers}
 use Rattle.wt_proto.specs.declared.control_walk.ControlWalk.{ControlWalk}
 use Rattle.wt_proto.specs.declared.verdict.Verdict.{Verdict}
 use Rattle.wt_seam_spec.specs.Reports.{credit, datagrams_of, end_of, is_connected, stop_of, unis_allowed}
@@ -26,7 +27,7 @@ use Rattle.wt_sessions_agree.proofs.Basics.{and-false}
 use Rattle.wt_sessions_agree.proofs.RestKinds.{Left, Still, Taken, is_incomplete, is_stuck, stuck}
 use Rattle.wt_sessions_agree.proofs.RestLaws.{And, AtRest, Empty, Quiet, at-rest, comes-to-rest, critical, quiet-more, rest-quiet}
 use Rattle.wt_sessions_agree.proofs.ThereLaws.{established-there}
-use Rattle.wt_sessions_agree.specs.Orderly.{Known, is_of_peer}
+use Rattle.wt_sessions_agree.specs.Orderly.{Known}
 use Rattle.wt_turn.specs.Log.{Event, Loss}
 use Rattle.wt_turn.specs.declared.call.Call.{Call}
 use Rattle.wt_turn.specs.declared.loss.LossReason.{LossReason}
@@ -45,9 +46,9 @@ use Rattle.wt_wire.specs.declared.error.ErrorCode.TheVariants as h3
 known-before : (side : Side) (p : Pair) (h : History) → IsHistory side (p ∷ h) → Known side (p ∷ h) (findings side h)
 known-before side p h i k e = by side i (established-begun side (p ∷ h) i k e)
   where
-    by : (s : Side) → IsHistory s (p ∷ h) → BegunFor s (p ∷ h) k → (is_of_peer s k && not (is_classified (findings s h) k)) ≡ false
+    by : (s : Side) → IsHistory s (p ∷ h) → BegunFor s (p ∷ h) k → (is_peers s k && not (is_classified (findings s h) k)) ≡ false
     by Client j b = rw b refl
-    by Server j b = let c : is_classified (findings Server h) k ≡ true = given-classified Server p h j k b in rw c (and-false (is_of_peer Server k))
+    by Server j b = let c : is_classified (findings Server h) k ≡ true = given-classified Server p h j k b in rw c (and-false (is_peers Server k))
 
 -- the second moment of a reply that establishes a session finds nothing
 pub moments-once : (side : Side) (h : History) (r : Reply) (found : List Finding) → Known side h found → after_moments side h r found ≡ after_checks side h (checks side h) found

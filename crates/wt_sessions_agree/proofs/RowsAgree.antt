@@ -5,13 +5,14 @@ use Rattle.wt_meaning.specs.Calls.{in_session, rows_of}
 use Rattle.wt_meaning.specs.Halves.{has_receiving, has_sending, where_has}
 use Rattle.wt_meaning.specs.Handshakes.{acceptance_frame, acceptance_rows, head_left, last_begun, none_lives, poll_rows, rejection_rows}
 use Rattle.wt_meaning.specs.History.{History, is_given_up}
+use Rattle.wt_meaning.specs.Lawful.{is_client}
 use Rattle.wt_meaning.specs.Moments.{findings}
 use Rattle.wt_meaning.specs.Rows.{Row, first_row}
 use Rattle.wt_meaning.specs.Sends.{session_gone_actions}
 use Rattle.wt_meaning.specs.Windows.{last_request, named}
 use Rattle.wt_message.specs.FixedBytes.{response_bytes}
 use Rattle.wt_seam_spec.specs.Streams.{local_bi, local_uni, peer_bi, peer_uni}
-use Rattle.wt_sessions.specs.Answers.{call_effect, is_client, may_call, named_session, on_receiving, on_sending, on_session}
+use Rattle.wt_sessions.specs.Answers.{call_effect, may_call, named_session, on_receiving, on_sending, on_session}
 use Rattle.wt_sessions.specs.Driver.{ending_actions, has_no_session, is_living, stream_table}
 use Rattle.wt_sessions.specs.Effect as effects
 use Rattle.wt_sessions.specs.Halves.{has_receiving_half, has_sending_half}
@@ -23,7 +24,8 @@ use Rattle.wt_sessions_agree.proofs.ConnectRows.{ConnectFacts, connect-agrees}
 use Rattle.wt_sessions_agree.proofs.ConnectionRows.{accept_bi-agrees, accept_uni-agrees, close-agrees, closed-agrees, end-agrees, endpoint_close-agrees, head-is, named-is, on-session, open_bi-agrees, open_uni-agrees, opening-agrees, receive-agrees, send_datagram-agrees, size-agrees}
 use Rattle.wt_sessions_agree.proofs.HalfRows.{HalfAgrees, finish-agrees, half-agrees, on-half, priority-agrees, read-agrees, read_exact-agrees, reset-agrees, set_priority-agrees, stop-agrees, stopped-agrees, unread-agrees, write-agrees, write_all-agrees}
 use Rattle.wt_sessions_agree.proofs.HandshakeRows.{accept-agrees, begin-agrees, incoming-agrees, reject-agrees}
-use Rattle.wt_sessions_agree.specs.Records.{effect_of, failure_record, part_start, pending_record}
+use Rattle.wt_sessions_agree.specs.Orderly.{begins_at}
+use Rattle.wt_sessions_agree.specs.Records.{effect_of, failure_record, pending_record}
 use Rattle.wt_sessions_agree.specs.Stands.{BegunAgrees, IsConnect, IsResponse, Stands}
 use Rattle.wt_turn.specs.Log.{AcceptanceFailed, CallRecord, Log, Polled, ResponseStarted, calls_of}
 use Rattle.wt_turn.specs.declared.call.Call.{Call}
@@ -45,7 +47,7 @@ pub record EndsAgree (side : Side) (h : History) (log : Log) : Type 0 where
       → session_gone_actions side h (findings side h) (requested_stream (calls_of log)) ≡ ending_actions side log (requested_stream (calls_of log))
   pub none : none_lives side h ≡ has_no_session side log
   pub starts : is_due side (handshake_state (calls_of log)) ≡ true
-      → part_start side h (requested_stream (calls_of log)) ≡ request_end (tables.verdict_of (requested_stream (calls_of log)) (stream_table side log).classified)
+      → begins_at h (findings side h) (requested_stream (calls_of log)) ≡ request_end (tables.verdict_of (requested_stream (calls_of log)) (stream_table side log).classified)
   pub client : side ≡ Client → ConnectFacts h log
   pub connects : (reserved : Option (List ℕ)) (head : List ℕ) → handshake_state (calls_of log) ≡ handshakes.Connecting reserved head → side ≡ Client
 

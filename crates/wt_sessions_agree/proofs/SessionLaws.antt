@@ -20,7 +20,7 @@ use Rattle.wt_sessions_agree.proofs.Basics.{or-false, or-none}
 use Rattle.wt_sessions_agree.proofs.ScanLaws.{fault-fields, check-step, checks-faulty}
 use Rattle.wt_sessions_agree.proofs.WindowLaws.{gone-agrees}
 use Rattle.wt_sessions_agree.specs.Agrees.{IsTable, admitted_in, classified_in, closed_in}
-use Rattle.wt_sessions_agree.specs.Orderly.{Begin, session_at}
+use Rattle.wt_sessions_agree.specs.Orderly.{PartsBegin, session_at}
 use Rattle.wt_sessions_agree.specs.Stands.{CallsAgree, ViewsAgree}
 use Rattle.wt_wire.specs.declared.error.ErrorCode.{ErrorCode}
 use Rattle.wt_wire.specs.declared.side.Side.{Side}
@@ -29,8 +29,8 @@ use Rattle.wt_proto.specs.declared.session_walk.SessionWalk.TheVariants as walks
 use Rattle.wt_wire.specs.declared.side.StreamEnd.TheVariants as ends
 
 -- what is no stream moves none
-pub begin-same : (h : History) (offset : ℕ → ℕ) (found : List Finding) (f : Finding) → ((k : ℕ) → is_established h k ≡ true → verdict_in k f ≡ None) → Begin h offset found
-    → Begin h offset (found ++ f ∷ [])
+pub begin-same : (h : History) (offset : ℕ → ℕ) (found : List Finding) (f : Finding) → ((k : ℕ) → is_established h k ≡ true → verdict_in k f ≡ None) → PartsBegin h offset found
+    → PartsBegin h offset (found ++ f ∷ [])
 begin-same h offset found f e b k s = ap part (first-append (verdict_in k) found f ∙ ap (option_or (verdict_of found k)) (e k s) ∙ or-none (verdict_of found k)) ∙ b k s
   where
     part : Option Verdict → ℕ
@@ -70,8 +70,8 @@ table-walked h t calls = record { table = λ found table holds. holds; walked = 
 
 module _ (side : Side) (h : History) (t : TransportView) (calls : CallView) (offset : ℕ → ℕ) (g : ViewsAgree side h t) (c : CallsAgree h calls) (Keeps : List Finding → StreamTable → Type 0)
     (kept : WalkKeeps h t calls Keeps) where
-  walked-begin : (found : List Finding) (s : ℕ) (by_capsule : Bool) (walk : SessionWalk) → Begin h offset found → Begin h offset (found ++ session_found s by_capsule walk)
-  walked-begin found s by_capsule walks.Running b = subst (Begin h offset) (sym (append-nil found)) b
+  walked-begin : (found : List Finding) (s : ℕ) (by_capsule : Bool) (walk : SessionWalk) → PartsBegin h offset found → PartsBegin h offset (found ++ session_found s by_capsule walk)
+  walked-begin found s by_capsule walks.Running b = subst (PartsBegin h offset) (sym (append-nil found)) b
   walked-begin found s by_capsule (walks.Closed code reason) b = begin-same h offset found (SessionClosed s code reason by_capsule) (λ k s. refl) b
   walked-begin found s by_capsule (walks.Fault code) b = begin-same h offset found (Faulted code) (λ k s. refl) b
 
@@ -80,7 +80,7 @@ module _ (side : Side) (h : History) (t : TransportView) (calls : CallView) (off
   check-faulty (x ∷ xs) table code e = rw e refl
 
   abbrev Walks : List ℕ → Type 0
-  Walks ids = (found : List Finding) (table : StreamTable) → Begin h offset found → Keeps found table
+  Walks ids = (found : List Finding) (table : StreamTable) → PartsBegin h offset found → Keeps found table
       → Keeps (after_checks side h (map WalkSession ids) found) (check_each t calls (filter_map (session_at h offset) ids) table)
 
   -- an id of which nothing is found
@@ -91,7 +91,7 @@ module _ (side : Side) (h : History) (t : TransportView) (calls : CallView) (off
       rw (check-step side h (WalkSession k) (map WalkSession ids) found [] f x, append-nil found) again
 
   -- an established session
-  established : (k : ℕ) (ids : List ℕ) (found : List Finding) (table : StreamTable) → is_established h k ≡ true → fault_of found ≡ None → Walks ids → Begin h offset found → Keeps found table
+  established : (k : ℕ) (ids : List ℕ) (found : List Finding) (table : StreamTable) → is_established h k ≡ true → fault_of found ≡ None → Walks ids → PartsBegin h offset found → Keeps found table
       → (b : Bool) → is_gone h found k ≡ b
       → Keeps (after_checks side h (map WalkSession (k ∷ ids)) found) (check_each t calls (record { id = k; offset = offset k } ∷ filter_map (session_at h offset) ids) table)
   established k ids found table e f again b holds true q =

@@ -6,7 +6,7 @@ use Rattle.std.proofs.lemmas.Bool.{eq-eqb, eqb-true, lt-ltb, ltb-true}
 use Rattle.wt_meaning.specs.History.{History, Pair, stream_count}
 use Rattle.wt_meaning.specs.Lawful.{is_lawful}
 use Rattle.wt_meaning.specs.Meaning.{next, own_answer, step}
-use Rattle.wt_meaning.specs.Moments.{ids_from}
+use Rattle.wt_meaning.specs.Moments.{findings, ids_from}
 use Rattle.wt_meaning.specs.Windows.{establishes, is_established, session_in}
 use Rattle.wt_promise.proofs.Few.{new-session}
 use Rattle.wt_promise.proofs.Flow.{swapped}
@@ -20,8 +20,8 @@ use Rattle.wt_sessions_agree.proofs.Basics.{or-turned}
 use Rattle.wt_sessions_agree.proofs.RecordLaws.{established-by}
 use Rattle.wt_sessions_agree.proofs.ThereLaws.{IsFirstKind, established-there, none-behind}
 use Rattle.wt_sessions_agree.proofs.TurnKeeps.{more-ids}
-use Rattle.wt_sessions_agree.specs.Orderly.{session_at}
-use Rattle.wt_sessions_agree.specs.Records.{part_start, record_of}
+use Rattle.wt_sessions_agree.specs.Orderly.{begins_at, session_at}
+use Rattle.wt_sessions_agree.specs.Records.{record_of}
 use Rattle.wt_sessions_agree.specs.Stands.{Stands}
 use Rattle.wt_turn.specs.Log.{CallRecord, Log, SessionEstablished, calls_of}
 use Rattle.wt_turn.specs.declared.answer.Answer.{Answer}
@@ -163,18 +163,18 @@ module _ (side : Side) (offset : ℕ → ℕ) (h : History) (log : Log) (x : Sta
         ∙ sym (same-ats h after offset (λ k. same-established pair h k e) (ids_from 0 0 (stream_count side after 0)))
 
     -- one that does
-    one-now : (id : ℕ) → own.reply ≡ replies.Session id → (call_view log2).sessions ≡ with_session (record { id = id; offset = part_start side h id }) (call_view log).sessions
+    one-now : (id : ℕ) → own.reply ≡ replies.Session id → (call_view log2).sessions ≡ with_session (record { id = id; offset = begins_at h (findings side h) id }) (call_view log).sessions
     one-now id e = ap sessions_of called ∙ ap (λ (r : Reply). sessions_after (record_of side h c r) (sessions_of (calls_of log))) e
 
     pub sessions-session : (id : ℕ) → own.reply ≡ replies.Session id
-        → (call_view log2).sessions ≡ filter_map (session_at after (with-offset id (part_start side h id) offset)) (ids_from 0 0 (stream_count side after 0))
+        → (call_view log2).sessions ≡ filter_map (session_at after (with-offset id (begins_at h (findings side h) id) offset)) (ids_from 0 0 (stream_count side after 0))
     sessions-session id e =
         one-now id e ∙ ap (with_session y) (x.sessions ∙ sym more-streams)
-        ∙ inserted h offset y (id / 4) is after (with-offset id (part_start side h id) offset) others (new-session side h (turns.Call c) hist lawful id (ap session_in e)) new 0
+        ∙ inserted h offset y (id / 4) is after (with-offset id (begins_at h (findings side h) id) offset) others (new-session side h (turns.Call c) hist lawful id (ap session_in e)) new 0
         (stream_count side after 0) (omega arith) (omega (arith, there.there))
       where
         y : Session
-        y = record { id = id; offset = part_start side h id }
+        y = record { id = id; offset = begins_at h (findings side h) id }
 
         now : (k : ℕ) → is_established after k ≡ ((id == k) || is_established h k)
         now k = ap (λ (r : Reply). list_any (λ (j : ℕ). j == k) (cons_option (session_in r) (filter_map establishes h))) e
@@ -188,17 +188,17 @@ module _ (side : Side) (offset : ℕ → ℕ) (h : History) (log : Log) (x : Sta
         is : id ≡ 4 * (id / 4) + 0
         is = let z = there.kind in omega (arith, z)
 
-        others : (k : ℕ) → (k == id) ≡ false → session_at after (with-offset id (part_start side h id) offset) k ≡ session_at h offset k
+        others : (k : ℕ) → (k == id) ≡ false → session_at after (with-offset id (begins_at h (findings side h) id) offset) k ≡ session_at h offset k
         others k q =
-            ap (λ (b : Bool). if b then Some (record { id = k; offset = if k == id then part_start side h id else offset k }) else None)
+            ap (λ (b : Bool). if b then Some (record { id = k; offset = if k == id then begins_at h (findings side h) id else offset k }) else None)
             (now k ∙ ap (λ (b : Bool). b || is_established h k) (swapped k id q))
-            ∙ ap (λ (b : Bool). if is_established h k then Some (record { id = k; offset = if b then part_start side h id else offset k }) else None) q
+            ∙ ap (λ (b : Bool). if is_established h k then Some (record { id = k; offset = if b then begins_at h (findings side h) id else offset k }) else None) q
 
-        new : session_at after (with-offset id (part_start side h id) offset) id ≡ Some y
+        new : session_at after (with-offset id (begins_at h (findings side h) id) offset) id ≡ Some y
         new =
             let e1 : is_established after id ≡ true = now id ∙ ap (λ (b : Bool). b || is_established h id) same in
-            ap (λ (b : Bool). if b then Some (record { id = id; offset = if id == id then part_start side h id else offset id }) else None) e1
-            ∙ ap (λ (b : Bool). Some (record { id = id; offset = if b then part_start side h id else offset id })) same
+            ap (λ (b : Bool). if b then Some (record { id = id; offset = if id == id then begins_at h (findings side h) id else offset id }) else None) e1
+            ∙ ap (λ (b : Bool). Some (record { id = id; offset = if b then begins_at h (findings side h) id else offset id })) same
 
     -- both say the same of each session
     pub calls-established : (s : ℕ) → was_established (call_view log2) s ≡ is_established after s
@@ -207,6 +207,6 @@ module _ (side : Side) (offset : ℕ → ℕ) (h : History) (log : Log) (x : Sta
         by : (o : Option ℕ) → session_in own.reply ≡ o → was_established (call_view log2) s ≡ is_established after s
         by None e = ap (list_any (is_session s)) (none-now e) ∙ x.calls.established s ∙ sym (same-established pair h s e)
         by (Some id) e =
-            ap (list_any (is_session s)) (one-now id (session-reply own.reply id e)) ∙ any-with s (record { id = id; offset = part_start side h id }) (call_view log).sessions
+            ap (list_any (is_session s)) (one-now id (session-reply own.reply id e)) ∙ any-with s (record { id = id; offset = begins_at h (findings side h) id }) (call_view log).sessions
             ∙ ap (λ (b : Bool). (id == s) || b) (x.calls.established s)
             ∙ sym (ap (λ (o : Option ℕ). list_any (λ (j : ℕ). j == s) (cons_option o (filter_map establishes h))) e)

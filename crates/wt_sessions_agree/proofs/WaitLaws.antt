@@ -88,11 +88,7 @@ living-is side offset h log s x =
     ap (λ (b : Bool). b && not (is_gone h (findings side h) s)) (sym (x.calls.established s)) ∙ ap (λ (b : Bool). tables.was_established (call_view log) s && not b) (gone-is side offset h log s x)
 
 pub transport-is : (side : Side) (offset : ℕ → ℕ) (h : History) (log : Log) → Stands side offset h log → transport_error h ≡ effects.transport_error log
-transport-is side offset h log x = rw x.came.events (by (loss_of (events_of log)))
-  where
-    by : (o : Option LossReason) → loss_error o ≡ effects.loss_or_local o
-    by None = refl
-    by (Some reason) = refl
+transport-is side offset h log x = rw x.came.events refl
 
 fault-is : (h : History) (log : Log) (o : Option ErrorCode) → transport_error h ≡ effects.transport_error log → fault_error h o ≡ effects.error_of_fault log o
 fault-is h log None e = e

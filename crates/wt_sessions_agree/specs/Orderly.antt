@@ -7,6 +7,7 @@ use Rattle.wt_meaning.specs.Moments.{ids_from, is_ready}
 use Rattle.wt_meaning.specs.Windows.{after_request, after_response, is_established, received_count}
 use Rattle.wt_proto.specs.ResponseWalk.{response_walk_of}
 use Rattle.wt_seam_spec.specs.Reports.{end_of}
+use Rattle.wt_sessions.specs.Moment.{is_peers}
 use Rattle.wt_sessions.specs.StreamTable.{Admitted, CallView, Session}
 use Rattle.wt_sessions_agree.specs.Agrees.{admitted_in}
 use Rattle.wt_seam_spec.specs.Streams.{peer_bi, peer_uni}
@@ -55,16 +56,12 @@ abbrev pub begins_at : History → List Finding → ℕ → ℕ
 begins_at h found s = unwrap_or (after_request (verdict_of found s)) (after_response (response_walk_of (contents h s) (end_of (events h) s)))
 
 -- each established session's part of its stream begins at this offset
-abbrev pub Begin : History → (ℕ → ℕ) → List Finding → Type 0
-Begin h offset found = (k : ℕ) → is_established h k ≡ true → begins_at h found k ≡ offset k
-
--- the stream is the peer's
-abbrev pub is_of_peer : Side → ℕ → Bool
-is_of_peer side k = (k % 4 == peer_uni side) || (k % 4 == peer_bi side)
+abbrev pub PartsBegin : History → (ℕ → ℕ) → List Finding → Type 0
+PartsBegin h offset found = (k : ℕ) → is_established h k ≡ true → begins_at h found k ≡ offset k
 
 -- an established session's stream has a verdict, where the peer opened it
 abbrev pub Known : Side → History → List Finding → Type 0
-Known side h found = (k : ℕ) → is_established h k ≡ true → (is_of_peer side k && not (is_classified found k)) ≡ false
+Known side h found = (k : ℕ) → is_established h k ≡ true → (is_peers side k && not (is_classified found k)) ≡ false
 
 -- ---- all together
 
@@ -73,5 +70,5 @@ pub record Orderly (side : Side) (h : History) (calls : CallView) (offset : ℕ 
   pub few : (kind : ℕ) → kind < 4 → Few kind found
   pub none_early : NoneEarly side h found
   pub received : Received h calls found
-  pub begin : Begin h offset found
+  pub begin : PartsBegin h offset found
   pub known : Known side h found

@@ -15,7 +15,7 @@ use Rattle.wt_seam_spec.specs.Reports.{end_of}
 use Rattle.wt_sessions.specs.Effect.{Effect, log_call, reply_with}
 use Rattle.wt_sessions.specs.StreamTable.{Admitted}
 use Rattle.wt_sessions_agree.specs.Agrees.{admitted_in}
-use Rattle.wt_sessions_agree.specs.Orderly.{is_of}
+use Rattle.wt_sessions_agree.specs.Orderly.{begins_at, is_of}
 use Rattle.wt_turn.specs.Log.{AcceptanceFailed, BytesRead, CallRecord, ConnectStarted, DatagramReceived, HandshakeOver, Log, OpeningFailed, OpeningStarted, Polled, PrioritySet, RequestDelivered, RequestRejected, ResetUnsent, ResponseStarted, SessionEstablished, StreamAccepted, StreamGivenUp}
 use Rattle.wt_turn.specs.declared.answer.Answer.{Answer}
 use Rattle.wt_turn.specs.declared.call.Call.{Call}
@@ -61,10 +61,6 @@ left_datagrams side h s = drop (received_count h s) (filter (is_of s) (filter_ma
 abbrev pub next_index : Side → History → ℕ → ℕ
 next_index side h s = unwrap_or (first_of (λ (d : Admitted). Some d.index) (left_datagrams side h s)) 0
 
--- where a session's part of its stream begins
-abbrev pub part_start : Side → History → ℕ → ℕ
-part_start side h s = unwrap_or (after_request (verdict_of (findings side h) s)) (after_response (response_walk_of (contents h s) (end_of (events h) s)))
-
 -- ---- the record
 
 -- the record of a call that answered Failed
@@ -106,7 +102,7 @@ record_of side h c (replies.Opening id) = OpeningStarted id (call_session h c)
 record_of side h c (replies.OpeningFailed e) = OpeningFailed (stream_in c)
 record_of side h c (replies.Datagram payload) = DatagramReceived (next_index side h (call_session h c))
 record_of side h c (replies.Request id headers) = RequestDelivered id
-record_of side h c (replies.Session id) = SessionEstablished id (part_start side h id)
+record_of side h c (replies.Session id) = SessionEstablished id (begins_at h (findings side h) id)
 record_of side h c replies.Rejected = RequestRejected (unwrap_or (last_request h) 0)
 record_of side h c (replies.ConnectFailed e) = HandshakeOver
 record_of side h c (replies.Failed e) = failure_record c
