@@ -40,11 +40,11 @@ in_session side log call (Some s) = call s
 abbrev pub on_session : Side → Log → Option ℕ → (ℕ → Effect) → Effect
 on_session side log name call = in_session side log call (named_session log name)
 
--- a call on the sending half of a stream
+-- a call on the sending half of a stream, where the application has it
 abbrev pub on_sending : Side → Log → ℕ → (ℕ → Effect) → Effect
 on_sending side log k call = on_half (has_sending_half side log k) side log call k
 
--- a call on the receiving half of a stream
+-- a call on the receiving half of a stream, where the application has it
 abbrev pub on_receiving : Side → Log → ℕ → (ℕ → Effect) → Effect
 on_receiving side log k call = on_half (has_receiving_half side log k) side log call k
 

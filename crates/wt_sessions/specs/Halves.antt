@@ -37,7 +37,7 @@ has_sending_half side log k = is_accepted log k && not (k % 4 == peer_uni side)
 abbrev pub has_receiving_half : Side → Log → ℕ → Bool
 has_receiving_half side log k = is_accepted log k && not (k % 4 == local_uni side) && not (list_any (gives_up k) (calls_of log))
 
--- a call on this half of the stream, where it is there
+-- a call on a half of the stream, where the application has it; else the answer is NoStream
 abbrev pub on_half : Bool → Side → Log → (ℕ → Effect) → ℕ → Effect
 on_half true side log call k = call k
 on_half false side log call k = poll_only side log replies.NoStream

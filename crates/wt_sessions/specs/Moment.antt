@@ -12,7 +12,7 @@ use Rattle.wt_wire.specs.declared.side.Side.{Side}
 
 -- ---- what may follow
 
--- the peer opens these streams
+-- the stream is one that the peer opens
 abbrev pub is_peers : Side → ℕ → Bool
 is_peers side k = k % 4 == peer_uni side || k % 4 == peer_bi side
 
@@ -50,7 +50,7 @@ state_with_actions t (a ∷ later) s = state_with_actions t later (after_entry t
 abbrev pub flush_state : TransportView → DriverState → DriverState
 flush_state t s = state_with_actions t (step_actions t s) s
 
--- an entry is a moment, as long as the connection is open
+-- the entry is a moment, and the connection is open after it
 abbrev pub scans : Entry → DriverState → Bool
 scans e s = is_moment e && s.is_open
 
