@@ -1,5 +1,5 @@
 -- The calls on a session: the rows of each lead to what its ladder of tests does.
-use Rattle.std.specs.Prelude.{[], ◌&&◌, ◌*◌, ◌++◌, ◌+◌, ◌/◌, ◌∷◌, ◌≡◌, Bool, List, None, Option, Some, drop, false, if◌then◌else◌, is_some, length, nat_lt, not, suc, take, true, zero, ℕ}
+use Rattle.std.specs.Prelude.{[], ◌&&◌, ◌*◌, ◌++◌, ◌+◌, ◌/◌, ◌∷◌, ◌≡◌, Bool, List, None, Option, Some, drop, false, if◌then◌else◌, length, nat_lt, not, suc, take, true, zero, ℕ}
 use Rattle.std.proofs.Common.{◌∙◌, ap, refl, sym}
 use Rattle.wt_meaning.specs.Calls.{accept, being_opened, ended_row, first_datagram, in_session, is_living, open_stream, opening_for, opening_rows, payload_limit, receive, send_datagram, stream_header}
 use Rattle.wt_meaning.specs.Handshakes.{head_left, is_nothing, is_refused, lacks_credit, send, transport_error}
@@ -12,7 +12,7 @@ use Rattle.wt_message.specs.Datagram.{datagram_bytes}
 use Rattle.wt_promise.proofs.Accepted.{and-left}
 use Rattle.wt_seam_spec.specs.Joined.{send_of}
 use Rattle.wt_seam_spec.specs.Outgoing as outgoing
-use Rattle.wt_seam_spec.specs.Reports.{datagram_fact, stop_of}
+use Rattle.wt_seam_spec.specs.Reports.{datagram_fact}
 use Rattle.wt_seam_spec.specs.Streams.{local_uni}
 use Rattle.wt_seam_spec.specs.Streams as streams
 use Rattle.wt_sessions.specs.Answers as answers
@@ -23,8 +23,7 @@ use Rattle.wt_sessions.specs.Driver as drivers
 use Rattle.wt_sessions.specs.Effect.{Effect, is_covered, pending_or_failed, poll_only, poll_sending}
 use Rattle.wt_sessions.specs.Effect as effects
 use Rattle.wt_sessions.specs.Handshake as handshakes
-use Rattle.wt_sessions.specs.StreamTable.{Admitted, Waiting, was_established}
-use Rattle.wt_sessions.specs.StreamTable as tables
+use Rattle.wt_sessions.specs.StreamTable.{Admitted, Waiting}
 use Rattle.wt_sessions_agree.proofs.Basics.{eqb-sym}
 use Rattle.wt_sessions_agree.proofs.HalfRows.{open-events}
 use Rattle.wt_sessions_agree.proofs.WaitLaws.{error-is, gone-is, living-is, next-datagram, next-index, next-stream, payload-of, transport-is}

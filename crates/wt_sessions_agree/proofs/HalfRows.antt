@@ -3,14 +3,12 @@ use Rattle.std.specs.Prelude.{[], ◌+◌, ◌-◌, ◌==◌, ◌∷◌, ◌||�
 use Rattle.std.specs.List.{cons_option}
 use Rattle.std.proofs.Common.{◌∙◌, ap, arith, refl, sym}
 use Rattle.std.proofs.lemmas.Bool.{eqb-true}
-use Rattle.wt_meaning.specs.Findings.{verdict_of}
 use Rattle.wt_meaning.specs.Halves.{body_start, finish, is_done, priority, priority_of, read, read_exact, reset, stopped, unread, was_read, where_has, write, write_all}
 use Rattle.wt_meaning.specs.History.{History, all_events, contents, credit_left, events, is_open, is_reset, out, was_finished, with_event}
 use Rattle.wt_meaning.specs.Moments.{findings}
 use Rattle.wt_meaning.specs.Rows.{Row, first_row, row}
 use Rattle.wt_meaning.specs.Sends.{action_if}
 use Rattle.wt_promise.proofs.Opened.{open-before}
-use Rattle.wt_proto.specs.declared.verdict.Verdict.{Verdict}
 use Rattle.wt_seam_spec.specs.Outgoing.{bytes_within_credit}
 use Rattle.wt_seam_spec.specs.Outgoing as outgoing
 use Rattle.wt_seam_spec.specs.Reports.{credit, end_of, is_acknowledged, stop_of}
@@ -30,7 +28,6 @@ use Rattle.wt_turn.specs.Turns.{event_of}
 use Rattle.wt_turn.specs.declared.call.Call.{Call}
 use Rattle.wt_wire.specs.declared.side.Side.{Side}
 use Rattle.wt_wire.specs.declared.side.StreamEnd.{StreamEnd}
-use Rattle.wt_proto.specs.declared.verdict.Verdict.TheVariants as verdicts
 use Rattle.wt_turn.specs.declared.action.Action.TheVariants as actions
 use Rattle.wt_turn.specs.declared.call.Call.TheVariants as calls
 use Rattle.wt_turn.specs.declared.reply.Reply.TheVariants as replies

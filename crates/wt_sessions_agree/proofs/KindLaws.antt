@@ -1,5 +1,5 @@
 -- A kind's streams at a moment, ready or not.
-use Rattle.std.specs.Prelude.{[], ◌*◌, ◌+◌, ◌<◌, ◌∷◌, ◌≡◌, Bool, List, None, Option, Some, false, filter, length, nat_lt, not, suc, true, zero, ℕ}
+use Rattle.std.specs.Prelude.{[], ◌*◌, ◌+◌, ◌<◌, ◌∷◌, ◌≡◌, Bool, List, None, Option, Some, false, filter, length, nat_lt, not, true, ℕ}
 use Rattle.std.proofs.Common.{◌∙◌, ap, refl, sym}
 use Rattle.std.proofs.lemmas.List.{append-nil}
 use Rattle.wt_meaning.specs.Findings.{Finding, fault_of, is_classified, is_dequeued}

@@ -1,5 +1,5 @@
 -- The streams of a session that becomes gone are ended alike, in the order of their ids.
-use Rattle.std.specs.Prelude.{[], ◌%◌, ◌&&◌, ◌*◌, ◌++◌, ◌+◌, ◌/◌, ◌<◌, ◌==◌, ◌∷◌, ◌||◌, ◌≡◌, ◌≤◌, Bool, List, false, filter, filter_map, flat_map, if◌then◌else◌, map, nat_lt, not, suc, true, zero, ℕ}
+use Rattle.std.specs.Prelude.{[], ◌%◌, ◌&&◌, ◌*◌, ◌+◌, ◌/◌, ◌<◌, ◌==◌, ◌∷◌, ◌||◌, ◌≡◌, ◌≤◌, Bool, List, false, filter, filter_map, flat_map, if◌then◌else◌, map, nat_lt, not, suc, true, zero, ℕ}
 use Rattle.std.specs.List.{list_any}
 use Rattle.std.proofs.Common.{◌∙◌, ap, arith, refl, sym}
 use Rattle.std.proofs.lemmas.Bool.{eq-eqb, eqb-true, ltb-false, ltb-true}
@@ -7,7 +7,6 @@ use Rattle.wt_meaning.specs.Findings.{DatagramRead, Dequeued, Faulted, Finding, 
 use Rattle.wt_meaning.specs.Findings as finds
 use Rattle.wt_meaning.specs.History.{History, exists, is_handed_out, stream_count}
 use Rattle.wt_meaning.specs.Sends.{admits, is_of_session, numbers_from, session_gone_actions, stream_gone_actions, stream_ids}
-use Rattle.wt_meaning.specs.Sends as sends
 use Rattle.wt_meaning.specs.Windows.{is_gone}
 use Rattle.wt_promise.proofs.Actions.{or-assoc}
 use Rattle.wt_sessions.specs.StreamTable.{CallView, Classified, StreamTable, TransportView, Waiting, dispatched_streams, gone_actions, stream_ends, streams_of, waits_in, with_id, with_ids}

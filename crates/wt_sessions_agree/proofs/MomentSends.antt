@@ -8,8 +8,7 @@ use Rattle.std.proofs.lemmas.List.{append-nil}
 use Rattle.wt_meaning.specs.Findings.{Classified, Dequeued, Faulted, Finding, SessionClosed, SettingsRead, control_in, decoder_in, encoder_in, fault_in, fault_of, first_of, is_classified, is_datagram, is_dequeued, settings_came}
 use Rattle.wt_meaning.specs.History.{History, events}
 use Rattle.wt_meaning.specs.Moments.{Check, ControlFault, DecoderEnd, EncoderEnd, LocalStop, ReadDatagram, ReadSettings, after_checks, checks, control_walk, datagram_checks, datagram_found, end_fault, fault_if, found_by, is_ready, keeps, session_found, stream_fault, verdict}
-use Rattle.wt_meaning.specs.Sends.{actions_for, actions_for_all, session_finish, session_gone_actions}
-use Rattle.wt_meaning.specs.Sends as sends
+use Rattle.wt_meaning.specs.Sends.{actions_for, actions_for_all, session_gone_actions}
 use Rattle.wt_meaning.specs.Windows.{is_gone, lives}
 use Rattle.wt_message.specs.Datagram.{datagram_of}
 use Rattle.wt_promise.proofs.Accepted.{and-left, and-right}

@@ -6,11 +6,10 @@ use Rattle.std.proofs.lemmas.Bool.{eqb-true}
 use Rattle.wt_meaning.specs.Calls.{closed_by, first_datagram, first_waiting, is_living, session_error, session_error_with}
 use Rattle.wt_meaning.specs.Findings.{DatagramRead, Dequeued, Faulted, Finding, SessionClosed, SettingsRead, fault_of, first_of}
 use Rattle.wt_meaning.specs.Findings as finds
-use Rattle.wt_meaning.specs.Handshakes.{driver_error, fault_error, loss_error, transport_error}
+use Rattle.wt_meaning.specs.Handshakes.{driver_error, fault_error, transport_error}
 use Rattle.wt_meaning.specs.History.{History, is_handed_out}
 use Rattle.wt_meaning.specs.Moments.{findings}
 use Rattle.wt_meaning.specs.Windows.{admitted_stream, is_gone, received_count, waiting_datagrams, waiting_streams}
-use Rattle.wt_seam_spec.specs.Reports.{loss_of}
 use Rattle.wt_sessions.specs.Connection.{next_datagram, next_stream, waits_for}
 use Rattle.wt_sessions.specs.Driver.{call_view, dispatched, is_session_gone, stream_table}
 use Rattle.wt_sessions.specs.Driver as drivers
@@ -23,9 +22,8 @@ use Rattle.wt_sessions_agree.specs.Agrees.{IsTable, admitted_in, classified_in, 
 use Rattle.wt_sessions_agree.specs.Orderly.{is_left, is_of}
 use Rattle.wt_sessions_agree.specs.Records.{left_datagrams, next_index}
 use Rattle.wt_sessions_agree.specs.Stands.{CallsAgree, Stands}
-use Rattle.wt_turn.specs.Log.{Log, events_of}
+use Rattle.wt_turn.specs.Log.{Log}
 use Rattle.wt_turn.specs.declared.connection_error.ConnectionError.{ConnectionError}
-use Rattle.wt_turn.specs.declared.loss.LossReason.{LossReason}
 use Rattle.wt_wire.specs.declared.error.ErrorCode.{ErrorCode}
 use Rattle.wt_wire.specs.declared.side.Side.{Side}
 use Rattle.wt_proto.specs.declared.verdict.Verdict.TheVariants as verdicts

@@ -1,5 +1,5 @@
 -- What holds of all that the moments of a history found, and is kept by every check.
-use Rattle.std.specs.Prelude.{◌%◌, ◌&&◌, ◌*◌, ◌+◌, ◌==◌, ◌||◌, ◌≡◌, ◌≤◌, ◌<◌, Bool, List, None, Option, Some, drop, false, filter, filter_map, if◌then◌else◌, length, nat_lt, not, true, unwrap_or, ℕ}
+use Rattle.std.specs.Prelude.{◌&&◌, ◌*◌, ◌+◌, ◌==◌, ◌||◌, ◌≡◌, ◌≤◌, ◌<◌, Bool, List, None, Option, Some, drop, false, filter, filter_map, if◌then◌else◌, length, nat_lt, not, true, unwrap_or, ℕ}
 use Rattle.std.specs.List.{list_all}
 use Rattle.wt_meaning.specs.Findings.{Finding, is_classified, is_datagram, is_dequeued, verdict_of}
 use Rattle.wt_meaning.specs.History.{History, contents, events}
@@ -10,7 +10,6 @@ use Rattle.wt_seam_spec.specs.Reports.{end_of}
 use Rattle.wt_sessions.specs.Moment.{is_peers}
 use Rattle.wt_sessions.specs.StreamTable.{Admitted, CallView, Session}
 use Rattle.wt_sessions_agree.specs.Agrees.{admitted_in}
-use Rattle.wt_seam_spec.specs.Streams.{peer_bi, peer_uni}
 use Rattle.wt_wire.specs.declared.side.Side.{Side}
 
 -- ---- streams

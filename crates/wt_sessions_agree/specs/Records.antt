@@ -2,16 +2,14 @@
 use Rattle.std.specs.Prelude.{◌∷◌, Err, List, None, Ok, Option, Result, Some, codes, drop, false, filter, filter_map, if◌then◌else◌, length, true, unwrap_or, ℕ}
 use Rattle.url.specs.Parser.{parse_url}
 use Rattle.wt_meaning.specs.Calls.{being_opened}
-use Rattle.wt_meaning.specs.Findings.{first_of, verdict_of}
+use Rattle.wt_meaning.specs.Findings.{first_of}
 use Rattle.wt_meaning.specs.Halves.{is_done}
 use Rattle.wt_meaning.specs.Handshakes.{acceptance_frame}
-use Rattle.wt_meaning.specs.History.{History, contents, events, is_open}
+use Rattle.wt_meaning.specs.History.{History, is_open}
 use Rattle.wt_meaning.specs.Moments.{findings}
 use Rattle.wt_meaning.specs.Targets.{Target, target_of}
-use Rattle.wt_meaning.specs.Windows.{after_request, after_response, last_request, named, received_count}
+use Rattle.wt_meaning.specs.Windows.{last_request, named, received_count}
 use Rattle.wt_message.specs.FixedBytes.{response_bytes}
-use Rattle.wt_proto.specs.ResponseWalk.{response_walk_of}
-use Rattle.wt_seam_spec.specs.Reports.{end_of}
 use Rattle.wt_sessions.specs.Effect.{Effect, log_call, reply_with}
 use Rattle.wt_sessions.specs.StreamTable.{Admitted}
 use Rattle.wt_sessions_agree.specs.Agrees.{admitted_in}

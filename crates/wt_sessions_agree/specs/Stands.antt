@@ -1,5 +1,5 @@
 -- When a history of turns and answers stands for a log of entries: what calls and moments ask has the same answer in both.
-use Rattle.std.specs.Prelude.{[], ◌&&◌, ◌==◌, ◌∷◌, ◌≡◌, Bool, Err, List, None, Ok, Option, Result, Some, codes, filter_map, is_some, length, not, true, false, unwrap_or, ℕ}
+use Rattle.std.specs.Prelude.{◌&&◌, ◌==◌, ◌≡◌, Bool, List, None, Ok, Option, Some, codes, filter_map, is_some, length, not, true, false, unwrap_or, ℕ}
 use Rattle.std.specs.List.{list_any}
 use Rattle.url.specs.Parser.{parse_url}
 use Rattle.wt_meaning.specs.Calls.{being_opened}
