@@ -171,7 +171,7 @@ fail_connect side log own e = fail_handshake side log own (replies.ConnectFailed
 abbrev pub abandon : Side → Log → List Action → ConnectingError → Effect
 abandon side log own e = fail_connect side log (own ++ close_when_open log 0) e
 
--- how a connect fails where the connection ended
+-- how a connect fails where the connection ended; while it is open, as if it was closed here
 abbrev pub loss_to_connect : Log → ConnectingError
 loss_to_connect log = connects.ConnectionError (transport_error log)
 

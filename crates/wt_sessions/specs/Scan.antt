@@ -138,7 +138,7 @@ abbrev pub session_end : TransportView → ℕ → Bool → List Action
 session_end t s true = actions.ResetOut s (code_of h3.NoError) ∷ []
 session_end t s false = action_if (not (t.is_stopped s)) (actions.Finish s)
 
--- the peer closed the session
+-- the table after the peer closed the session; its own stream and its streams end
 abbrev pub close_session : TransportView → CallView → ℕ → Bool → ℕ → List ℕ → StreamTable → StreamTable
 close_session t calls s by_capsule code reason table = record table {
   closed = table.closed ++ record { id = s; code = code; reason = reason } ∷ [];
@@ -179,7 +179,7 @@ critical_if true p = with_fault (Some h3.ClosedCriticalStream) p
 abbrev pub control_read : ControlWalk → DriverProgress → DriverProgress
 control_read walk p = with_fault walk.fault (record p { settings = p.settings || is_some walk.settings })
 
--- the peer's control stream after its type
+-- what is kept after a look at the peer's control stream, where there is one, from behind its type
 abbrev pub check_control : TransportView → Option (ℕ × ℕ) → DriverProgress → DriverProgress
 check_control t None p = p
 check_control t (Some c) p = control_read (control_walk_of (drop c.1 (t.contents c.0)) (t.end c.0)) p
