@@ -60,3 +60,4 @@ pub mod OneCall
 pub mod StartLaws
 pub mod ListLaws
 pub mod EachTurn
+pub mod Theorems
