@@ -1,6 +1,7 @@
 -- A scan on what is kept is that of the definitions, any number of streams.
 use Rattle.std.proofs.Common.{◌≡◌, ℕ, zero, suc, Bool, true, false, cond, List, [], ◌∷◌, ◌++◌, filter, filter_map, find, is_none, refl, sym, ap, ◌∙◌}
 use Rattle.std.specs.Prelude.{not, Option, Some, None, ◌==◌, ◌||◌, ◌&&◌}
+use Rattle.std.specs.Option.{option_or}
 use Rattle.std.specs.List.{cons_option, list_any}
 use Rattle.std.proofs.lemmas.Bool.{eq-eqb, eqb-true, or_parts, true≢false}
 use Rattle.std.proofs.lemmas.List.{append-nil}
@@ -9,7 +10,7 @@ use Rattle.wt_sessions.specs.Step.{Scanned, classified_now, dispatch, forget, cl
 use Rattle.wt_proto.specs.declared.verdict.Verdict.{Verdict}
 use Rattle.wt_sessions.specs.Driver.{ControlSent}
 use Rattle.wt_sessions.specs.Scan.{classify, is_unclassified, places_after, scan, unless_ended, with_classified, with_consequence}
-use Rattle.wt_sessions.specs.StreamTable.{Admitted, CallView, Classified, Consequence, Dispatched, DriverProgress, Session, StreamTable, TransportView, Waiting, admit_or_stop, consequence, control_start, decoder_start, dispatched_streams, encoder_start, first_at, is_closed, is_gone, is_queued, is_refused_request, is_request, is_session, is_turned_away, offset_with_id, or_later, queued_id, verdict_of, waits_in, was_established}
+use Rattle.wt_sessions.specs.StreamTable.{Admitted, CallView, Classified, Consequence, Dispatched, DriverProgress, Session, StreamTable, TransportView, Waiting, admit_or_stop, consequence, control_start, decoder_start, dispatched_streams, encoder_start, first_at, is_closed, is_gone, is_queued, is_refused_request, is_request, is_session, is_turned_away, offset_with_id, queued_id, verdict_of, waits_in, was_established}
 use Rattle.wt_wire.specs.declared.error.ErrorCode.{ErrorCode}
 use Rattle.wt_proto.specs.declared.verdict.Verdict.TheVariants as verdicts
 
@@ -68,18 +69,18 @@ any-append p (y ∷ xs) x = by (p y) (any-append p xs x)
     by true e = refl
     by false e = e
 
-or-none : (x : Option (ℕ × ℕ)) → or_later x None ≡ x
+or-none : (x : Option (ℕ × ℕ)) → option_or x None ≡ x
 or-none None = refl
 or-none (Some x) = refl
 
-or-again : (x y z : Option (ℕ × ℕ)) → or_later x (or_later y z) ≡ or_later (or_later x y) z
+or-again : (x y z : Option (ℕ × ℕ)) → option_or x (option_or y z) ≡ option_or (option_or x y) z
 or-again None y z = refl
 or-again (Some x) y z = refl
 
-first-append : (start : Verdict → Option ℕ) (cs : List Classified) (c : Classified) → first_at start (cs ++ c ∷ []) ≡ or_later (first_at start cs) (offset_with_id c.id (start c.verdict))
+first-append : (start : Verdict → Option ℕ) (cs : List Classified) (c : Classified) → first_at start (cs ++ c ∷ []) ≡ option_or (first_at start cs) (offset_with_id c.id (start c.verdict))
 first-append start [] c = or-none (offset_with_id c.id (start c.verdict))
 first-append start (x ∷ cs) c =
-    ap (or_later (offset_with_id x.id (start x.verdict))) (first-append start cs c)
+    ap (option_or (offset_with_id x.id (start x.verdict))) (first-append start cs c)
     ∙ or-again (offset_with_id x.id (start x.verdict)) (first_at start cs) (offset_with_id c.id (start c.verdict))
 
 -- ---- one more classified stream
@@ -119,9 +120,9 @@ module _ (calls : CallView) (table : StreamTable) (c : Classified) (p : DriverPr
     -- the dispatched streams with what this one adds to each
     abbrev added : List Classified → List ℕ → List Waiting → Dispatched
     added requests held streams = let d = dispatched_streams calls table in record d {
-      control = or_later d.control (offset_with_id c.id (control_start c.verdict));
-      encoder = or_later d.encoder (offset_with_id c.id (encoder_start c.verdict));
-      decoder = or_later d.decoder (offset_with_id c.id (decoder_start c.verdict));
+      control = option_or d.control (offset_with_id c.id (control_start c.verdict));
+      encoder = option_or d.encoder (offset_with_id c.id (encoder_start c.verdict));
+      decoder = option_or d.decoder (offset_with_id c.id (decoder_start c.verdict));
       requests = d.requests ++ requests;
       held = d.held ++ held;
       streams = d.streams ++ streams;
@@ -153,7 +154,7 @@ module _ (calls : CallView) (table : StreamTable) (c : Classified) (p : DriverPr
     gone-more s = gone-append s ∙ ap (λ b. is_gone calls table s || b) (away s)
 
     no-first : (start : Verdict → Option ℕ) → start c.verdict ≡ None → first_at start (table.classified ++ c ∷ []) ≡ first_at start table.classified
-    no-first start e = first-append start table.classified c ∙ ap (λ o. or_later (first_at start table.classified) (offset_with_id c.id o)) e ∙ or-none (first_at start table.classified)
+    no-first start e = first-append start table.classified c ∙ ap (λ o. option_or (first_at start table.classified) (offset_with_id c.id o)) e ∙ or-none (first_at start table.classified)
 
     no-more : (q : Classified → Bool) → q c ≡ false → filter q (table.classified ++ c ∷ []) ≡ filter q table.classified
     no-more q e = filter-both q table.classified (c ∷ []) ∙ ap (λ b. filter q table.classified ++ cond b (c ∷ []) []) e ∙ append-nil (filter q table.classified)
@@ -195,9 +196,9 @@ module _ (calls : CallView) (table : StreamTable) (k : ℕ) (p : DriverProgress)
 
   -- nothing is added
   none-added : record d {
-    control = or_later d.control None;
-    encoder = or_later d.encoder None;
-    decoder = or_later d.decoder None;
+    control = option_or d.control None;
+    encoder = option_or d.encoder None;
+    decoder = option_or d.decoder None;
     requests = d.requests ++ [];
     held = d.held ++ [];
     streams = d.streams ++ [];
@@ -221,11 +222,11 @@ module _ (calls : CallView) (table : StreamTable) (k : ℕ) (p : DriverProgress)
   dispatched-one : (v : Verdict) (b : Bool) → ((session offset : ℕ) → v ≡ verdicts.WebTransport session offset → b ≡ true → is_gone calls table session ≡ false)
       → dispatched_streams calls (with_one table (one v b) p) ≡ dispatch d (one v b)
   dispatched-one (verdicts.Control offset) b lives = dispatched-added calls table (one (verdicts.Control offset) b) p (on (verdicts.Control offset) b refl)
-      ∙ ap (λ (x : Dispatched). record x { control = or_later d.control (Some (k, offset)) }) none-added
+      ∙ ap (λ (x : Dispatched). record x { control = option_or d.control (Some (k, offset)) }) none-added
   dispatched-one (verdicts.Encoder offset) b lives = dispatched-added calls table (one (verdicts.Encoder offset) b) p (on (verdicts.Encoder offset) b refl)
-      ∙ ap (λ (x : Dispatched). record x { encoder = or_later d.encoder (Some (k, offset)) }) none-added
+      ∙ ap (λ (x : Dispatched). record x { encoder = option_or d.encoder (Some (k, offset)) }) none-added
   dispatched-one (verdicts.Decoder offset) b lives = dispatched-added calls table (one (verdicts.Decoder offset) b) p (on (verdicts.Decoder offset) b refl)
-      ∙ ap (λ (x : Dispatched). record x { decoder = or_later d.decoder (Some (k, offset)) }) none-added
+      ∙ ap (λ (x : Dispatched). record x { decoder = option_or d.decoder (Some (k, offset)) }) none-added
   dispatched-one (verdicts.Request headers offset) true lives =
       let c : Classified = one (verdicts.Request headers offset) true in
       dispatched-added calls table c p (on (verdicts.Request headers offset) true refl)

@@ -1,5 +1,6 @@
 -- One moment on what a driver keeps: the steps in their order, what goes out, and what an entry of the log changes.
 use Rattle.std.specs.Prelude.{[], ◌&&◌, ◌*◌, ◌++◌, ◌+◌, ◌==◌, ◌||◌, ◌∷◌, Bool, Err, List, None, Ok, Option, Result, Some, drop, false, filter, if◌then◌else◌, length, not, suc, true, zero, ℕ}
+use Rattle.std.specs.Option.{option_or}
 use Rattle.wt_proto.specs.Bi.{bi_verdict_of}
 use Rattle.wt_message.specs.Datagram.{datagram_of}
 use Rattle.wt_meaning.specs.SessionWalk.{is_over, session_walk_of}
@@ -9,7 +10,7 @@ use Rattle.wt_proto.specs.declared.verdict.Verdict.{Verdict}
 use Rattle.wt_seam_spec.specs.Streams.{local_uni, opens, peer_bi, peer_uni}
 use Rattle.wt_sessions.specs.Driver.{ControlSent, actions_after, with_session}
 use Rattle.wt_sessions.specs.Scan.{check_control, check_qpack, critical_if, is_admitted, places_after, session_end, unless_ended, with_consequence, with_fault, with_looked_at, with_more, with_no_actions}
-use Rattle.wt_sessions.specs.StreamTable.{Admitted, Classified, Closed, Consequence, Dispatched, DriverProgress, Session, TransportView, Waiting, consequence, gone_actions, or_later, with_id}
+use Rattle.wt_sessions.specs.StreamTable.{Admitted, Classified, Closed, Consequence, Dispatched, DriverProgress, Session, TransportView, Waiting, consequence, gone_actions, with_id}
 use Rattle.wt_turn.specs.Log.{CallRecord, Called, DatagramReceived, Entry, Event, OpeningStarted, PeerBi, PeerUni, Reported, RequestDelivered, RequestRejected, Sent, SessionEstablished, StreamAccepted, ends_by}
 use Rattle.wt_turn.specs.declared.action.Action.{Action}
 use Rattle.wt_wire.specs.declared.error.ErrorCode.{ErrorCode}
@@ -43,9 +44,9 @@ wait_or_drop false w d = d
 
 -- the dispatched streams with one more, whose verdict is this
 abbrev pub dispatch_by : Verdict → Classified → Dispatched → Dispatched
-dispatch_by (verdicts.Control offset) c d = record d { control = or_later d.control (Some (c.id, offset)) }
-dispatch_by (verdicts.Encoder offset) c d = record d { encoder = or_later d.encoder (Some (c.id, offset)) }
-dispatch_by (verdicts.Decoder offset) c d = record d { decoder = or_later d.decoder (Some (c.id, offset)) }
+dispatch_by (verdicts.Control offset) c d = record d { control = option_or d.control (Some (c.id, offset)) }
+dispatch_by (verdicts.Encoder offset) c d = record d { encoder = option_or d.encoder (Some (c.id, offset)) }
+dispatch_by (verdicts.Decoder offset) c d = record d { decoder = option_or d.decoder (Some (c.id, offset)) }
 dispatch_by (verdicts.Request headers offset) c d = queue_or_forget c.admitted c d
 dispatch_by (verdicts.Refused code) c d = forget c.id d
 dispatch_by (verdicts.WebTransport session offset) c d = wait_or_drop c.admitted (record { id = c.id; session = session }) d
