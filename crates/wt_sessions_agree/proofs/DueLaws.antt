@@ -12,7 +12,6 @@ use Rattle.wt_meaning.specs.Meaning.{next}
 use Rattle.wt_meaning.specs.Moments.{findings, keeps, stream_fault}
 use Rattle.wt_meaning.specs.Windows.{gone_in, is_established, is_gone, is_gone_by_call, is_number, last_request, makes_gone, named, request_in}
 use Rattle.wt_promise.proofs.Accepted.{and-left, and-right, or-true}
-use Rattle.wt_promise.proofs.Datagrams.{numbered}
 use Rattle.wt_promise.proofs.Few.{given-by-incoming, given-queued}
 use Rattle.wt_promise.proofs.Flow.{clash}
 use Rattle.wt_promise.proofs.Grows.{AClassified, AClosed, ADatagram, ADequeued, AFault, ASettings, Adds, Nothing, findings-keep, first_of-append, first_of-stays, of-stream-fault}
@@ -23,6 +22,7 @@ use Rattle.wt_promise.proofs.Tables.{fits, fits-own}
 use Rattle.wt_promise.proofs.Waiting.{named-established}
 use Rattle.wt_promise.specs.Promise.{IsHistory}
 use Rattle.wt_proto.specs.declared.verdict.Verdict.{Verdict}
+use Rattle.wt_sessions_agree.proofs.GoneWhy.{ByEnd, ByRejection, GoneBy, gone-by}
 use Rattle.wt_sessions_agree.proofs.PartLaws.{none-queued, queues, queues-has}
 use Rattle.wt_turn.specs.declared.answer.Answer.{Answer}
 use Rattle.wt_turn.specs.declared.call.Call.{Call}
@@ -209,23 +209,21 @@ rejected-idle p h c i t e (APolled q) =
     unasked true q w = absurd (clash (is_waiting h) w ((phase h i.2).apart q))
 
 gone-now : (p : Pair) (h : History) → IsHistory Server (p ∷ h) → (r : ℕ) → is_established h r ≡ false → is_number r (gone_in h p.turn p.answer.reply) ≡ true → Answered (p ∷ h) r
-gone-now p h i r u g = by p.turn refl g
+gone-now p h i r u g = by p.turn refl (gone-by h p.turn p.answer.reply r g)
   where
     reply-of : (turn : Turn) → p.turn ≡ turn → p.answer.reply ≡ (next Server h turn).reply
     reply-of turn e = ap (λ (x : Answer). x.reply) (i.1 ∙ ap (next Server h) e)
 
-    if-open : (b : Bool) (x : Option ℕ) → is_number r (if b then x else None) ≡ true → x ≡ Some r
-    if-open true x q = numbered r x q
-    if-open false x q = absurd (cc q)
+    rejected : (turn : Turn) → p.turn ≡ turn → p.answer.reply ≡ replies.Rejected → last_request h ≡ Some r → Answered (p ∷ h) r
+    rejected (turns.Call c) t e q = record {
+      given = given-monotone p h r (last-given h r q);
+      idle = λ l. rejected-idle p h c i t e (rejecting c (ap (fits c) (sym e ∙ reply-of (turns.Call c) t) ∙ fits-own Server h c));
+    }
+    rejected turn t e q = absurd (let m = sym e ∙ reply-of turn t in cc m)
 
-    of : (c : Call) (x : Reply) → p.turn ≡ turns.Call c → p.answer.reply ≡ x → fits c x ≡ true → is_number r (gone_in h (turns.Call c) x) ≡ true → Answered (p ∷ h) r
-    of c replies.Rejected t e f q = record { given = given-monotone p h r (last-given h r (numbered r (last_request h) q)); idle = λ l. rejected-idle p h c i t e (rejecting c f) }
-    of (calls.EndSession name) x t e f q = absurd (clash (is_established h r) (named-established h name r (if-open (is_open h) (named h name) q)) u)
-    of c x t e f q = absurd (cc q)
-
-    by : (turn : Turn) → p.turn ≡ turn → is_number r (gone_in h turn p.answer.reply) ≡ true → Answered (p ∷ h) r
-    by (turns.Call c) t q = of c p.answer.reply t refl (ap (fits c) (reply-of (turns.Call c) t) ∙ fits-own Server h c) q
-    by turn t q = absurd (let m = ap (λ (x : Reply). is_number r (gone_in h turn x)) (reply-of turn t) in cc (sym m ∙ q))
+    by : (turn : Turn) → p.turn ≡ turn → GoneBy h p.turn p.answer.reply r → Answered (p ∷ h) r
+    by turn t (ByRejection e q) = rejected turn t e q
+    by turn t (ByEnd name e q) = absurd (clash (is_established h r) (named-established h name r q) u)
 
 gone-answered : (h : History) → IsHistory Server h → (r : ℕ) → is_established h r ≡ false → is_gone_by_call h r ≡ true → Answered h r
 gone-answered [] i r u g = absurd (cc g)

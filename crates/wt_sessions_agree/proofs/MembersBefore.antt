@@ -11,7 +11,6 @@ use Rattle.wt_meaning.specs.Moments.{findings}
 use Rattle.wt_meaning.specs.Rows.{answer}
 use Rattle.wt_meaning.specs.Windows.{gone_in, is_established, is_gone_by_call, is_number, last_request, named}
 use Rattle.wt_promise.proofs.Accepted.{or-true}
-use Rattle.wt_promise.proofs.Datagrams.{numbered}
 use Rattle.wt_promise.proofs.Grows.{findings-keep, is_peers}
 use Rattle.wt_promise.proofs.HandedOut.{admitted-classified, opened-local}
 use Rattle.wt_promise.proofs.MomentActs.{closes_session}
@@ -23,6 +22,7 @@ use Rattle.wt_promise.proofs.Verdicts.{ByAccept, ByOpening, HandedBy, given-clas
 use Rattle.wt_promise.proofs.Waiting.{named-established}
 use Rattle.wt_promise.specs.Promise.{IsHistory}
 use Rattle.wt_sessions.specs.StreamTable.{CallView}
+use Rattle.wt_sessions_agree.proofs.GoneWhy.{ByEnd, ByRejection, GoneBy, gone-by}
 use Rattle.wt_sessions_agree.proofs.CameLaws.{came, came-more}
 use Rattle.wt_sessions_agree.proofs.MembersKept.{Good, closed-more, good-kept}
 use Rattle.wt_sessions_agree.specs.Members.{MembersIn}
@@ -47,18 +47,13 @@ ended-why (p ∷ h) k e = by (is_number k (gone_in h p.turn p.answer.reply)) ref
     stays false true i j q = ap (λ (x : Bool). was_given (p ∷ h) k || x) (established-stays p h k j) ∙ or-true (was_given (p ∷ h) k)
     stays false false i j q = absurd (cc q)
 
-    by-name : (o : Bool) (name : Option ℕ) → is_number k (if o then named h name else None) ≡ true → (was_given h k || is_established h k) ≡ true
-    by-name true name q = ap (λ (x : Bool). was_given h k || x) (named-established h name k (numbered k (named h name) q)) ∙ or-true (was_given h k)
-    by-name false name q = absurd (cc q)
-
-    here : (turn : Turn) (r : Reply) → is_number k (gone_in h turn r) ≡ true → (was_given h k || is_established h k) ≡ true
-    here turn replies.Rejected q = ap (λ (x : Bool). x || is_established h k) (last-given h k (numbered k (last_request h) q))
-    here (turns.Call (calls.EndSession name)) r q = by-name (is_open h) name q
-    here turn r q = absurd (cc q)
+    here : GoneBy h p.turn p.answer.reply k → (was_given h k || is_established h k) ≡ true
+    here (ByRejection e q) = ap (λ (x : Bool). x || is_established h k) (last-given h k q)
+    here (ByEnd name e q) = ap (λ (x : Bool). was_given h k || x) (named-established h name k q) ∙ or-true (was_given h k)
 
     by : (b : Bool) → is_number k (gone_in h p.turn p.answer.reply) ≡ b → (b || is_gone_by_call h k) ≡ true → (is_gone_by_call h k ≡ true → (was_given h k || is_established h k) ≡ true)
         → (was_given (p ∷ h) k || is_established (p ∷ h) k) ≡ true
-    by true q r again = stays (was_given h k) (is_established h k) refl refl (here p.turn p.answer.reply q)
+    by true q r again = stays (was_given h k) (is_established h k) refl refl (here (gone-by h p.turn p.answer.reply k q))
     by false q r again = stays (was_given h k) (is_established h k) refl refl (again r)
 
 -- the stream of an established session, where it is the peer's
