@@ -17,6 +17,7 @@ use Rattle.wt_meaning.specs.Sends.{admits, session_finish, session_gone_actions}
 use Rattle.wt_meaning.specs.Windows.{gone_in, is_gone, is_gone_by_call, is_number, last_request, makes_gone, named, streams_in_window}
 use Rattle.wt_promise.proofs.Accepted.{and-left, not-true}
 use Rattle.wt_promise.proofs.Datagrams.{numbered}
+use Rattle.wt_promise.proofs.GoneWhy.{ByEnd, ByRejection, GoneBy, gone-by}
 use Rattle.wt_promise.proofs.Grows.{AClassified, AClosed, ADatagram, ADequeued, AFault, ASettings, Adds, Nothing, findings-keep, of-stream-fault}
 use Rattle.wt_promise.proofs.Owed.{has-left, has-right}
 use Rattle.wt_promise.proofs.ResultKept.{APolled, AResponse, Rejecting, is-rejection, rejecting}
@@ -84,16 +85,11 @@ end-tells test side h name s o n g t = rw (n, o, named-established h name s n, g
 -- whatever a call makes gone, it tells
 pub call-tells : (test : Action → Bool) (side : Side) (h : History) (turn : Turn) (s : ℕ) → is_open h ≡ true → is_gone h (findings side h) s ≡ false → is_number s (gone_in h turn (own_answer side h turn).reply) ≡ true
     → list_any test (session_gone_actions side h (findings side h) s) ≡ true → list_any test (own_answer side h turn).actions ≡ true
-call-tells test side h (turns.Call call) s o g n t = by call (first_row (rows_of side h call)).reply refl refl n
+call-tells test side h (turns.Call call) s o g n t = by (gone-by h (turns.Call call) (first_row (rows_of side h call)).reply s n)
   where
-    if-open : (b : Bool) (x : Option ℕ) → is_number s (if b then x else None) ≡ true → x ≡ Some s
-    if-open true x q = numbered s x q
-    if-open false x q = absurd (cc q)
-
-    by : (c : Call) (r : Reply) → call ≡ c → (first_row (rows_of side h call)).reply ≡ r → is_number s (gone_in h (turns.Call c) r) ≡ true → list_any test (first_row (rows_of side h call)).actions ≡ true
-    by c replies.Rejected e f q = rejected-by test side h s call o (ap is_rejected f) (numbered s (last_request h) q) t
-    by (calls.EndSession name) r e f q = rw e (end-tells test side h name s o (if-open (is_open h) (named h name) q) g t)
-    by c r e f q = absurd (cc q)
+    by : GoneBy h (turns.Call call) (first_row (rows_of side h call)).reply s → list_any test (first_row (rows_of side h call)).actions ≡ true
+    by (ByRejection r q) = rejected-by test side h s call o (ap is_rejected r) q t
+    by (ByEnd name e q) = subst (λ (x : Turn). list_any test (own_answer side h x).actions ≡ true) (sym e) (end-tells test side h name s o q g t)
 call-tells test side h turn s o g n t = absurd (cc n)
 
 -- ---- what a call made gone admits no stream

@@ -14,6 +14,7 @@ use Rattle.wt_meaning.specs.Sends.{action_if, admits, is_of_session, moment_acti
 use Rattle.wt_meaning.specs.Windows.{gone_in, is_gone_by_call, is_number, makes_gone}
 use Rattle.wt_promise.proofs.Accepted.{and-left, and-right, or-first, or-last, or-left, or-right, or-true}
 use Rattle.wt_promise.proofs.Actions.{AnyPiece, any-next}
+use Rattle.wt_promise.proofs.GoneWhy.{ByEnd, ByRejection, GoneBy, gone-by}
 use Rattle.wt_promise.proofs.GoneByCall.{admits-no-more, call-tells}
 use Rattle.wt_promise.proofs.GoneSends.{gone-among, in-gone, until-any, until-append}
 use Rattle.wt_promise.proofs.Grows.{findings-add, news}
@@ -126,9 +127,15 @@ resets-told side h k e =
 
 -- a turn that a session is made gone by is a call
 of-call : (h : History) (turn : Turn) (r : Reply) (s : ℕ) → is_number s (gone_in h turn r) ≡ true → (side : Side) → r ≡ (own_answer side h turn).reply → event_of turn ≡ None
-of-call h (turns.Call call) r s n side e = refl
-of-call h turn replies.Rejected s n side e = absurd (cc e)
-of-call h turn r s n side e = absurd (cc n)
+of-call h turn r s n side e = by turn refl (gone-by h turn r s n)
+  where
+    rejected : (t : Turn) → turn ≡ t → r ≡ replies.Rejected → event_of t ≡ None
+    rejected (turns.Call call) i q = refl
+    rejected t i q = absurd (let m = sym q ∙ e ∙ ap (λ (x : Turn). (own_answer side h x).reply) i in cc m)
+
+    by : (t : Turn) → turn ≡ t → GoneBy h turn r s → event_of turn ≡ None
+    by t i (ByRejection q last) = ap event_of i ∙ rejected t i q
+    by t i (ByEnd name q known) = ap event_of q
 
 pub gone-told : (side : Side) (h : History) (turn : Turn) → GoneIsTold side h turn (next side h turn)
 gone-told side h turn s k o way g later m = by (is_number s (gone_in h turn own.reply)) refl

@@ -45,6 +45,7 @@ pub mod Silent
 pub mod SilentBehind
 pub mod Established
 pub mod GoneSends
+pub mod GoneWhy
 pub mod GoneByCall
 pub mod GoneTold
 pub mod Ends

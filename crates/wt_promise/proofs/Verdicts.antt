@@ -172,14 +172,23 @@ handed-stays side p h k (ByOpening e) = ByOpening (by (opened_by k p.turn p.answ
 -- what an accept gives was admitted
 pub accept-admits : (side : Side) (h : History) (k : ℕ) (call : Call) (r : Reply) → (next side h (turns.Call call)).reply ≡ r → fits call r ≡ true → is_accept (turns.Call call) ≡ true → hands_out k r ≡ true
     → (s : ℕ) × (list_any (admits s k) (findings side h) ≡ true)
-accept-admits side h k (calls.AcceptUni name) (replies.Uni id) q f w e = let a = uni-accepted side h name id q in (a.0, ap (λ (j : ℕ). list_any (admits a.0 j) (findings side h)) (sym (eqb-true id k e)) ∙ a.2.header)
-accept-admits side h k (calls.AcceptBi name) (replies.Bi id) q f w e = let a = bi-accepted side h name id q in (a.0, ap (λ (j : ℕ). list_any (admits a.0 j) (findings side h)) (sym (eqb-true id k e)) ∙ a.2.header)
-accept-admits side h k (calls.PollOpening id) r q f w e = absurd (cc w)
-accept-admits side h k call (replies.Uni id) q f w e = absurd (cc f)
-accept-admits side h k call (replies.Bi id) q f w e = absurd (cc f)
-accept-admits side h k call (replies.SendReady id) q f w e = absurd (cc f)
-accept-admits side h k call (replies.BiReady id) q f w e = absurd (cc f)
-accept-admits side h k call r q f w e = absurd (cc e)
+accept-admits side h k (calls.AcceptUni name) r q f w e = by r q f e
+  where
+    by : (r : Reply) → (next side h (turns.Call (calls.AcceptUni name))).reply ≡ r → fits (calls.AcceptUni name) r ≡ true → hands_out k r ≡ true → (s : ℕ) × (list_any (admits s k) (findings side h) ≡ true)
+    by (replies.Uni id) q f e = let a = uni-accepted side h name id q in (a.0, ap (λ (j : ℕ). list_any (admits a.0 j) (findings side h)) (sym (eqb-true id k e)) ∙ a.2.header)
+    by (replies.Bi id) q f e = absurd (cc f)
+    by (replies.SendReady id) q f e = absurd (cc f)
+    by (replies.BiReady id) q f e = absurd (cc f)
+    by r q f e = absurd (cc e)
+accept-admits side h k (calls.AcceptBi name) r q f w e = by r q f e
+  where
+    by : (r : Reply) → (next side h (turns.Call (calls.AcceptBi name))).reply ≡ r → fits (calls.AcceptBi name) r ≡ true → hands_out k r ≡ true → (s : ℕ) × (list_any (admits s k) (findings side h) ≡ true)
+    by (replies.Bi id) q f e = let a = bi-accepted side h name id q in (a.0, ap (λ (j : ℕ). list_any (admits a.0 j) (findings side h)) (sym (eqb-true id k e)) ∙ a.2.header)
+    by (replies.Uni id) q f e = absurd (cc f)
+    by (replies.SendReady id) q f e = absurd (cc f)
+    by (replies.BiReady id) q f e = absurd (cc f)
+    by r q f e = absurd (cc e)
+accept-admits side h k call r q f w e = absurd (cc w)
 
 -- the call of a reply that hands the stream out
 pub hands-by : (side : Side) (h : History) (k : ℕ) (call : Call) (r : Reply) → (next side h (turns.Call call)).reply ≡ r → fits call r ≡ true → hands_out k r ≡ true → HandedBy side h k

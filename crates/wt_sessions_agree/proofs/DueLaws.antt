@@ -22,7 +22,7 @@ use Rattle.wt_promise.proofs.Tables.{fits, fits-own}
 use Rattle.wt_promise.proofs.Waiting.{named-established}
 use Rattle.wt_promise.specs.Promise.{IsHistory}
 use Rattle.wt_proto.specs.declared.verdict.Verdict.{Verdict}
-use Rattle.wt_sessions_agree.proofs.GoneWhy.{ByEnd, ByRejection, GoneBy, gone-by}
+use Rattle.wt_promise.proofs.GoneWhy.{ByEnd, ByRejection, GoneBy, gone-by}
 use Rattle.wt_sessions_agree.proofs.PartLaws.{none-queued, queues, queues-has}
 use Rattle.wt_turn.specs.declared.answer.Answer.{Answer}
 use Rattle.wt_turn.specs.declared.call.Call.{Call}

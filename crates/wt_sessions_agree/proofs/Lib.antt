@@ -30,7 +30,6 @@ pub mod PartLaws
 pub mod ThereLaws
 pub mod ReadyLaws
 pub mod EndLaws
-pub mod GoneWhy
 pub mod DueLaws
 pub mod ShakeLaws
 pub mod ReceivedLaws

@@ -22,7 +22,7 @@ use Rattle.wt_promise.proofs.Verdicts.{ByAccept, ByOpening, HandedBy, given-clas
 use Rattle.wt_promise.proofs.Waiting.{named-established}
 use Rattle.wt_promise.specs.Promise.{IsHistory}
 use Rattle.wt_sessions.specs.StreamTable.{CallView}
-use Rattle.wt_sessions_agree.proofs.GoneWhy.{ByEnd, ByRejection, GoneBy, gone-by}
+use Rattle.wt_promise.proofs.GoneWhy.{ByEnd, ByRejection, GoneBy, gone-by}
 use Rattle.wt_sessions_agree.proofs.CameLaws.{came, came-more}
 use Rattle.wt_sessions_agree.proofs.MembersKept.{Good, closed-more, good-kept}
 use Rattle.wt_sessions_agree.specs.Members.{MembersIn}
