@@ -107,10 +107,6 @@ pub session_id_176 : shown (7 ∷ 8 ∷ 9 ∷ 10 ∷ 11 ∷ []) (run Server (tur
 unfolding computed
 session_id_176 = refl
 
-pub closed_177 : shown (10 ∷ 12 ∷ 13 ∷ 14 ∷ 15 ∷ 17 ∷ 18 ∷ []) (run Server (turns.Connected 9 9 1000 (facts.Limit 1200) ∷ turns.PeerUni ∷ turns.Bytes 2 (0 ∷ 4 ∷ 0 ∷ []) ∷ turns.PeerBi ∷ turns.Bytes 0 (1 ∷ 64 ∷ 80 ∷ 0 ∷ 0 ∷ 39 ∷ 3 ∷ 58 ∷ 97 ∷ 117 ∷ 116 ∷ 104 ∷ 111 ∷ 114 ∷ 105 ∷ 116 ∷ 121 ∷ 1 ∷ 104 ∷ 39 ∷ 0 ∷ 58 ∷ 109 ∷ 101 ∷ 116 ∷ 104 ∷ 111 ∷ 100 ∷ 7 ∷ 67 ∷ 79 ∷ 78 ∷ 78 ∷ 69 ∷ 67 ∷ 84 ∷ 37 ∷ 58 ∷ 112 ∷ 97 ∷ 116 ∷ 104 ∷ 1 ∷ 47 ∷ 39 ∷ 2 ∷ 58 ∷ 112 ∷ 114 ∷ 111 ∷ 116 ∷ 111 ∷ 99 ∷ 111 ∷ 108 ∷ 12 ∷ 119 ∷ 101 ∷ 98 ∷ 116 ∷ 114 ∷ 97 ∷ 110 ∷ 115 ∷ 112 ∷ 111 ∷ 114 ∷ 116 ∷ 39 ∷ 0 ∷ 58 ∷ 115 ∷ 99 ∷ 104 ∷ 101 ∷ 109 ∷ 101 ∷ 5 ∷ 104 ∷ 116 ∷ 116 ∷ 112 ∷ 115 ∷ []) ∷ turns.Call calls.Incoming ∷ turns.Call (calls.Accept ([])) ∷ turns.PeerBi ∷ turns.Bytes 4 (1 ∷ 64 ∷ 80 ∷ 0 ∷ 0 ∷ 39 ∷ 3 ∷ 58 ∷ 97 ∷ 117 ∷ 116 ∷ 104 ∷ 111 ∷ 114 ∷ 105 ∷ 116 ∷ 121 ∷ 1 ∷ 104 ∷ 39 ∷ 0 ∷ 58 ∷ 109 ∷ 101 ∷ 116 ∷ 104 ∷ 111 ∷ 100 ∷ 7 ∷ 67 ∷ 79 ∷ 78 ∷ 78 ∷ 69 ∷ 67 ∷ 84 ∷ 37 ∷ 58 ∷ 112 ∷ 97 ∷ 116 ∷ 104 ∷ 1 ∷ 47 ∷ 39 ∷ 2 ∷ 58 ∷ 112 ∷ 114 ∷ 111 ∷ 116 ∷ 111 ∷ 99 ∷ 111 ∷ 108 ∷ 12 ∷ 119 ∷ 101 ∷ 98 ∷ 116 ∷ 114 ∷ 97 ∷ 110 ∷ 115 ∷ 112 ∷ 111 ∷ 114 ∷ 116 ∷ 39 ∷ 0 ∷ 58 ∷ 115 ∷ 99 ∷ 104 ∷ 101 ∷ 109 ∷ 101 ∷ 5 ∷ 104 ∷ 116 ∷ 116 ∷ 112 ∷ 115 ∷ []) ∷ turns.PeerUni ∷ turns.Bytes 6 (64 ∷ 84 ∷ 4 ∷ 97 ∷ []) ∷ turns.Datagram (1 ∷ 98 ∷ []) ∷ turns.Call calls.Incoming ∷ turns.Call calls.Forbidden ∷ turns.Acked 4 ∷ turns.Call calls.Handshake ∷ turns.PeerUni ∷ turns.Bytes 10 (64 ∷ 84 ∷ 4 ∷ 97 ∷ []) ∷ turns.Call calls.Closed ∷ [])) ≡ record { answers = (answer replies.Done ([]) ∷ answer (replies.Request 4 (((58 ∷ 97 ∷ 117 ∷ 116 ∷ 104 ∷ 111 ∷ 114 ∷ 105 ∷ 116 ∷ 121 ∷ []), (104 ∷ [])) ∷ ((58 ∷ 109 ∷ 101 ∷ 116 ∷ 104 ∷ 111 ∷ 100 ∷ []), (67 ∷ 79 ∷ 78 ∷ 78 ∷ 69 ∷ 67 ∷ 84 ∷ [])) ∷ ((58 ∷ 112 ∷ 97 ∷ 116 ∷ 104 ∷ []), (47 ∷ [])) ∷ ((58 ∷ 112 ∷ 114 ∷ 111 ∷ 116 ∷ 111 ∷ 99 ∷ 111 ∷ 108 ∷ []), (119 ∷ 101 ∷ 98 ∷ 116 ∷ 114 ∷ 97 ∷ 110 ∷ 115 ∷ 112 ∷ 111 ∷ 114 ∷ 116 ∷ [])) ∷ ((58 ∷ 115 ∷ 99 ∷ 104 ∷ 101 ∷ 109 ∷ 101 ∷ []), (104 ∷ 116 ∷ 116 ∷ 112 ∷ 115 ∷ [])) ∷ [])) ([]) ∷ answer replies.Pending (actions.Send 4 (1 ∷ 15 ∷ 0 ∷ 0 ∷ 39 ∷ 0 ∷ 58 ∷ 115 ∷ 116 ∷ 97 ∷ 116 ∷ 117 ∷ 115 ∷ 3 ∷ 52 ∷ 48 ∷ 51 ∷ []) ∷ actions.Finish 4 ∷ []) ∷ answer replies.Done ([]) ∷ answer replies.Rejected (actions.StopOut 6 386759528 ∷ []) ∷ answer replies.Done (actions.StopOut 10 386759528 ∷ []) ∷ answer replies.Pending ([]) ∷ []); is_all = true }
-unfolding computed
-closed_177 = refl
-
 pub open_bi_178 : shown (7 ∷ 8 ∷ 9 ∷ 10 ∷ 11 ∷ []) (run Server (turns.Connected 9 0 1000 (facts.Limit 1200) ∷ turns.PeerUni ∷ turns.Bytes 2 (0 ∷ 4 ∷ 0 ∷ []) ∷ turns.PeerBi ∷ turns.Bytes 0 (1 ∷ 64 ∷ 80 ∷ 0 ∷ 0 ∷ 39 ∷ 3 ∷ 58 ∷ 97 ∷ 117 ∷ 116 ∷ 104 ∷ 111 ∷ 114 ∷ 105 ∷ 116 ∷ 121 ∷ 1 ∷ 104 ∷ 39 ∷ 0 ∷ 58 ∷ 109 ∷ 101 ∷ 116 ∷ 104 ∷ 111 ∷ 100 ∷ 7 ∷ 67 ∷ 79 ∷ 78 ∷ 78 ∷ 69 ∷ 67 ∷ 84 ∷ 37 ∷ 58 ∷ 112 ∷ 97 ∷ 116 ∷ 104 ∷ 1 ∷ 47 ∷ 39 ∷ 2 ∷ 58 ∷ 112 ∷ 114 ∷ 111 ∷ 116 ∷ 111 ∷ 99 ∷ 111 ∷ 108 ∷ 12 ∷ 119 ∷ 101 ∷ 98 ∷ 116 ∷ 114 ∷ 97 ∷ 110 ∷ 115 ∷ 112 ∷ 111 ∷ 114 ∷ 116 ∷ 39 ∷ 0 ∷ 58 ∷ 115 ∷ 99 ∷ 104 ∷ 101 ∷ 109 ∷ 101 ∷ 5 ∷ 104 ∷ 116 ∷ 116 ∷ 112 ∷ 115 ∷ []) ∷ turns.Call calls.Incoming ∷ turns.Call (calls.Accept ([])) ∷ turns.Call (calls.OpenBi None) ∷ turns.MaxBi 1 ∷ turns.Call (calls.OpenBi None) ∷ turns.Call (calls.PollOpening 1) ∷ turns.Call (calls.OpenBi None) ∷ [])) ≡ record { answers = (answer replies.Pending ([]) ∷ answer replies.Done ([]) ∷ answer (replies.Opening 1) (actions.Opened 1 ∷ []) ∷ answer (replies.BiReady 1) (actions.Send 1 (64 ∷ 65 ∷ 0 ∷ []) ∷ []) ∷ answer replies.Pending ([]) ∷ []); is_all = true }
 unfolding computed
 open_bi_178 = refl
@@ -118,10 +114,6 @@ open_bi_178 = refl
 pub priority_179 : shown (8 ∷ 9 ∷ 10 ∷ 11 ∷ 12 ∷ 13 ∷ 14 ∷ 15 ∷ 16 ∷ 17 ∷ []) (run Server (turns.Connected 9 9 1000 (facts.Limit 1200) ∷ turns.PeerUni ∷ turns.Bytes 2 (0 ∷ 4 ∷ 0 ∷ []) ∷ turns.PeerBi ∷ turns.Bytes 0 (1 ∷ 64 ∷ 80 ∷ 0 ∷ 0 ∷ 39 ∷ 3 ∷ 58 ∷ 97 ∷ 117 ∷ 116 ∷ 104 ∷ 111 ∷ 114 ∷ 105 ∷ 116 ∷ 121 ∷ 1 ∷ 104 ∷ 39 ∷ 0 ∷ 58 ∷ 109 ∷ 101 ∷ 116 ∷ 104 ∷ 111 ∷ 100 ∷ 7 ∷ 67 ∷ 79 ∷ 78 ∷ 78 ∷ 69 ∷ 67 ∷ 84 ∷ 37 ∷ 58 ∷ 112 ∷ 97 ∷ 116 ∷ 104 ∷ 1 ∷ 47 ∷ 39 ∷ 2 ∷ 58 ∷ 112 ∷ 114 ∷ 111 ∷ 116 ∷ 111 ∷ 99 ∷ 111 ∷ 108 ∷ 12 ∷ 119 ∷ 101 ∷ 98 ∷ 116 ∷ 114 ∷ 97 ∷ 110 ∷ 115 ∷ 112 ∷ 111 ∷ 114 ∷ 116 ∷ 39 ∷ 0 ∷ 58 ∷ 115 ∷ 99 ∷ 104 ∷ 101 ∷ 109 ∷ 101 ∷ 5 ∷ 104 ∷ 116 ∷ 116 ∷ 112 ∷ 115 ∷ []) ∷ turns.Call calls.Incoming ∷ turns.Call (calls.Accept ([])) ∷ turns.Call (calls.OpenUni None) ∷ turns.Call (calls.PollOpening 7) ∷ turns.Call (calls.OpenUni None) ∷ turns.Call (calls.EndSession None) ∷ turns.Call (calls.PollOpening 11) ∷ turns.Call (calls.PollOpening 11) ∷ turns.Call (calls.Write 7 (97 ∷ [])) ∷ turns.Call (calls.Finish 7) ∷ turns.Call (calls.Stopped 7) ∷ turns.Call (calls.ResetSend 7 1) ∷ turns.Call (calls.Priority 7) ∷ [])) ≡ record { answers = (answer (replies.SendReady 7) (actions.Send 7 (64 ∷ 84 ∷ 0 ∷ []) ∷ []) ∷ answer (replies.Opening 11) (actions.Opened 11 ∷ []) ∷ answer replies.Done (actions.Finish 0 ∷ actions.ResetOut 7 386759528 ∷ actions.ResetOut 11 386759528 ∷ []) ∷ answer (replies.OpeningFailed openings.NotConnected) ([]) ∷ answer replies.NoStream ([]) ∷ answer (replies.WriteFailed writes.Closed) ([]) ∷ answer replies.Finished ([]) ∷ answer (replies.StoppedBy writes.Closed) ([]) ∷ answer replies.ClosedStream ([]) ∷ answer replies.ClosedStream ([]) ∷ []); is_all = true }
 unfolding computed
 priority_179 = refl
-
-pub receive_datagram_180 : shown (23 ∷ 24 ∷ 25 ∷ 26 ∷ 27 ∷ 28 ∷ 29 ∷ 30 ∷ 31 ∷ 32 ∷ 33 ∷ 34 ∷ 35 ∷ 36 ∷ 37 ∷ 38 ∷ 39 ∷ 40 ∷ []) (run Server (turns.Connected 9 9 1000 (facts.Limit 1200) ∷ turns.PeerUni ∷ turns.Bytes 2 (0 ∷ 4 ∷ 0 ∷ []) ∷ turns.PeerBi ∷ turns.Bytes 0 (1 ∷ 64 ∷ 80 ∷ 0 ∷ 0 ∷ 39 ∷ 3 ∷ 58 ∷ 97 ∷ 117 ∷ 116 ∷ 104 ∷ 111 ∷ 114 ∷ 105 ∷ 116 ∷ 121 ∷ 1 ∷ 104 ∷ 39 ∷ 0 ∷ 58 ∷ 109 ∷ 101 ∷ 116 ∷ 104 ∷ 111 ∷ 100 ∷ 7 ∷ 67 ∷ 79 ∷ 78 ∷ 78 ∷ 69 ∷ 67 ∷ 84 ∷ 37 ∷ 58 ∷ 112 ∷ 97 ∷ 116 ∷ 104 ∷ 1 ∷ 47 ∷ 39 ∷ 2 ∷ 58 ∷ 112 ∷ 114 ∷ 111 ∷ 116 ∷ 111 ∷ 99 ∷ 111 ∷ 108 ∷ 12 ∷ 119 ∷ 101 ∷ 98 ∷ 116 ∷ 114 ∷ 97 ∷ 110 ∷ 115 ∷ 112 ∷ 111 ∷ 114 ∷ 116 ∷ 39 ∷ 0 ∷ 58 ∷ 115 ∷ 99 ∷ 104 ∷ 101 ∷ 109 ∷ 101 ∷ 5 ∷ 104 ∷ 116 ∷ 116 ∷ 112 ∷ 115 ∷ []) ∷ turns.Call calls.Incoming ∷ turns.Call (calls.Accept ([])) ∷ turns.Datagram (0 ∷ 97 ∷ []) ∷ turns.Datagram (0 ∷ 97 ∷ []) ∷ turns.Datagram (0 ∷ 97 ∷ []) ∷ turns.Datagram (0 ∷ 97 ∷ []) ∷ turns.Datagram (0 ∷ 97 ∷ []) ∷ turns.Datagram (0 ∷ 97 ∷ []) ∷ turns.Datagram (0 ∷ 97 ∷ []) ∷ turns.Datagram (0 ∷ 97 ∷ []) ∷ turns.Datagram (0 ∷ 97 ∷ []) ∷ turns.Datagram (0 ∷ 97 ∷ []) ∷ turns.Datagram (0 ∷ 97 ∷ []) ∷ turns.Datagram (0 ∷ 97 ∷ []) ∷ turns.Datagram (0 ∷ 97 ∷ []) ∷ turns.Datagram (0 ∷ 97 ∷ []) ∷ turns.Datagram (0 ∷ 97 ∷ []) ∷ turns.Datagram (0 ∷ 97 ∷ []) ∷ turns.Datagram (0 ∷ 98 ∷ []) ∷ turns.Call (calls.ReceiveDatagram None) ∷ turns.Call (calls.ReceiveDatagram None) ∷ turns.Call (calls.ReceiveDatagram None) ∷ turns.Call (calls.ReceiveDatagram None) ∷ turns.Call (calls.ReceiveDatagram None) ∷ turns.Call (calls.ReceiveDatagram None) ∷ turns.Call (calls.ReceiveDatagram None) ∷ turns.Call (calls.ReceiveDatagram None) ∷ turns.Call (calls.ReceiveDatagram None) ∷ turns.Call (calls.ReceiveDatagram None) ∷ turns.Call (calls.ReceiveDatagram None) ∷ turns.Call (calls.ReceiveDatagram None) ∷ turns.Call (calls.ReceiveDatagram None) ∷ turns.Call (calls.ReceiveDatagram None) ∷ turns.Call (calls.ReceiveDatagram None) ∷ turns.Call (calls.ReceiveDatagram None) ∷ turns.Call (calls.ReceiveDatagram None) ∷ [])) ≡ record { answers = (answer replies.Done ([]) ∷ answer (replies.Datagram (97 ∷ [])) ([]) ∷ answer (replies.Datagram (97 ∷ [])) ([]) ∷ answer (replies.Datagram (97 ∷ [])) ([]) ∷ answer (replies.Datagram (97 ∷ [])) ([]) ∷ answer (replies.Datagram (97 ∷ [])) ([]) ∷ answer (replies.Datagram (97 ∷ [])) ([]) ∷ answer (replies.Datagram (97 ∷ [])) ([]) ∷ answer (replies.Datagram (97 ∷ [])) ([]) ∷ answer (replies.Datagram (97 ∷ [])) ([]) ∷ answer (replies.Datagram (97 ∷ [])) ([]) ∷ answer (replies.Datagram (97 ∷ [])) ([]) ∷ answer (replies.Datagram (97 ∷ [])) ([]) ∷ answer (replies.Datagram (97 ∷ [])) ([]) ∷ answer (replies.Datagram (97 ∷ [])) ([]) ∷ answer (replies.Datagram (97 ∷ [])) ([]) ∷ answer (replies.Datagram (97 ∷ [])) ([]) ∷ answer replies.Pending ([]) ∷ []); is_all = true }
-unfolding computed
-receive_datagram_180 = refl
 
 pub accept_uni_181 : shown (8 ∷ 9 ∷ []) (run Server (turns.Connected 9 9 1000 (facts.Limit 1200) ∷ turns.PeerUni ∷ turns.Bytes 2 (0 ∷ 4 ∷ 0 ∷ []) ∷ turns.PeerBi ∷ turns.Bytes 0 (1 ∷ 64 ∷ 80 ∷ 0 ∷ 0 ∷ 39 ∷ 3 ∷ 58 ∷ 97 ∷ 117 ∷ 116 ∷ 104 ∷ 111 ∷ 114 ∷ 105 ∷ 116 ∷ 121 ∷ 1 ∷ 104 ∷ 39 ∷ 0 ∷ 58 ∷ 109 ∷ 101 ∷ 116 ∷ 104 ∷ 111 ∷ 100 ∷ 7 ∷ 67 ∷ 79 ∷ 78 ∷ 78 ∷ 69 ∷ 67 ∷ 84 ∷ 37 ∷ 58 ∷ 112 ∷ 97 ∷ 116 ∷ 104 ∷ 1 ∷ 47 ∷ 39 ∷ 2 ∷ 58 ∷ 112 ∷ 114 ∷ 111 ∷ 116 ∷ 111 ∷ 99 ∷ 111 ∷ 108 ∷ 12 ∷ 119 ∷ 101 ∷ 98 ∷ 116 ∷ 114 ∷ 97 ∷ 110 ∷ 115 ∷ 112 ∷ 111 ∷ 114 ∷ 116 ∷ 39 ∷ 0 ∷ 58 ∷ 115 ∷ 99 ∷ 104 ∷ 101 ∷ 109 ∷ 101 ∷ 5 ∷ 104 ∷ 116 ∷ 116 ∷ 112 ∷ 115 ∷ []) ∷ turns.Call calls.Incoming ∷ turns.Call (calls.Accept ([])) ∷ turns.Stop 0 7 ∷ turns.End 0 ∷ turns.Call (calls.AcceptUni None) ∷ [])) ≡ record { answers = (answer replies.Done ([]) ∷ answer (replies.Failed (errors.ApplicationClosed (record { code = 0; reason = ([]) }))) ([]) ∷ []); is_all = true }
 unfolding computed

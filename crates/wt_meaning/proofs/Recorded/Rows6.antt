@@ -66,10 +66,6 @@ pub bytes_202 : shown (7 ∷ 8 ∷ []) (run Server (turns.Connected 9 9 1000 (fa
 unfolding computed
 bytes_202 = refl
 
-pub receive_datagram_203 : shown (23 ∷ 24 ∷ 25 ∷ 26 ∷ 27 ∷ 28 ∷ 29 ∷ 30 ∷ 31 ∷ 32 ∷ 33 ∷ 34 ∷ 35 ∷ 36 ∷ 37 ∷ 38 ∷ 39 ∷ 40 ∷ []) (run Server (turns.Connected 9 9 1000 (facts.Limit 1200) ∷ turns.PeerUni ∷ turns.Bytes 2 (0 ∷ 4 ∷ 0 ∷ []) ∷ turns.PeerBi ∷ turns.Bytes 0 (1 ∷ 64 ∷ 80 ∷ 0 ∷ 0 ∷ 39 ∷ 3 ∷ 58 ∷ 97 ∷ 117 ∷ 116 ∷ 104 ∷ 111 ∷ 114 ∷ 105 ∷ 116 ∷ 121 ∷ 1 ∷ 104 ∷ 39 ∷ 0 ∷ 58 ∷ 109 ∷ 101 ∷ 116 ∷ 104 ∷ 111 ∷ 100 ∷ 7 ∷ 67 ∷ 79 ∷ 78 ∷ 78 ∷ 69 ∷ 67 ∷ 84 ∷ 37 ∷ 58 ∷ 112 ∷ 97 ∷ 116 ∷ 104 ∷ 1 ∷ 47 ∷ 39 ∷ 2 ∷ 58 ∷ 112 ∷ 114 ∷ 111 ∷ 116 ∷ 111 ∷ 99 ∷ 111 ∷ 108 ∷ 12 ∷ 119 ∷ 101 ∷ 98 ∷ 116 ∷ 114 ∷ 97 ∷ 110 ∷ 115 ∷ 112 ∷ 111 ∷ 114 ∷ 116 ∷ 39 ∷ 0 ∷ 58 ∷ 115 ∷ 99 ∷ 104 ∷ 101 ∷ 109 ∷ 101 ∷ 5 ∷ 104 ∷ 116 ∷ 116 ∷ 112 ∷ 115 ∷ []) ∷ turns.Call calls.Incoming ∷ turns.Call (calls.Accept ([])) ∷ turns.Datagram (0 ∷ []) ∷ turns.Datagram (0 ∷ []) ∷ turns.Datagram (0 ∷ []) ∷ turns.Datagram (0 ∷ []) ∷ turns.Datagram (0 ∷ []) ∷ turns.Datagram (0 ∷ []) ∷ turns.Datagram (0 ∷ []) ∷ turns.Datagram (0 ∷ []) ∷ turns.Datagram (0 ∷ []) ∷ turns.Datagram (0 ∷ []) ∷ turns.Datagram (0 ∷ []) ∷ turns.Datagram (0 ∷ []) ∷ turns.Datagram (0 ∷ []) ∷ turns.Datagram (0 ∷ []) ∷ turns.Datagram (0 ∷ []) ∷ turns.Datagram (0 ∷ []) ∷ turns.Datagram (0 ∷ 98 ∷ []) ∷ turns.Call (calls.ReceiveDatagram None) ∷ turns.Call (calls.ReceiveDatagram None) ∷ turns.Call (calls.ReceiveDatagram None) ∷ turns.Call (calls.ReceiveDatagram None) ∷ turns.Call (calls.ReceiveDatagram None) ∷ turns.Call (calls.ReceiveDatagram None) ∷ turns.Call (calls.ReceiveDatagram None) ∷ turns.Call (calls.ReceiveDatagram None) ∷ turns.Call (calls.ReceiveDatagram None) ∷ turns.Call (calls.ReceiveDatagram None) ∷ turns.Call (calls.ReceiveDatagram None) ∷ turns.Call (calls.ReceiveDatagram None) ∷ turns.Call (calls.ReceiveDatagram None) ∷ turns.Call (calls.ReceiveDatagram None) ∷ turns.Call (calls.ReceiveDatagram None) ∷ turns.Call (calls.ReceiveDatagram None) ∷ turns.Call (calls.ReceiveDatagram None) ∷ [])) ≡ record { answers = (answer replies.Done ([]) ∷ answer (replies.Datagram ([])) ([]) ∷ answer (replies.Datagram ([])) ([]) ∷ answer (replies.Datagram ([])) ([]) ∷ answer (replies.Datagram ([])) ([]) ∷ answer (replies.Datagram ([])) ([]) ∷ answer (replies.Datagram ([])) ([]) ∷ answer (replies.Datagram ([])) ([]) ∷ answer (replies.Datagram ([])) ([]) ∷ answer (replies.Datagram ([])) ([]) ∷ answer (replies.Datagram ([])) ([]) ∷ answer (replies.Datagram ([])) ([]) ∷ answer (replies.Datagram ([])) ([]) ∷ answer (replies.Datagram ([])) ([]) ∷ answer (replies.Datagram ([])) ([]) ∷ answer (replies.Datagram ([])) ([]) ∷ answer (replies.Datagram ([])) ([]) ∷ answer replies.Pending ([]) ∷ []); is_all = true }
-unfolding computed
-receive_datagram_203 = refl
-
 pub bytes_204 : shown ([]) (run Server (turns.Connected 9 9 1000 (facts.Limit 1200) ∷ turns.Bytes 2 (0 ∷ []) ∷ [])) ≡ record { answers = ([]); is_all = false }
 unfolding computed
 bytes_204 = refl
@@ -126,10 +122,6 @@ pub connected_217 : shown ([]) (run Server (turns.Connected 1152921504606846977 
 unfolding computed
 connected_217 = refl
 
-pub max_uni_218 : shown (13 ∷ []) (run Server (turns.Connected 0 9 1000 (facts.Limit 1200) ∷ turns.PeerUni ∷ turns.Bytes 2 (64 ∷ 84 ∷ 16 ∷ 97 ∷ []) ∷ turns.PeerBi ∷ turns.PeerBi ∷ turns.PeerBi ∷ turns.PeerBi ∷ turns.PeerBi ∷ turns.Bytes 0 (1 ∷ 64 ∷ 80 ∷ 0 ∷ 0 ∷ 39 ∷ 3 ∷ 58 ∷ 97 ∷ 117 ∷ 116 ∷ 104 ∷ 111 ∷ 114 ∷ 105 ∷ 116 ∷ 121 ∷ 1 ∷ 104 ∷ 39 ∷ 0 ∷ 58 ∷ 109 ∷ 101 ∷ 116 ∷ 104 ∷ 111 ∷ 100 ∷ 7 ∷ 67 ∷ 79 ∷ 78 ∷ 78 ∷ 69 ∷ 67 ∷ 84 ∷ 37 ∷ 58 ∷ 112 ∷ 97 ∷ 116 ∷ 104 ∷ 1 ∷ 47 ∷ 39 ∷ 2 ∷ 58 ∷ 112 ∷ 114 ∷ 111 ∷ 116 ∷ 111 ∷ 99 ∷ 111 ∷ 108 ∷ 12 ∷ 119 ∷ 101 ∷ 98 ∷ 116 ∷ 114 ∷ 97 ∷ 110 ∷ 115 ∷ 112 ∷ 111 ∷ 114 ∷ 116 ∷ 39 ∷ 0 ∷ 58 ∷ 115 ∷ 99 ∷ 104 ∷ 101 ∷ 109 ∷ 101 ∷ 5 ∷ 104 ∷ 116 ∷ 116 ∷ 112 ∷ 115 ∷ []) ∷ turns.Bytes 4 (1 ∷ 64 ∷ 80 ∷ 0 ∷ 0 ∷ 39 ∷ 3 ∷ 58 ∷ 97 ∷ 117 ∷ 116 ∷ 104 ∷ 111 ∷ 114 ∷ 105 ∷ 116 ∷ 121 ∷ 1 ∷ 104 ∷ 39 ∷ 0 ∷ 58 ∷ 109 ∷ 101 ∷ 116 ∷ 104 ∷ 111 ∷ 100 ∷ 7 ∷ 67 ∷ 79 ∷ 78 ∷ 78 ∷ 69 ∷ 67 ∷ 84 ∷ 37 ∷ 58 ∷ 112 ∷ 97 ∷ 116 ∷ 104 ∷ 1 ∷ 47 ∷ 39 ∷ 2 ∷ 58 ∷ 112 ∷ 114 ∷ 111 ∷ 116 ∷ 111 ∷ 99 ∷ 111 ∷ 108 ∷ 12 ∷ 119 ∷ 101 ∷ 98 ∷ 116 ∷ 114 ∷ 97 ∷ 110 ∷ 115 ∷ 112 ∷ 111 ∷ 114 ∷ 116 ∷ 39 ∷ 0 ∷ 58 ∷ 115 ∷ 99 ∷ 104 ∷ 101 ∷ 109 ∷ 101 ∷ 5 ∷ 104 ∷ 116 ∷ 116 ∷ 112 ∷ 115 ∷ []) ∷ turns.Bytes 8 (1 ∷ 64 ∷ 80 ∷ 0 ∷ 0 ∷ 39 ∷ 3 ∷ 58 ∷ 97 ∷ 117 ∷ 116 ∷ 104 ∷ 111 ∷ 114 ∷ 105 ∷ 116 ∷ 121 ∷ 1 ∷ 104 ∷ 39 ∷ 0 ∷ 58 ∷ 109 ∷ 101 ∷ 116 ∷ 104 ∷ 111 ∷ 100 ∷ 7 ∷ 67 ∷ 79 ∷ 78 ∷ 78 ∷ 69 ∷ 67 ∷ 84 ∷ 37 ∷ 58 ∷ 112 ∷ 97 ∷ 116 ∷ 104 ∷ 1 ∷ 47 ∷ 39 ∷ 2 ∷ 58 ∷ 112 ∷ 114 ∷ 111 ∷ 116 ∷ 111 ∷ 99 ∷ 111 ∷ 108 ∷ 12 ∷ 119 ∷ 101 ∷ 98 ∷ 116 ∷ 114 ∷ 97 ∷ 110 ∷ 115 ∷ 112 ∷ 111 ∷ 114 ∷ 116 ∷ 39 ∷ 0 ∷ 58 ∷ 115 ∷ 99 ∷ 104 ∷ 101 ∷ 109 ∷ 101 ∷ 5 ∷ 104 ∷ 116 ∷ 116 ∷ 112 ∷ 115 ∷ []) ∷ turns.Bytes 12 (1 ∷ 64 ∷ 80 ∷ 0 ∷ 0 ∷ 39 ∷ 3 ∷ 58 ∷ 97 ∷ 117 ∷ 116 ∷ 104 ∷ 111 ∷ 114 ∷ 105 ∷ 116 ∷ 121 ∷ 1 ∷ 104 ∷ 39 ∷ 0 ∷ 58 ∷ 109 ∷ 101 ∷ 116 ∷ 104 ∷ 111 ∷ 100 ∷ 7 ∷ 67 ∷ 79 ∷ 78 ∷ 78 ∷ 69 ∷ 67 ∷ 84 ∷ 37 ∷ 58 ∷ 112 ∷ 97 ∷ 116 ∷ 104 ∷ 1 ∷ 47 ∷ 39 ∷ 2 ∷ 58 ∷ 112 ∷ 114 ∷ 111 ∷ 116 ∷ 111 ∷ 99 ∷ 111 ∷ 108 ∷ 12 ∷ 119 ∷ 101 ∷ 98 ∷ 116 ∷ 114 ∷ 97 ∷ 110 ∷ 115 ∷ 112 ∷ 111 ∷ 114 ∷ 116 ∷ 39 ∷ 0 ∷ 58 ∷ 115 ∷ 99 ∷ 104 ∷ 101 ∷ 109 ∷ 101 ∷ 5 ∷ 104 ∷ 116 ∷ 116 ∷ 112 ∷ 115 ∷ []) ∷ turns.Bytes 16 (1 ∷ 64 ∷ 80 ∷ 0 ∷ 0 ∷ 39 ∷ 3 ∷ 58 ∷ 97 ∷ 117 ∷ 116 ∷ 104 ∷ 111 ∷ 114 ∷ 105 ∷ 116 ∷ 121 ∷ 1 ∷ 104 ∷ 39 ∷ 0 ∷ 58 ∷ 109 ∷ 101 ∷ 116 ∷ 104 ∷ 111 ∷ 100 ∷ 7 ∷ 67 ∷ 79 ∷ 78 ∷ 78 ∷ 69 ∷ 67 ∷ 84 ∷ 37 ∷ 58 ∷ 112 ∷ 97 ∷ 116 ∷ 104 ∷ 1 ∷ 47 ∷ 39 ∷ 2 ∷ 58 ∷ 112 ∷ 114 ∷ 111 ∷ 116 ∷ 111 ∷ 99 ∷ 111 ∷ 108 ∷ 12 ∷ 119 ∷ 101 ∷ 98 ∷ 116 ∷ 114 ∷ 97 ∷ 110 ∷ 115 ∷ 112 ∷ 111 ∷ 114 ∷ 116 ∷ 39 ∷ 0 ∷ 58 ∷ 115 ∷ 99 ∷ 104 ∷ 101 ∷ 109 ∷ 101 ∷ 5 ∷ 104 ∷ 116 ∷ 116 ∷ 112 ∷ 115 ∷ []) ∷ turns.MaxUni 1 ∷ [])) ≡ record { answers = (answer replies.Done (actions.Opened 3 ∷ actions.Send 3 (0 ∷ 4 ∷ 22 ∷ 1 ∷ 0 ∷ 7 ∷ 0 ∷ 8 ∷ 1 ∷ 51 ∷ 1 ∷ 171 ∷ 96 ∷ 55 ∷ 66 ∷ 1 ∷ 192 ∷ 0 ∷ 0 ∷ 0 ∷ 198 ∷ 113 ∷ 112 ∷ 106 ∷ 4 ∷ []) ∷ actions.StopOut 16 267 ∷ actions.StopOut 2 386759528 ∷ []) ∷ []); is_all = true }
-unfolding computed
-max_uni_218 = refl
-
 pub read_219 : shown (11 ∷ 12 ∷ 13 ∷ 14 ∷ 17 ∷ 20 ∷ 21 ∷ 22 ∷ 23 ∷ []) (run Server (turns.Connected 9 9 1000 (facts.Limit 1200) ∷ turns.PeerUni ∷ turns.Bytes 2 (0 ∷ 4 ∷ 0 ∷ []) ∷ turns.PeerBi ∷ turns.Bytes 0 (1 ∷ 64 ∷ 80 ∷ 0 ∷ 0 ∷ 39 ∷ 3 ∷ 58 ∷ 97 ∷ 117 ∷ 116 ∷ 104 ∷ 111 ∷ 114 ∷ 105 ∷ 116 ∷ 121 ∷ 1 ∷ 104 ∷ 39 ∷ 0 ∷ 58 ∷ 109 ∷ 101 ∷ 116 ∷ 104 ∷ 111 ∷ 100 ∷ 7 ∷ 67 ∷ 79 ∷ 78 ∷ 78 ∷ 69 ∷ 67 ∷ 84 ∷ 37 ∷ 58 ∷ 112 ∷ 97 ∷ 116 ∷ 104 ∷ 1 ∷ 47 ∷ 39 ∷ 2 ∷ 58 ∷ 112 ∷ 114 ∷ 111 ∷ 116 ∷ 111 ∷ 99 ∷ 111 ∷ 108 ∷ 12 ∷ 119 ∷ 101 ∷ 98 ∷ 116 ∷ 114 ∷ 97 ∷ 110 ∷ 115 ∷ 112 ∷ 111 ∷ 114 ∷ 116 ∷ 39 ∷ 0 ∷ 58 ∷ 115 ∷ 99 ∷ 104 ∷ 101 ∷ 109 ∷ 101 ∷ 5 ∷ 104 ∷ 116 ∷ 116 ∷ 112 ∷ 115 ∷ []) ∷ turns.Call calls.Incoming ∷ turns.Call (calls.Accept ([])) ∷ turns.PeerUni ∷ turns.Bytes 6 (64 ∷ 84 ∷ 0 ∷ 97 ∷ []) ∷ turns.PeerUni ∷ turns.Bytes 10 (64 ∷ 84 ∷ 0 ∷ []) ∷ turns.Call (calls.AcceptUni None) ∷ turns.Call (calls.AcceptUni None) ∷ turns.End 6 ∷ turns.Call (calls.StopRecv 10 5) ∷ turns.Call (calls.OpenUni None) ∷ turns.Call (calls.PollOpening 7) ∷ turns.Call (calls.Finish 7) ∷ turns.Call (calls.OpenUni None) ∷ turns.Call (calls.PollOpening 11) ∷ turns.Call (calls.ResetSend 11 3) ∷ turns.Call (calls.EndSession None) ∷ turns.Call (calls.Read 6 9) ∷ turns.Call (calls.Read 6 9) ∷ [])) ≡ record { answers = (answer (replies.Uni 6) ([]) ∷ answer (replies.Uni 10) ([]) ∷ answer replies.Done ([]) ∷ answer replies.Done (actions.StopOut 10 5 ∷ []) ∷ answer replies.Pending (actions.Finish 7 ∷ []) ∷ answer replies.Done (actions.ResetOut 11 3 ∷ []) ∷ answer replies.Done (actions.Finish 0 ∷ []) ∷ answer (replies.Read (Some (97 ∷ []))) ([]) ∷ answer (replies.Read None) ([]) ∷ []); is_all = true }
 unfolding computed
 read_219 = refl
@@ -141,10 +133,6 @@ handshake_222 = refl
 pub connect_223 : shown (0 ∷ []) (run Client (turns.Call (calls.Connect ((104 ∷ 116 ∷ 116 ∷ 112 ∷ 115 ∷ 58 ∷ 47 ∷ 47 ∷ 104 ∷ 47 ∷ []), ([])) (lookups.Fault (111 ∷ 111 ∷ [])) outcomes.Proceed) ∷ [])) ≡ record { answers = (answer (replies.ConnectFailed (connects.DnsLookup (111 ∷ 111 ∷ []))) ([]) ∷ []); is_all = true }
 unfolding computed parsed
 connect_223 = refl
-
-pub receive_datagram_224 : shown (23 ∷ 24 ∷ 25 ∷ 26 ∷ 27 ∷ 28 ∷ 29 ∷ 30 ∷ 31 ∷ 32 ∷ 33 ∷ 34 ∷ 35 ∷ 36 ∷ 37 ∷ 38 ∷ 39 ∷ 40 ∷ 41 ∷ 42 ∷ []) (run Server (turns.Connected 9 9 1000 (facts.Limit 1200) ∷ turns.PeerUni ∷ turns.Bytes 2 (0 ∷ 4 ∷ 0 ∷ []) ∷ turns.PeerBi ∷ turns.Bytes 0 (1 ∷ 64 ∷ 80 ∷ 0 ∷ 0 ∷ 39 ∷ 3 ∷ 58 ∷ 97 ∷ 117 ∷ 116 ∷ 104 ∷ 111 ∷ 114 ∷ 105 ∷ 116 ∷ 121 ∷ 1 ∷ 104 ∷ 39 ∷ 0 ∷ 58 ∷ 109 ∷ 101 ∷ 116 ∷ 104 ∷ 111 ∷ 100 ∷ 7 ∷ 67 ∷ 79 ∷ 78 ∷ 78 ∷ 69 ∷ 67 ∷ 84 ∷ 37 ∷ 58 ∷ 112 ∷ 97 ∷ 116 ∷ 104 ∷ 1 ∷ 47 ∷ 39 ∷ 2 ∷ 58 ∷ 112 ∷ 114 ∷ 111 ∷ 116 ∷ 111 ∷ 99 ∷ 111 ∷ 108 ∷ 12 ∷ 119 ∷ 101 ∷ 98 ∷ 116 ∷ 114 ∷ 97 ∷ 110 ∷ 115 ∷ 112 ∷ 111 ∷ 114 ∷ 116 ∷ 39 ∷ 0 ∷ 58 ∷ 115 ∷ 99 ∷ 104 ∷ 101 ∷ 109 ∷ 101 ∷ 5 ∷ 104 ∷ 116 ∷ 116 ∷ 112 ∷ 115 ∷ []) ∷ turns.Call calls.Incoming ∷ turns.Call (calls.Accept ([])) ∷ turns.Datagram (0 ∷ []) ∷ turns.Datagram (0 ∷ []) ∷ turns.Datagram (0 ∷ []) ∷ turns.Datagram (0 ∷ []) ∷ turns.Datagram (0 ∷ []) ∷ turns.Datagram (0 ∷ []) ∷ turns.Datagram (0 ∷ []) ∷ turns.Datagram (0 ∷ []) ∷ turns.Datagram (0 ∷ []) ∷ turns.Datagram (0 ∷ []) ∷ turns.Datagram (0 ∷ []) ∷ turns.Datagram (0 ∷ []) ∷ turns.Datagram (0 ∷ []) ∷ turns.Datagram (0 ∷ []) ∷ turns.Datagram (0 ∷ []) ∷ turns.Datagram (0 ∷ []) ∷ turns.Call (calls.ReceiveDatagram None) ∷ turns.Datagram (0 ∷ 98 ∷ []) ∷ turns.Datagram (0 ∷ 99 ∷ []) ∷ turns.Call (calls.ReceiveDatagram None) ∷ turns.Call (calls.ReceiveDatagram None) ∷ turns.Call (calls.ReceiveDatagram None) ∷ turns.Call (calls.ReceiveDatagram None) ∷ turns.Call (calls.ReceiveDatagram None) ∷ turns.Call (calls.ReceiveDatagram None) ∷ turns.Call (calls.ReceiveDatagram None) ∷ turns.Call (calls.ReceiveDatagram None) ∷ turns.Call (calls.ReceiveDatagram None) ∷ turns.Call (calls.ReceiveDatagram None) ∷ turns.Call (calls.ReceiveDatagram None) ∷ turns.Call (calls.ReceiveDatagram None) ∷ turns.Call (calls.ReceiveDatagram None) ∷ turns.Call (calls.ReceiveDatagram None) ∷ turns.Call (calls.ReceiveDatagram None) ∷ turns.Call (calls.ReceiveDatagram None) ∷ turns.Call (calls.ReceiveDatagram None) ∷ [])) ≡ record { answers = (answer (replies.Datagram ([])) ([]) ∷ answer replies.Done ([]) ∷ answer replies.Done ([]) ∷ answer (replies.Datagram ([])) ([]) ∷ answer (replies.Datagram ([])) ([]) ∷ answer (replies.Datagram ([])) ([]) ∷ answer (replies.Datagram ([])) ([]) ∷ answer (replies.Datagram ([])) ([]) ∷ answer (replies.Datagram ([])) ([]) ∷ answer (replies.Datagram ([])) ([]) ∷ answer (replies.Datagram ([])) ([]) ∷ answer (replies.Datagram ([])) ([]) ∷ answer (replies.Datagram ([])) ([]) ∷ answer (replies.Datagram ([])) ([]) ∷ answer (replies.Datagram ([])) ([]) ∷ answer (replies.Datagram ([])) ([]) ∷ answer (replies.Datagram ([])) ([]) ∷ answer (replies.Datagram ([])) ([]) ∷ answer (replies.Datagram (98 ∷ [])) ([]) ∷ answer replies.Pending ([]) ∷ []); is_all = true }
-unfolding computed
-receive_datagram_224 = refl
 
 pub accept_uni_225 : shown (6 ∷ 7 ∷ 8 ∷ []) (run Client (turns.Call (calls.Connect ((104 ∷ 116 ∷ 116 ∷ 112 ∷ 115 ∷ 58 ∷ 47 ∷ 47 ∷ 104 ∷ 58 ∷ 52 ∷ 52 ∷ 51 ∷ 51 ∷ 47 ∷ 112 ∷ 63 ∷ 113 ∷ []), ([])) (lookups.Found (addresses.V4 2130706433 4433)) outcomes.Proceed) ∷ turns.Connected 1 1 1000 (facts.Limit 1200) ∷ turns.PeerUni ∷ turns.Bytes 3 (0 ∷ 4 ∷ 0 ∷ []) ∷ turns.Call calls.Handshake ∷ turns.Bytes 0 (33 ∷ 0 ∷ 1 ∷ 15 ∷ 0 ∷ 0 ∷ 39 ∷ 0 ∷ 58 ∷ 115 ∷ 116 ∷ 97 ∷ 116 ∷ 117 ∷ 115 ∷ 3 ∷ 50 ∷ 48 ∷ 48 ∷ []) ∷ turns.Call calls.Handshake ∷ turns.Bytes 0 (0 ∷ 7 ∷ 104 ∷ 67 ∷ 4 ∷ 0 ∷ 0 ∷ 0 ∷ 9 ∷ []) ∷ turns.Call (calls.AcceptUni None) ∷ [])) ≡ record { answers = (answer (replies.Session 0) ([]) ∷ answer replies.Done (actions.ResetOut 0 256 ∷ []) ∷ answer (replies.Failed (errors.ApplicationClosed (record { code = 9; reason = ([]) }))) ([]) ∷ []); is_all = true }
 unfolding computed parsed
