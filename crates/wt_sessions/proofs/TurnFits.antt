@@ -13,6 +13,7 @@ use Rattle.wt_seam_spec.specs.Reports.{datagram_fact, end_of}
 use Rattle.wt_seam_spec.specs.Streams.{local_bi, local_uni, peer_bi, peer_uni}
 use Rattle.wt_sessions.proofs.CallFits.{Leads, accept-leads, continue-leads, dial-leads, does, either, end-leads, incoming-leads, not-true, open-leads, poll-leads, polls, receive-leads, respond-leads, send-leads, session-leads}
 use Rattle.wt_sessions.proofs.Turns.{Holds, entry-holds, flush-holds, is_asked, start-holds}
+use Rattle.wt_sessions.specs.Claims.{AllLawful}
 use Rattle.wt_sessions.specs.Answers.{call_effect, is_first, is_lawful, log_after, log_from, may_respond, on_receiving, on_sending, receive}
 use Rattle.wt_sessions.specs.Connection.{closed_reply, payload_limit}
 use Rattle.wt_sessions.specs.Driver.{call_view, flush, log_and_flush}
@@ -167,11 +168,6 @@ turn-holds side log (turns.MaxBi total) held lawful = event-holds side log held 
 turn-holds side log (turns.MaxData id total) held lawful = event-holds side log held _
 turn-holds side log (turns.DatagramLimit fact) held lawful = event-holds side log held _
 turn-holds side log (turns.Loss reason) held lawful = event-holds side log held _
-
--- each of these turns is lawful after those before it
-abbrev pub AllLawful : Side → Log → List Turn → Type 0
-AllLawful side log [] = Unit {0}
-AllLawful side log (turn ∷ later) = (is_lawful side log turn ≡ true) × AllLawful side (log_after side log turn) later
 
 -- every log that lawful turns lead to
 pub turns-hold : (side : Side) (all : List Turn) (log : Log) → Holds side log → AllLawful side log all → Holds side (log_from side log all)

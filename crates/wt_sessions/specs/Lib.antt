@@ -12,3 +12,4 @@ pub mod DriverState
 pub mod Step
 pub mod Plans
 pub mod Moment
+pub mod Claims
