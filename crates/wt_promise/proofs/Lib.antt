@@ -52,4 +52,6 @@ pub mod Ends
 pub mod OnlyOwed
 pub mod OwnEnds
 pub mod Amounts
+pub mod HeadFinish
+pub mod HeadOut
 pub mod Theorems

@@ -82,7 +82,7 @@ credit-none side [] i k n = refl
 credit-none side (p ∷ h) i k n = none-after side p h i k n (credit-none side h i.2 k)
 
 -- what the turn leaves of it
-credit-grows : (side : Side) (h : History) (turn : Turn) (a : Answer) → IsHistory side h → (k : ℕ) → is_lawful side h turn ≡ true → credit (events h) k ≤ credit (events (with_pair h turn a)) k
+pub credit-grows : (side : Side) (h : History) (turn : Turn) (a : Answer) → IsHistory side h → (k : ℕ) → is_lawful side h turn ≡ true → credit (events h) k ≤ credit (events (with_pair h turn a)) k
 credit-grows side h turn a i k l = by (is_open h) refl
   where
     same : credit (with_event (event_of turn) (events h)) k ≡ credit (events h) k → credit (events h) k ≤ credit (with_event (event_of turn) (events h)) k
@@ -128,7 +128,7 @@ take-split (suc a) b [] = none b ∙ sym (none (suc a + b))
     none (suc n) = refl
 take-split (suc a) b (x ∷ xs) = let e : suc a + b ≡ suc (a + b) = omega arith in rw e (ap (λ (ys : List ℕ). x ∷ ys) (take-split a b xs))
 
-take-short : (n : ℕ) (xs : List ℕ) → length (take n xs) ≤ n
+pub take-short : (n : ℕ) (xs : List ℕ) → length (take n xs) ≤ n
 take-short zero xs = omega arith
 take-short (suc n) [] = omega arith
 take-short (suc n) (x ∷ xs) = let e = take-short n xs in omega (arith, e)

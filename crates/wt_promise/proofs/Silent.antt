@@ -96,7 +96,7 @@ unreset-now side h i k b f (WithSession s (Admitted e) g) = begun-not-admitted s
 unreset-now side h i k b f (WithSession s (Opened name o n) g) = begun-not-opened side h i k b name (opened-first side h i k name o)
 
 -- the session of a stream that is polled isn't established
-polled-new : (side : Side) (h : History) (turn : Turn) (c : Call) (k : ℕ) → IsHistory side h → is_lawful side h turn ≡ true → polls turn ≡ true → going h turn ≡ Some c → head_stream h c ≡ k → is_established h k ≡ false
+pub polled-new : (side : Side) (h : History) (turn : Turn) (c : Call) (k : ℕ) → IsHistory side h → is_lawful side h turn ≡ true → polls turn ≡ true → going h turn ≡ Some c → head_stream h c ≡ k → is_established h k ≡ false
 polled-new Client h turn c k i l p g e = by (asks Client h turn l)
   where
     first : (x : History) → is_first x ≡ true → is_established x k ≡ false

@@ -6,7 +6,7 @@ use Rattle.wt_wire.specs.declared.side.Side.{Side}
 use Rattle.wt_meaning.specs.History.{History}
 use Rattle.wt_meaning.specs.Lawful.{is_lawful}
 use Rattle.wt_meaning.specs.Meaning.{meaning, next, run}
-use Rattle.wt_promise.specs.Promise.{AllLawful, BiAccepted, CutsFreely, DatagramReceived, DatagramsInOrder, EndsRightly, EstablishedRightly, ExactGives, FewLive, GivesWhatWaits, GoneIsTold, IsHistory, NothingAfterEnd, OnlyOwedGoesOut, OpenExactly, OwedGoesOut, PendingExactly, ReadGives, ReadsInOrder, ResultStays, SendsInOrder, SettingsGoOut, SilentAfterReset, UniAccepted, WriteAccepts, WriteAllAccepts}
+use Rattle.wt_promise.specs.Promise.{AllLawful, BiAccepted, CutsFreely, DatagramReceived, DatagramsInOrder, EndsRightly, EstablishedRightly, ExactGives, FewLive, GivesWhatWaits, GoneIsTold, HeadGoesOut, IsHistory, NothingAfterEnd, OnlyOwedGoesOut, OpenExactly, OwedGoesOut, PendingExactly, ReadGives, ReadsInOrder, ResultStays, SendsInOrder, SettingsGoOut, SilentAfterReset, UniAccepted, WriteAccepts, WriteAllAccepts}
 use Rattle.wt_promise.proofs.Accepted.{bi-accepted, datagram-received, uni-accepted}
 use Rattle.wt_promise.proofs.Amounts.{exact-gives, read-gives, write-accepts, write-all-accepts}
 use Rattle.wt_promise.proofs.Ended.{nothing-after-end}
@@ -23,6 +23,7 @@ use Rattle.wt_promise.proofs.Few.{few-live}
 use Rattle.wt_promise.proofs.ResultKept.{result-stays}
 use Rattle.wt_promise.proofs.SettingsOut.{settings-go-out}
 use Rattle.wt_promise.proofs.InOrder.{sends-in-order}
+use Rattle.wt_promise.proofs.HeadOut.{head-goes-out}
 use Rattle.wt_promise.proofs.SilentBehind.{silent-after-reset}
 use Rattle.wt_promise.proofs.Established.{established-rightly}
 use Rattle.wt_promise.proofs.GoneTold.{gone-told}
@@ -95,6 +96,9 @@ settings_theorem = settings-go-out
 
 pub sends_theorem : (side : Side) (h : History) → IsHistory side h → (k : ℕ) → SendsInOrder side h k
 sends_theorem = sends-in-order
+
+pub heads_theorem : (side : Side) (h : History) (turn : Turn) → IsHistory side h → is_lawful side h turn ≡ true → HeadGoesOut side h turn (next side h turn)
+heads_theorem = head-goes-out
 
 pub silent_theorem : (side : Side) (h : History) (turn : Turn) → IsHistory side h → is_lawful side h turn ≡ true → (k : ℕ) → SilentAfterReset h (next side h turn) k
 silent_theorem = silent-after-reset

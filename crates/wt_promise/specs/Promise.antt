@@ -6,7 +6,7 @@ use Rattle.url.specs.Parser.{parse_url}
 use Rattle.wt_message.specs.FixedBytes.{response_bytes}
 use Rattle.wt_proto.specs.ResponseWalk.{response_walk_of}
 use Rattle.wt_seam_spec.specs.Joined.{join_all}
-use Rattle.wt_seam_spec.specs.Reports.{credit, end_of, is_running, stop_of, unis_allowed}
+use Rattle.wt_seam_spec.specs.Reports.{bis_allowed, credit, end_of, is_connected, is_running, stop_of, unis_allowed}
 use Rattle.wt_seam_spec.specs.Sent.{finishes}
 use Rattle.wt_seam_spec.specs.Streams.{local_count, local_uni, peer_bi, peer_uni}
 use Rattle.wt_meaning.specs.ControlBytes.{local_control_bytes}
@@ -26,7 +26,7 @@ use Rattle.wt_meaning.specs.Findings.{Classified, Faulted, Finding, SessionClose
 use Rattle.wt_meaning.specs.Halves.{body_start, has_receiving, has_sending, is_closed, read_by, unread, was_read}
 use Rattle.wt_meaning.specs.Handshakes.{acceptance_frame, begun_by, is_nothing, is_opened, is_success, last_begun, response_fault}
 use Rattle.wt_meaning.specs.History.{History, Pair, actions_out, can_receive, can_send, contents, credit_left, events, is_given_up, is_handed_out, is_open, is_reset, is_reset_of, loses, out, was_finished}
-use Rattle.wt_meaning.specs.Lawful.{is_lawful, is_pending}
+use Rattle.wt_meaning.specs.Lawful.{is_lawful, is_pending, polls}
 use Rattle.wt_meaning.specs.Meaning.{answer_to, history_after, next, own_answer, with_pair}
 use Rattle.wt_meaning.specs.Moments.{findings}
 use Rattle.wt_meaning.specs.Sends.{admits, is_of_session}
@@ -424,6 +424,20 @@ head_on side h k =
 pub record SendsInOrder (side : Side) (h : History) (k : ℕ) : Type 0 where
   pub front : take (length (out h k)) (head_on side h k ++ accepted h k) ≡ out h k
   pub all : length (head_on side h k) ≤ length (out h k) → out h k ≡ head_on side h k ++ accepted h k
+
+-- the head of a response or a request may go out: a response's at once, a request's once the connection and the peer's
+-- SETTINGS came, where the peer allows a bidirectional stream
+abbrev pub head_may_go : Side → History → Bool
+head_may_go Server h = true
+head_may_go Client h = is_connected (events h) && settings_came (findings Client h) && nat_le 1 (bis_allowed (events h))
+
+-- a connect or a response that still waits, where its head may go out, has sent as much of that head as credit allows, on the
+-- stream of the request that was given last, or a connect's on stream 0
+abbrev pub HeadGoesOut : Side → History → Turn → Answer → Type 0
+HeadGoesOut side h turn a =
+    (polls turn && is_pending a.reply && head_may_go side h) ≡ true
+    → out (with_pair h turn a) (unwrap_or (last_request h) 0)
+    ≡ take (credit (events (with_pair h turn a)) (unwrap_or (last_request h) 0)) (head_of (last_begun (with_pair h turn a)))
 
 -- the action sends on the stream, or finishes it
 abbrev pub sends_on : ℕ → Action → Bool

@@ -6,7 +6,7 @@ ghost use Rattle.std.specs.Prelude.{◌≡◌, ℕ, List, Option, [], true};
 ghost use Rattle.wt_meaning.specs.History.{History};
 ghost use Rattle.wt_meaning.specs.Lawful.{is_lawful};
 ghost use Rattle.wt_meaning.specs.Meaning.{meaning, next, run};
-ghost use Rattle.wt_promise.specs.Promise.{AllLawful, BiAccepted, CutsFreely, DatagramReceived, DatagramsInOrder, EndsRightly, EstablishedRightly, ExactGives, FewLive, GivesWhatWaits, GoneIsTold, IsHistory, NothingAfterEnd, OnlyOwedGoesOut, OpenExactly, OwedGoesOut, PendingExactly, ReadGives, ReadsInOrder, ResultStays, SendsInOrder, SettingsGoOut, SilentAfterReset, UniAccepted, WriteAccepts, WriteAllAccepts};
+ghost use Rattle.wt_promise.specs.Promise.{AllLawful, BiAccepted, CutsFreely, DatagramReceived, DatagramsInOrder, EndsRightly, EstablishedRightly, ExactGives, FewLive, GivesWhatWaits, GoneIsTold, HeadGoesOut, IsHistory, NothingAfterEnd, OnlyOwedGoesOut, OpenExactly, OwedGoesOut, PendingExactly, ReadGives, ReadsInOrder, ResultStays, SendsInOrder, SettingsGoOut, SilentAfterReset, UniAccepted, WriteAccepts, WriteAllAccepts};
 ghost use Rattle.wt_turn.specs.declared.call.Call.{Call};
 ghost use Rattle.wt_turn.specs.declared.turn.Turn.{Turn};
 ghost use Rattle.wt_turn.specs.declared.call.Call.TheVariants as calls;
@@ -102,6 +102,11 @@ pub fn results_stay()
 /// Where a turn leaves the connection open but for what is found, and the peer allows a unidirectional stream, this end's control stream is open and has as much of its bytes as credit allows.
 pub fn settings_go_out()
     ensures settings { (side : Side) (h : History) (turn : Turn) → IsHistory side h → is_lawful side h turn ≡ true → SettingsGoOut side h turn (next side h turn) }
+{}
+
+/// A response that still waits has sent as much of its head as credit allows, and so has a connect, once the connection and the peer's SETTINGS came and the peer allows a bidirectional stream.
+pub fn heads_go_out_as_far_as_credit()
+    ensures heads { (side : Side) (h : History) (turn : Turn) → IsHistory side h → is_lawful side h turn ≡ true → HeadGoesOut side h turn (next side h turn) }
 {}
 
 /// What went out on a stream is a prefix of its head and of what writes accepted, and all of it once the head is out.
