@@ -1,0 +1,4 @@
+pub mod Cursor
+pub mod Reading
+pub mod SessionWords
+pub mod SessionReading
