@@ -1,0 +1,11 @@
+pub mod Consuming
+pub mod Taking
+pub mod HeaderLaws
+pub mod NextFrameLaws
+pub mod ReadLaws
+pub mod SessionFrames
+pub mod WriteLaws
+pub mod ConsumingAny
+pub mod ReadOn
+pub mod SessionReadOn
+pub mod Runs

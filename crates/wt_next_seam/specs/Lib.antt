@@ -1,0 +1,9 @@
+pub mod Writing
+pub mod Reading
+pub mod Reads
+pub mod UniHeader
+pub mod NextFrame
+pub mod Typed
+pub mod Lending
+pub mod ReadingAll
+pub mod Critical
