@@ -1,0 +1,11 @@
+pub mod Lists
+pub mod Readers
+pub mod Kept
+pub mod Arriving
+pub mod Windows
+pub mod Ending
+pub mod Classifying
+pub mod Looking
+pub mod Moment
+pub mod Pieces
+pub mod Calling
