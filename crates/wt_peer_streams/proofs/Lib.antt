@@ -1,0 +1,16 @@
+pub mod Lists
+pub mod ByNumberLaws
+pub mod Walking
+pub mod Head
+pub mod Streams
+pub mod Consuming
+pub mod Stays
+pub mod ReadLoop
+pub mod ScanLoop
+pub mod SessionsLaws
+pub mod DatagramLaws
+pub mod SlotsLaws
+pub mod EndLaws
+pub mod LookLaws
+pub mod ScanSoFar
+pub mod SessionsLoop

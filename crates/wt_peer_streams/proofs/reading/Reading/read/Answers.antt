@@ -1,0 +1,38 @@
+use Rattle.std.proofs.Common.{refl, ◌<◌, ◌≡◌, ◌∙◌, arith, ap, false, length, nat_lt, subst, sym, ℕ}
+use Rattle.std.proofs.lemmas.Bool.Decides.{nat_tests}
+use Rattle.std.specs.Prelude.{◌&&◌, ◌==◌, not}
+use Rattle.wt_kept.specs.Readers.{Slot, noted_if, reads_on_if}
+use Rattle.wt_next_transport.specs.Step.{end_now, unread_now}
+use Rattle.wt_peer_streams.proofs.ReadLoop.{Joins, either-over, goes-on, read-whole, shorter}
+use Rattle.wt_peer_streams.specs.Feeding.{Took}
+use Rattle.wt_seam_spec.specs.Reports.{is_running}
+use Rattle.wt_peer_streams.proofs.reading.Reading.read.Goals as goal
+
+pub loop-self-smaller : goal.loop-self-smaller
+loop-self-smaller g c =
+    subst (λ (k : ℕ). length (unread_now c.take_piece.new.t k) < length (unread_now c.loop-self.t c.loop-self.self.id)) (sym c.in_ok-take_piece.ensures.stream)
+    (shorter g.R.Reader.is_final g.R.Reader.fed c.loop-self.self.id c.loop-self.self.reader c.loop-self.t c.take_piece.new.self.reader c.take_piece.new.t c.in_ok-take_piece.ensures.took)
+
+pub loop-self-preserved : goal.loop-self-preserved
+loop-self-preserved g c =
+    let j : Joins g.R.Reader.is_final g.R.Reader.fed c.args.self.now.reader = record { none = c.is_final.ensures.none; joins = λ xs ys. c.is_final.ensures.joins xs ys } in
+    record {
+      so_far = goes-on g.R.Reader.is_final g.R.Reader.fed c.args.self.now.id c.args.self.now.reader c.args.t.now c.loop-self.self.reader c.loop-self.t c.take_piece.new.self.reader c.take_piece.new.t j c.loop-self.invariant.so_far
+          (subst (λ (k : ℕ). Took g.R.Reader.is_final g.R.Reader.fed k c.loop-self.self.reader c.loop-self.t c.take_piece.new.self.reader c.take_piece.new.t) c.loop-self.invariant.stream c.in_ok-take_piece.ensures.took);
+      stream = c.in_ok-take_piece.ensures.stream ∙ c.loop-self.invariant.stream;
+    }
+
+pub returns-clause-read : goal.returns-clause-read
+returns-clause-read g c =
+    let j : Joins g.R.Reader.is_final g.R.Reader.fed c.args.self.now.reader = record { none = c.is_final.ensures.none; joins = λ xs ys. c.is_final.ensures.joins xs ys } in
+    let over : (not (g.R.Reader.is_final c.loop-self.self.reader) && nat_lt 0 (length (unread_now c.loop-self.t c.args.self.now.id))) ≡ false =
+    ap (λ (k : ℕ). not (g.R.Reader.is_final c.loop-self.self.reader) && nat_lt 0 (length (unread_now c.loop-self.t k))) (sym c.loop-self.invariant.stream) ∙ (sym c.goes_on.ensures ∙ c.loop-self-test.false) in
+    (λ i. record {
+      reader = (ap (λ (s : Slot g.row.R.Denot). s.reader) c.note_end.ensures
+          ∙ ap (λ (k : ℕ). noted_if g.R.Reader.ended (not (is_running (end_now c.loop-self.t k)) && length (unread_now c.loop-self.t k) == 0) (end_now c.loop-self.t k) c.loop-self.self.reader) c.loop-self.invariant.stream) i;
+      transport = c.loop-self.t;
+    })
+    ∙ (read-whole g.R.Reader.is_final g.R.Reader.fed g.R.Reader.ended c.args.self.now.id c.args.self.now.reader c.args.t.now c.loop-self.self.reader c.loop-self.t j c.loop-self.invariant.so_far
+    (λ some. either-over (g.R.Reader.is_final c.loop-self.self.reader) (nat_lt 0 (length (unread_now c.loop-self.t c.args.self.now.id))) over (grind (arith, nat_tests, some)))
+    (not (is_running (end_now c.loop-self.t c.args.self.now.id)) && length (unread_now c.loop-self.t c.args.self.now.id) == 0) refl
+    ∙ sym (ap (λ b. reads_on_if g.R.Reader.is_final g.R.Reader.fed g.R.Reader.ended b c.args.self.now.id c.args.self.now.reader c.args.t.now) (sym c.is_final.ensures.answer ∙ c.if-is_final.false)))

@@ -1,0 +1,161 @@
+//! The peer's streams on which the connection rests.
+ghost use Rattle.std.specs.Prelude.{◌≡◌, ◌||◌, IfOk, None, OnOk, is_none};
+ghost use Rattle.wt_kept.specs.Looking.{has_ended};
+ghost use Rattle.wt_peer_streams.specs.Critical.{control_count, control_fed, control_feed, control_settings, read_control_at, with_control_at, with_once};
+
+use crate::reading::{Fed, Reading, is_running};
+use std::alloc::Global;
+use std::marker::Model;
+use std::sync::ledger::Ledger;
+use wt_next_proto::ControlReader;
+use wt_next_transport::Transport;
+use wt_proto::settings::Settings;
+use wt_proto::steps::Steps;
+use wt_wire::error::{ErrorCode, OutOfMemory};
+use wt_wire::ids::StreamId;
+
+/// The peer's streams of which there is one each: the control stream (RFC 9114, section 6.2.1) with the reader of what follows
+/// its type, and the QPACK streams (RFC 9204, section 4.2).
+#[derive(Drop)]
+pub struct CriticalStreams {
+    control: Option<Reading<ControlReader>>,
+    encoder: Option<StreamId>,
+    decoder: Option<StreamId>,
+}
+
+impl Model for CriticalStreams {
+    ghost use Rattle.wt_kept.specs.Kept.{CriticalNow};
+
+    ghost Value = { CriticalNow };
+
+    ghost view = { λ c. record { control = c.control; encoder = c.encoder; decoder = c.decoder } };
+}
+
+/// The stream is the one of its kind; false where one was there.
+fn set_once(place: &mut Option<StreamId>, id: StreamId) -> bool
+    ensures first { result ≡ is_none place.old }
+    ensures place { place.new ≡ with_once place.old id }
+{
+    if place.is_some() {
+        return false;
+    }
+    *place = Some(id);
+    true
+}
+
+/// Whether the stream, where it is there, ended.
+fn has_ended(stream: Option<StreamId>, t: &Transport) -> bool
+    ensures { result ≡ has_ended stream t.now }
+{
+    match stream {
+        Some(id) => !is_running(t.end(id)),
+        None => false,
+    }
+}
+
+impl CriticalStreams {
+    /// None came.
+    pub fn new() -> CriticalStreams
+        ensures { result ≡ record { control = None; encoder = None; decoder = None } }
+    {
+        CriticalStreams {
+            control: None,
+            encoder: None,
+            decoder: None,
+        }
+    }
+
+    // ---- each comes once
+
+    /// The stream is the control stream; false where one was there.
+    pub fn set_control(&mut self, alloc: Global, id: StreamId) -> bool
+        ensures first { result ≡ is_none self.old.control }
+        ensures place { self.new ≡ record self.old { control = with_control_at self.old.control id } }
+    {
+        if self.control.is_some() {
+            return false;
+        }
+        self.control = Some(Reading::new(id, ControlReader::new(alloc)));
+        true
+    }
+
+    /// The stream is the encoder's; false where one was there.
+    pub fn set_encoder(&mut self, id: StreamId) -> bool
+        ensures first { result ≡ is_none self.old.encoder }
+        ensures place { self.new ≡ record self.old { encoder = with_once self.old.encoder id } }
+    {
+        set_once(&mut self.encoder, id)
+    }
+
+    /// The stream is the decoder's; false where one was there.
+    pub fn set_decoder(&mut self, id: StreamId) -> bool
+        ensures first { result ≡ is_none self.old.decoder }
+        ensures place { self.new ≡ record self.old { decoder = with_once self.old.decoder id } }
+    {
+        set_once(&mut self.decoder, id)
+    }
+
+    // ---- the control stream
+
+    /// How many readers there are: that of the control stream.
+    pub fn readers(&self) -> usize
+        ensures { result ≡ control_count self.now.control }
+    {
+        match &self.control {
+            Some(_) => 1,
+            None => 0,
+        }
+    }
+
+    /// The peer's SETTINGS, where they came; a fault that comes after them doesn't take them back.
+    pub fn settings(&self) -> Option<Settings>
+        ensures { result ≡ control_settings self.now.control }
+    {
+        match &self.control {
+            Some(control) => control.outcome().settings,
+            None => None,
+        }
+    }
+
+    /// Feeds the control stream's reader bytes as they come; None where the stream is another.
+    pub fn feed<L: Ledger>(
+        &mut self,
+        id: StreamId,
+        piece: &[u8],
+        steps: &mut Steps<L>,
+    ) -> Result<Option<Fed>, OutOfMemory>
+        ensures fed { IfOk result (λ fed. fed ≡ control_feed id piece.now self.old.control) }
+        ensures control { OnOk result (self.new ≡ record self.old { control = control_fed id piece.now self.old.control }) }
+    {
+        match &mut self.control {
+            Some(control) if control.is(id) => Ok(Some(control.feed(piece, steps)?)),
+            _ => Ok(None),
+        }
+    }
+
+    /// Reads on what came on the control stream: its fault (RFC 9114, section 6.2.1).
+    pub fn read<L: Ledger>(
+        &mut self,
+        t: &mut Transport,
+        steps: &mut Steps<L>,
+    ) -> Result<Option<ErrorCode>, OutOfMemory>
+        ensures { IfOk result (λ fault. record { critical = self.new; fault = fault; transport = t.new } ≡ read_control_at self.old.control self.old t.old) }
+    {
+        match &mut self.control {
+            Some(control) => {
+                control.read(t, steps)?;
+                Ok(control.outcome().fault)
+            }
+            None => Ok(None),
+        }
+    }
+
+    // ---- QPACK's
+
+    /// Whether the encoder's or the decoder's stream ended, which they must not (RFC 9204, section 4.2).
+    pub fn has_qpack_ended(&self, t: &Transport) -> bool
+        ensures { result ≡ (has_ended self.now.encoder t.now || has_ended self.now.decoder t.now) }
+    {
+        has_ended(self.encoder, t) || has_ended(self.decoder, t)
+    }
+}

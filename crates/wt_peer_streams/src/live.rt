@@ -1,0 +1,203 @@
+//! A session that lives.
+ghost use Rattle.std.specs.Prelude.{◌≡◌, [], IfOk, OnOk, nat_lt};
+ghost use Rattle.wt_kept.specs.Kept.{WorkNow};
+ghost use Rattle.wt_kept.specs.Pieces.{fed_by};
+ghost use Rattle.wt_kept.specs.Readers.{fed_piece, read_on, session_rules};
+ghost use Rattle.wt_kept.specs.Windows.{first_datagram, first_stream_id, given_datagram, is_live, joined_by, with_datagram, with_stream};
+ghost use Rattle.wt_peer_streams.specs.Admitting.{admission_now};
+ghost use Rattle.wt_peer_streams.specs.Living.{after_news, in_window, live_taken, news_by, with_reader};
+
+use crate::datagram::Datagram;
+use crate::numbered::StreamIds;
+use crate::reading::{Fed, Reading};
+use crate::window::{Admission, Window};
+use std::alloc::Global;
+use std::marker::Model;
+use std::sync::ledger::Ledger;
+use wt_next_proto::SessionReader;
+use wt_next_transport::Transport;
+use wt_proto::session_walk::SessionWalk;
+use wt_proto::steps::Steps;
+use wt_turn::close::ApplicationClose;
+use wt_turn::piece::Piece;
+use wt_wire::error::{ErrorCode, OutOfMemory};
+use wt_wire::ids::{SessionId, StreamId};
+
+/// What the stream of a session that lived says.
+#[derive(Drop)]
+pub enum News {
+    /// The connection closes with this code.
+    Fault(ErrorCode),
+    /// The peer closed the session, by a capsule.
+    Capsule(ApplicationClose),
+    /// The peer closed the session, by a clean end.
+    CleanEnd(ApplicationClose),
+}
+
+/// A session that lives: the reader of its stream, what waits for it, and the streams that calls accepted or began to open, by id.
+#[derive(Drop)]
+pub(crate) struct LiveSession {
+    id: SessionId,
+    reading: Reading<SessionReader>,
+    window: Window,
+    members: StreamIds,
+}
+
+impl Model for LiveSession {
+    ghost use Rattle.std.specs.Prelude.{◌≡◌};
+    ghost use Rattle.wt_kept.specs.Kept.{LiveNow};
+
+    ghost Value = { LiveNow };
+
+    ghost view = { λ s. record { id = s.id; reader = s.reading.reader; window = s.window; members = s.members } };
+
+    ghost invariant = { λ s. s.reading.id ≡ s.id };
+}
+
+impl LiveSession {
+    /// It lives from now on, with what waited early for it.
+    pub(crate) fn begin(alloc: Global, id: SessionId, window: Window) -> LiveSession
+        ensures { result ≡ record { id = id; reader = session_rules.start; window = window; members = [] } }
+    {
+        LiveSession {
+            id,
+            reading: Reading::new(id.session_stream(), SessionReader::for_session(alloc)),
+            window,
+            members: StreamIds::new(alloc),
+        }
+    }
+
+    /// The session.
+    pub(crate) fn id(&self) -> SessionId
+        ensures { result ≡ self.now.id }
+    {
+        self.id
+    }
+
+    /// Whether it is this session.
+    pub(crate) fn is(&self, session: SessionId) -> bool
+        ensures { result ≡ is_live session self.now }
+    {
+        self.id == session
+    }
+
+    /// Whether its own stream is this one.
+    pub(crate) fn has_stream(&self, id: StreamId) -> bool
+        ensures { result ≡ is_live id self.now }
+    {
+        self.id.session_stream() == id
+    }
+
+    /// Whether its id is greater than this one.
+    pub(crate) fn comes_after(&self, session: SessionId) -> bool
+        ensures { result ≡ nat_lt session self.now.id }
+    {
+        session.session_stream().into_u64() < self.id.session_stream().into_u64()
+    }
+
+    /// A stream waits in its window.
+    pub(crate) fn admit_stream(
+        &mut self,
+        id: StreamId,
+        session: SessionId,
+    ) -> Result<Admission, OutOfMemory>
+        ensures { IfOk result (λ a. record { admission = admission_now a; live = self.new } ≡ in_window (with_stream (record { id = id; session = session })) self.old) }
+    {
+        self.window.admit_stream(id, session)
+    }
+
+    /// A datagram waits in its window.
+    pub(crate) fn admit_datagram(&mut self, datagram: Datagram) -> Result<Admission, OutOfMemory>
+        ensures { IfOk result (λ a. record { admission = admission_now a; live = self.new } ≡ in_window (with_datagram datagram) self.old) }
+    {
+        self.window.admit_datagram(datagram)
+    }
+
+    /// Feeds the reader of its stream bytes as they come.
+    pub(crate) fn feed<L: Ledger>(
+        &mut self,
+        piece: &[u8],
+        steps: &mut Steps<L>,
+    ) -> Result<Fed, OutOfMemory>
+        ensures fed { IfOk result (λ fed. fed ≡ fed_by session_rules self.old.reader piece.now) }
+        ensures reader { OnOk result (self.new ≡ with_reader (fed_piece session_rules self.old.reader piece.now) self.old) }
+    {
+        self.reading.feed(piece, steps)
+    }
+
+    /// What its stream says; None while the session goes on.
+    fn news(&self, alloc: Global) -> Result<Option<News>, OutOfMemory>
+        ensures { (w : WorkNow) → IfOk result (λ news. after_news self.now.id news w ≡ news_by self.now.id self.now.reader w) }
+    {
+        match self.reading.outcome() {
+            SessionWalk::Running => Ok(None),
+            SessionWalk::Fault(code) => Ok(Some(News::Fault(*code))),
+            SessionWalk::Closed(code, reason) => {
+                let reason = Piece::from_slice(alloc, reason.as_str().as_bytes())?;
+                let close = ApplicationClose::new(*code, reason);
+                if self.reading.reader().is_closed_by_capsule() {
+                    return Ok(Some(News::Capsule(close)));
+                }
+                Ok(Some(News::CleanEnd(close)))
+            }
+        }
+    }
+
+    /// Reads on what came on its stream, and tells what it says.
+    pub(crate) fn read<L: Ledger>(
+        &mut self,
+        t: &mut Transport,
+        steps: &mut Steps<L>,
+    ) -> Result<Option<News>, OutOfMemory>
+        ensures read { OnOk result (record { reader = self.new.reader; transport = t.new } ≡ read_on session_rules self.old.id self.old.reader t.old) }
+        ensures live { self.new ≡ with_reader self.new.reader self.old }
+        ensures news { (w : WorkNow) → IfOk result (λ news. after_news self.old.id news w ≡ news_by self.old.id self.new.reader w) }
+    {
+        self.reading.read(t, steps)?;
+        self.news(t.allocator())
+    }
+
+    /// A call began to open the stream.
+    pub(crate) fn join(&mut self, id: StreamId) -> Result<(), OutOfMemory>
+        ensures { OnOk result (self.new ≡ joined_by id self.old) }
+    {
+        self.members.add(id)
+    }
+
+    /// The next stream of this kind that waits, which it has from now on.
+    pub(crate) fn take_stream(
+        &mut self,
+        bidirectional: bool,
+    ) -> Result<Option<StreamId>, OutOfMemory>
+        ensures stream { IfOk result (λ id. id ≡ first_stream_id bidirectional self.old.window.streams) }
+        ensures live { IfOk result (λ id. self.new ≡ live_taken id self.old) }
+    {
+        let Some(id) = self.window.take_stream(bidirectional) else {
+            return Ok(None);
+        };
+        self.members.add(id)?;
+        Ok(Some(id))
+    }
+
+    /// The next datagram that waits.
+    pub(crate) fn take_datagram(&mut self) -> Option<Datagram>
+        ensures datagram { result ≡ first_datagram self.old.window.datagrams }
+        ensures live { self.new ≡ given_datagram self.old }
+    {
+        self.window.take_datagram()
+    }
+
+    /// What waits for it, and its streams.
+    pub(crate) fn into_parts(self) -> (Window, StreamIds)
+        ensures window { result.0 ≡ self.window }
+        ensures members { result.1 ≡ self.members }
+    {
+        let LiveSession {
+            id: _,
+            reading: _,
+            window,
+            members,
+        } = self;
+        (window, members)
+    }
+}

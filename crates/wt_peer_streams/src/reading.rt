@@ -1,0 +1,193 @@
+//! Reading on: a reader is fed what is unread of its stream, piece after piece.
+ghost use Rattle.std.specs.Prelude.{◌≡◌, ◌<◌, ◌==◌, ◌&&◌, ◌++◌, ℕ, List, [], IfOk, OnOk, false, length, nat_lt, not};
+ghost use Rattle.wt_kept.specs.Pieces.{feeds};
+ghost use Rattle.wt_kept.specs.Readers.{fed_piece_by, noted_if, reads_on};
+ghost use Rattle.wt_next_transport.specs.Step.{end_now, unread_now};
+ghost use Rattle.wt_peer_streams.specs.Feeding.{Took};
+ghost use Rattle.wt_seam_spec.specs.Reports.{is_running};
+
+use std::marker::Model;
+use std::sync::ledger::Ledger;
+use wt_next_proto::Reader;
+use wt_next_transport::Transport;
+use wt_proto::steps::Steps;
+use wt_wire::error::OutOfMemory;
+use wt_wire::ids::StreamId;
+use wt_wire::side::StreamEnd;
+
+/// Whether the peer's half goes on.
+pub(crate) fn is_running(end: StreamEnd) -> bool
+    ensures { result ≡ is_running end }
+{
+    match end {
+        StreamEnd::Running => true,
+        StreamEnd::Fin | StreamEnd::Reset(_) => false,
+    }
+}
+
+/// What a reader did with a piece.
+#[derive(Clone, Copy, Debug)]
+pub struct Fed {
+    taken: usize,
+    is_final: bool,
+}
+
+impl Model for Fed {
+    ghost use Rattle.wt_kept.specs.Pieces.{FedNow};
+
+    ghost Value = { FedNow };
+
+    ghost view = { λ f. record { taken = f.taken; is_final = f.is_final } };
+
+    ghost inverse = { λ f. record { taken = f.taken; is_final = f.is_final } };
+}
+
+impl Fed {
+    /// How many bytes of it it took.
+    pub fn taken(&self) -> usize
+        ensures { result ≡ self.now.taken }
+    {
+        self.taken
+    }
+
+    /// Whether its outcome is final, so that it takes no more.
+    pub fn is_final(&self) -> bool
+        ensures { result ≡ self.now.is_final }
+    {
+        self.is_final
+    }
+}
+
+/// A stream, and the reader of what comes on it.
+#[derive(Drop)]
+pub struct Reading<R: Reader> {
+    id: StreamId,
+    reader: R,
+}
+
+impl<R: Reader> Model for Reading<R> {
+    ghost use Rattle.wt_kept.specs.Readers.{Slot};
+
+    ghost Value = { Slot R };
+
+    ghost view = { λ s. record { id = s.id; reader = s.reader } };
+}
+
+impl<R: Reader> Reading<R> {
+    /// The stream, of which this reader took nothing.
+    pub fn new(id: StreamId, reader: R) -> Self
+        ensures { result ≡ record { id = id; reader = reader } }
+    {
+        Reading { id, reader }
+    }
+
+    /// Whether it is this stream.
+    pub fn is(&self, id: StreamId) -> bool
+        ensures { result ≡ (self.now.id == id) }
+    {
+        self.id == id
+    }
+
+    /// The reader.
+    pub fn reader(&self) -> &R
+        ensures { result.now ≡ self.now.reader }
+    {
+        &self.reader
+    }
+
+    /// What the stream says.
+    pub fn outcome(&self) -> &R::Outcome
+        ensures { result.now ≡ R.said self.now.reader }
+    {
+        self.reader.says()
+    }
+
+    /// The stream, and what it says.
+    pub fn into_outcome(self) -> (StreamId, R::Outcome)
+        ensures stream { result.0 ≡ self.id }
+        ensures outcome { result.1 ≡ R.said self.reader }
+    {
+        let Reading { id, reader } = self;
+        (id, reader.into_says())
+    }
+
+    /// Feeds the reader bytes as they come.
+    pub fn feed<L: Ledger>(
+        &mut self,
+        piece: &[u8],
+        steps: &mut Steps<L>,
+    ) -> Result<Fed, OutOfMemory>
+        ensures fed { IfOk result (λ fed. fed ≡ feeds R.is_final R.fed self.old.reader piece.now) }
+        ensures reader { OnOk result (self.new ≡ record self.old { reader = fed_piece_by R.is_final R.fed self.old.reader piece.now }) }
+        ensures stream { self.new.id ≡ self.old.id }
+    {
+        let taken = self.reader.take(piece, steps)?;
+        Ok(Fed {
+            taken,
+            is_final: self.reader.is_final(),
+        })
+    }
+
+    /// Whether the outcome is final, so that no byte is taken after it.
+    pub fn is_final(&self) -> bool
+        ensures answer { result ≡ R.is_final self.now.reader }
+        ensures joins { (xs ys : List ℕ) → R.fed (R.fed self.now.reader xs) ys ≡ R.fed self.now.reader (xs ++ ys) }
+        ensures none { R.fed self.now.reader [] ≡ self.now.reader }
+    {
+        self.reader.is_final()
+    }
+
+    /// Whether something is unread, and the outcome isn't final.
+    fn goes_on(&self, t: &Transport) -> bool
+        ensures { result ≡ (not (R.is_final self.now.reader) && nat_lt 0 (length (unread_now t.now self.now.id))) }
+    {
+        !self.reader.is_final() && t.unread(self.id) > 0
+    }
+
+    /// Feeds the reader, whose outcome isn't final, bytes of the first unread piece.
+    fn take_piece<L: Ledger>(
+        &mut self,
+        t: &mut Transport,
+        steps: &mut Steps<L>,
+    ) -> Result<(), OutOfMemory>
+        requires some { 0 < length (unread_now t.old self.old.id) }
+        requires goes { R.is_final self.old.reader ≡ false }
+        requires none { R.fed self.old.reader [] ≡ self.old.reader }
+        ensures took { OnOk result (Took R.is_final R.fed self.old.id self.old.reader t.old self.new.reader t.new) }
+        ensures stream { self.new.id ≡ self.old.id }
+    {
+        let piece = t.peek(self.id);
+        let taken = self.reader.take(piece, steps)?;
+        t.consume(self.id, taken);
+        Ok(())
+    }
+
+    /// Notes the end, which counts once all bytes before it were taken.
+    fn note_end(&mut self, t: &Transport)
+        ensures { self.new ≡ record self.old { reader = noted_if R.ended (not (is_running (end_now t.now self.old.id)) && length (unread_now t.now self.old.id) == 0) (end_now t.now self.old.id) self.old.reader } }
+    {
+        if !is_running(t.end(self.id)) && t.unread(self.id) == 0 {
+            self.reader.note(t.end(self.id));
+        }
+    }
+
+    /// Reads on what came and is unread, up to the byte with which the outcome is final, unless it is that already, and then
+    /// notes the end.
+    pub fn read<L: Ledger>(
+        &mut self,
+        t: &mut Transport,
+        steps: &mut Steps<L>,
+    ) -> Result<(), OutOfMemory>
+        ensures read { OnOk result (record { reader = self.new.reader; transport = t.new } ≡ reads_on R.is_final R.fed R.ended self.old.id self.old.reader t.old) }
+        ensures stream { self.new.id ≡ self.old.id }
+    {
+        if self.is_final() {
+            return Ok(());
+        }
+        while self.goes_on(t) {
+            self.take_piece(t, steps)?;
+        }
+        self.note_end(t);
+        Ok(())
+    }
+}
