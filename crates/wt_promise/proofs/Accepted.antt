@@ -1,4 +1,5 @@
 -- What an accept or a receive gives: the first that waits for the session that the call names.
+use Rattle.wt_promise.proofs.OwnForms.{AcceptedFor, BiAccepted, UniAccepted}
 use Rattle.std.specs.Prelude.{[], ◌%◌, ◌&&◌, ◌==◌, ◌∷◌, ◌||◌, ◌≡◌, Bool, List, None, Option, Some, false, filter, filter_map, if◌then◌else◌, not, true, ℕ}
 use Rattle.std.specs.List.{list_any}
 use Rattle.std.proofs.Common.{ap, refl, sym}
@@ -15,7 +16,6 @@ use Rattle.wt_meaning.specs.Moments.{findings}
 use Rattle.wt_meaning.specs.Rows.{Row, first_row, row, row_for}
 use Rattle.wt_meaning.specs.Sends.{admits}
 use Rattle.wt_meaning.specs.Windows.{admitted_stream, is_gone, named}
-use Rattle.wt_promise.specs.Promise.{AcceptedFor, BiAccepted, UniAccepted}
 use Rattle.wt_proto.specs.declared.verdict.Verdict.TheVariants as verdicts
 use Rattle.wt_turn.specs.declared.call.Call.TheVariants as calls
 use Rattle.wt_turn.specs.declared.reply.Reply.TheVariants as replies
@@ -91,7 +91,7 @@ is-first h gone kind s id (x ∷ found) q = later h kind s id x found (is-first 
 
 accepted-for : (side : Side) (h : History) (kind s id : ℕ) → first_waiting side h kind s ≡ Some id → AcceptedFor side h id kind s
 accepted-for side h kind s id q =
-    let f = is-first h (is_gone h (findings side h)) kind s id (findings side h) q in record { peers = f.peers; once = f.once; header = f.header; first = q }
+    let f = is-first h (is_gone h (findings side h)) kind s id (findings side h) q in record { peers = f.peers; once = f.once; header = f.header }
 
 -- ---- what the rows give
 

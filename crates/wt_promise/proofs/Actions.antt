@@ -204,7 +204,7 @@ opens-not kind side h found (SessionClosed session code reason false) =
 opens-not kind side h found (Faulted code) = refl
 opens-not kind side h found f = refl
 
-opens-none : (kind : ℕ) (side : Side) (h : History) (before new : List Finding) → list_any (opens kind) (actions_for_all side h before new) ≡ false
+pub opens-none : (kind : ℕ) (side : Side) (h : History) (before new : List Finding) → list_any (opens kind) (actions_for_all side h before new) ≡ false
 opens-none kind side h before [] = refl
 opens-none kind side h before (f ∷ new) = none-append (opens kind) (actions_for side h before f) (actions_for_all side h (before ++ f ∷ []) new) (opens-not kind side h before f) (opens-none kind side h (before ++ f ∷ []) new)
 

@@ -202,7 +202,7 @@ silent-call side h (calls.StopRecv id code) e l =
 -- ---- every turn
 
 -- a closed connection stays closed, so that nothing goes out at the moment either
-nothing-out : (side : Side) (h : History) (turn : Turn) → is_open h ≡ false → (own_answer side h turn).actions ≡ [] → (next side h turn).actions ≡ []
+pub nothing-out : (side : Side) (h : History) (turn : Turn) → is_open h ≡ false → (own_answer side h turn).actions ≡ [] → (next side h turn).actions ≡ []
 nothing-out side h turn e own =
     ap (λ as_. join_all [] (as_ ++ moment_actions side (with_pair h turn (own_answer side h turn)))) own ∙ ap (λ as_. join_all [] ([] ++ as_)) closed
   where

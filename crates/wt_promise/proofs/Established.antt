@@ -16,6 +16,8 @@ use Rattle.wt_meaning.specs.Moments.{findings}
 use Rattle.wt_meaning.specs.Rows.{first_row}
 use Rattle.wt_meaning.specs.Sends.{action_if}
 use Rattle.wt_meaning.specs.Windows.{is_established, is_number, last_request, request_in, requests, session_in}
+use Rattle.wt_promise.proofs.Aims.{same-head}
+use Rattle.wt_promise.proofs.OwnForms.{frame_or, head_of, head_on}
 use Rattle.wt_promise.proofs.Accepted.{and-right}
 use Rattle.wt_promise.proofs.Begun.{BegunFor, begun-for, last_stream, polled-stream}
 use Rattle.wt_promise.proofs.BytesOut.{bytes-append, bytes_on, out-add}
@@ -32,7 +34,8 @@ use Rattle.wt_promise.proofs.Shapes.{going}
 use Rattle.wt_promise.proofs.Shakes.{head_stream}
 use Rattle.wt_promise.proofs.Sessions.{AcceptGives, Accepted, ConnectGives, Connected, PollGives, accept-gives, is_connect, poll-gives}
 use Rattle.wt_promise.proofs.Tables.{fits-own}
-use Rattle.wt_promise.specs.Promise.{EstablishedFor, EstablishedRightly, IsHistory, accepted, begun_on, frame_or, head_of, head_on, header_on, is_acceptance}
+use Rattle.wt_promise.specs.Owed.{header_on}
+use Rattle.wt_promise.specs.Promise.{EstablishedFor, EstablishedRightly, IsHistory, accepted, begun_on, is_acceptance}
 use Rattle.wt_proto.specs.ResponseWalk.{response_walk_of}
 use Rattle.wt_seam_spec.specs.Reports.{end_of}
 use Rattle.wt_seam_spec.specs.Streams.{local_count, local_uni}
@@ -124,7 +127,7 @@ by-response : (h : History) (turn : Turn) (headers : Fields) (s : ℕ) → IsHis
 by-response h turn headers s i l q g e a = record {
   settings = given-settings Server h i r.0 r.2;
   asked = all-three true (is_number s (last_request (with_pair h turn (next Server h turn)))) (is_acceptance (last_begun (with_pair h turn (next Server h turn)))) refl given (ap is_acceptance g);
-  frame = frame-out Server h turn (calls.Accept headers) s i l q g (sym a.is_last) bytes full ∙ sym (ap head_of g);
+  frame = frame-out Server h turn (calls.Accept headers) s i l q g (sym a.is_last) bytes full ∙ sym (ap head_of g) ∙ same-head _;
   open_before = a.open_then;
   new = new-session Server h turn i l s e;
 }
@@ -152,7 +155,7 @@ by-connect : (h : History) (call c : Call) (s : ℕ) → IsHistory Client h → 
 by-connect h call c s i l q g x e a = record {
   settings = a.settings;
   asked = all-three (s == 0) (is_opened (p ∷ h)) (is_success (response_walk_of (contents (p ∷ h) 0) (end_of (events (p ∷ h)) 0))) (eq-eqb s 0 a.is_zero) opened walked;
-  frame = frame-out Client h (turns.Call call) c s i l q g (zero c x ∙ sym a.is_zero) bytes full ∙ sym (ap head_of g);
+  frame = frame-out Client h (turns.Call call) c s i l q g (zero c x ∙ sym a.is_zero) bytes full ∙ sym (ap head_of g) ∙ same-head _;
   open_before = a.open_then;
   new = new-session Client h (turns.Call call) i l s e;
 }

@@ -13,6 +13,7 @@ use Rattle.wt_meaning.specs.Meaning.{next, own_answer}
 use Rattle.wt_meaning.specs.Moments.{findings}
 use Rattle.wt_meaning.specs.Sends.{admits}
 use Rattle.wt_meaning.specs.Windows.{named}
+use Rattle.wt_promise.proofs.OwnForms.{frame_or, head_of, head_on}
 use Rattle.wt_promise.proofs.Asks.{Asks, Begins, Else, ForRequest, GoesOn, Responds, asks-of, of-connect, of-response}
 use Rattle.wt_promise.proofs.Begun.{PolledStream, begun, begun-for, begun-now, begun-same, first-begun, last_stream, polled-stream, stream-zero}
 use Rattle.wt_promise.proofs.BytesOut.{bytes_on, out-add}
@@ -27,7 +28,8 @@ use Rattle.wt_promise.proofs.Shapes.{going, is_accept}
 use Rattle.wt_promise.proofs.Stays.{named-stays}
 use Rattle.wt_promise.proofs.Tables.{fits-own}
 use Rattle.wt_promise.proofs.Verdicts.{accept-admits, admitted-later, admitted-peers}
-use Rattle.wt_promise.specs.Promise.{IsHistory, accepted, accepted_by, begun_on, frame_or, head_of, head_on, header_for, header_on}
+use Rattle.wt_promise.specs.Owed.{header_for, header_on}
+use Rattle.wt_promise.specs.Promise.{IsHistory, accepted, accepted_by, begun_on}
 use Rattle.wt_seam_spec.specs.Streams.{local_uni}
 use Rattle.wt_turn.specs.declared.answer.Answer.{Answer}
 use Rattle.wt_turn.specs.declared.call.Call.{Call}
@@ -60,7 +62,7 @@ polled-begun side p h i c q g = by (asks-of side p h i)
     by (Else a b m x n) = absurd (let r : false ≡ true = sym a ∙ q in cc r)
 
 -- an opening's is its header
-opening-head : (side : Side) (p : Pair) (h : History) → IsHistory side (p ∷ h) → (k s : ℕ) (name : Option ℕ) → (k == local_uni side) ≡ false → p.turn ≡ turns.Call (calls.PollOpening k) → being_opened h k ≡ Some name → named h name ≡ Some s
+pub opening-head : (side : Side) (p : Pair) (h : History) → IsHistory side (p ∷ h) → (k s : ℕ) (name : Option ℕ) → (k == local_uni side) ≡ false → p.turn ≡ turns.Call (calls.PollOpening k) → being_opened h k ≡ Some name → named h name ≡ Some s
     → head_on side (p ∷ h) k ≡ stream_header k s
 opening-head side p h i k s name n t o m =
     head-other side (p ∷ h) k n ∙ ap (λ (x : Option Call). frame_or x (header_on (p ∷ h) k (first_of (λ (q : Pair). opened_by k q.turn q.answer.reply) (p ∷ h)))) none

@@ -12,6 +12,7 @@ use Rattle.wt_meaning.specs.Meaning.{next, own_answer, with_pair}
 use Rattle.wt_meaning.specs.Rows.{first_row}
 use Rattle.wt_meaning.specs.Sends.{action_if}
 use Rattle.wt_meaning.specs.Windows.{is_established, named, session_in}
+use Rattle.wt_promise.proofs.OwnForms.{head_of}
 use Rattle.wt_promise.proofs.Accepted.{and-left, and-right}
 use Rattle.wt_promise.proofs.Asks.{begun-kind}
 use Rattle.wt_promise.proofs.Actions.{opened, opened-append, opened-out}
@@ -22,7 +23,7 @@ use Rattle.wt_promise.proofs.Sessions.{Accepted, Connected, PollGives, is_connec
 use Rattle.wt_promise.proofs.Stays.{exists-stays, named-stays, peers-stay}
 use Rattle.wt_promise.proofs.Tables.{fits-own}
 use Rattle.wt_promise.proofs.Waiting.{named-established}
-use Rattle.wt_promise.specs.Promise.{IsHistory, head_of}
+use Rattle.wt_promise.specs.Promise.{IsHistory}
 use Rattle.wt_seam_spec.specs.Reports.{unis_allowed}
 use Rattle.wt_seam_spec.specs.Streams.{local_bi, local_count, local_uni, one_more_if}
 use Rattle.wt_turn.specs.declared.answer.Answer.{Answer}

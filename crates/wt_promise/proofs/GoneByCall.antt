@@ -15,6 +15,7 @@ use Rattle.wt_meaning.specs.Moments.{findings, keeps}
 use Rattle.wt_meaning.specs.Rows.{first_row}
 use Rattle.wt_meaning.specs.Sends.{admits, session_finish, session_gone_actions}
 use Rattle.wt_meaning.specs.Windows.{gone_in, is_gone, is_gone_by_call, is_number, last_request, makes_gone, named, streams_in_window}
+use Rattle.wt_promise.proofs.OwnForms.{head_of}
 use Rattle.wt_promise.proofs.Accepted.{and-left, not-true}
 use Rattle.wt_promise.proofs.GoneWhy.{ByEnd, ByRejection, GoneBy, gone-by}
 use Rattle.wt_promise.proofs.Grows.{AClassified, AClosed, ADatagram, ADequeued, AFault, ASettings, Adds, Nothing, findings-keep, of-stream-fault}
@@ -23,7 +24,6 @@ use Rattle.wt_promise.proofs.ResultKept.{APolled, AResponse, Rejecting, is-rejec
 use Rattle.wt_promise.proofs.Shakes.{Finishes, Goes, GoesShuts, Rejects, Shake, Shut, Shuts, Still, gives_on, head_stream, shakes}
 use Rattle.wt_promise.proofs.Tables.{fits, fits-own, is_rejected}
 use Rattle.wt_promise.proofs.Waiting.{named-established}
-use Rattle.wt_promise.specs.Promise.{head_of}
 use Rattle.wt_turn.specs.declared.action.Action.{Action}
 use Rattle.wt_turn.specs.declared.answer.Answer.{Answer}
 use Rattle.wt_turn.specs.declared.call.Call.{Call}

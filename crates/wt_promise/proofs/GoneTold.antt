@@ -21,7 +21,8 @@ use Rattle.wt_promise.proofs.Grows.{findings-add, news}
 use Rattle.wt_promise.proofs.Owed.{has-right, moment-has}
 use Rattle.wt_promise.proofs.Stays.{any-newest, exists-stays, of-session-stays}
 use Rattle.wt_promise.proofs.Tables.{by-row, no-row}
-use Rattle.wt_promise.specs.Promise.{GoneIsTold, StreamTold, ends_sending, leaves_open, resets_with, stops_with, until_gone}
+use Rattle.wt_promise.proofs.OwnForms.{GoneByOwn, leaves_open, StreamTold, ends_sending, resets_with, stops_with}
+use Rattle.wt_promise.specs.Promise.{until_gone}
 use Rattle.wt_seam_spec.specs.Reports.{end_of, is_running}
 use Rattle.wt_seam_spec.specs.Sent.{finishes}
 use Rattle.wt_seam_spec.specs.Streams.{local_uni, peer_uni}
@@ -137,7 +138,7 @@ of-call h turn r s n side e = by turn refl (gone-by h turn r s n)
     by t i (ByRejection q last) = ap event_of i ∙ rejected t i q
     by t i (ByEnd name q known) = ap event_of q
 
-pub gone-told : (side : Side) (h : History) (turn : Turn) → GoneIsTold side h turn (next side h turn)
+pub gone-told : (side : Side) (h : History) (turn : Turn) → GoneByOwn side h turn (next side h turn)
 gone-told side h turn s k o way g later m = by (is_number s (gone_in h turn own.reply)) refl
   where
     own : Answer
@@ -171,7 +172,7 @@ gone-told side h turn s k o way g later m = by (is_number s (gone_in h turn own.
         by-either false i r = ap (λ (b : Bool). list_any (admits s k) (findings side h) || b) r ∙ or-true (list_any (admits s k) (findings side h))
 
     -- by a call
-    told-by-call : is_number s (gone_in h turn own.reply) ≡ true → StreamTold side h (with_pair h turn a) own a k
+    told-by-call : is_number s (gone_in h turn own.reply) ≡ true → StreamTold side h (with_pair h turn a) own.actions a k
     told-by-call n = record { receiving = receiving; sending = sending }
       where
         same-events : events (p ∷ h) ≡ events h
@@ -192,7 +193,7 @@ gone-told side h turn s k o way g later m = by (is_number s (gone_in h turn own.
             (and-left (exists side h k) _ (and-left (can_send side h k) _ (and-left (can_send side h k && not (was_finished h k)) _ e))) (before-call n) (resets-told side h k e))))
 
     -- by what is found
-    told-by-finding : leaves_open side h turn ≡ true → is_number s (gone_in h turn own.reply) ≡ false → StreamTold side h (with_pair h turn a) own a k
+    told-by-finding : leaves_open side h turn ≡ true → is_number s (gone_in h turn own.reply) ≡ false → StreamTold side h (with_pair h turn a) own.actions a k
     told-by-finding l n = record { receiving = receiving; sending = sending }
       where
         new : List Finding
@@ -240,6 +241,6 @@ gone-told side h turn s k o way g later m = by (is_number s (gone_in h turn own.
                 (told (resets_with k 0x170d7b68) (λ j y z. refl) (and-left (exists side h k) _ (and-left (can_send side h k) _ (and-left (can_send side h k && not (was_finished h k)) _ e)))
                 (resets-told side (p ∷ h) k (still-sends side h turn k o i e)))
 
-    by : (b : Bool) → is_number s (gone_in h turn own.reply) ≡ b → StreamTold side h (with_pair h turn a) own a k
+    by : (b : Bool) → is_number s (gone_in h turn own.reply) ≡ b → StreamTold side h (with_pair h turn a) own.actions a k
     by true i = told-by-call i
     by false i = told-by-finding (or-first (leaves_open side h turn) (is_number s (gone_in h turn own.reply)) way i) i

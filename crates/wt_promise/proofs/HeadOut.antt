@@ -16,6 +16,7 @@ use Rattle.wt_meaning.specs.Sends.{action_if, close_if_open}
 use Rattle.wt_meaning.specs.Targets.{Target, target_of}
 use Rattle.wt_meaning.specs.Windows.{is_established, last_request}
 use Rattle.wt_message.specs.FixedBytes.{response_bytes}
+use Rattle.wt_promise.proofs.OwnForms.{HeadByFrame, frame_of, frame_or, head_of, head_on}
 use Rattle.wt_promise.proofs.Accepted.{and-left, and-right, not-true, or-right}
 use Rattle.wt_promise.proofs.Begun.{BegunFor, begun-for, begun-stays, last_stream, polled-stream}
 use Rattle.wt_promise.proofs.BytesOut.{bytes-append, bytes-sent, bytes_on, out-add}
@@ -33,8 +34,9 @@ use Rattle.wt_promise.proofs.Shakes.{head_stream}
 use Rattle.wt_promise.proofs.Shapes.{going}
 use Rattle.wt_promise.proofs.Silent.{polled-new}
 use Rattle.wt_promise.proofs.Tables.{OfRows, by-row, by-value, no-row}
-use Rattle.wt_promise.specs.Promise.{HeadGoesOut, IsHistory, accepted, begun_on, frame_of, frame_or, head_may_go, head_of, head_on, header_on}
-use Rattle.wt_promise.specs.Waits.{connect_waits, handshake_waits, on_target}
+use Rattle.wt_promise.specs.Owed.{header_on}
+use Rattle.wt_promise.specs.Promise.{IsHistory, accepted, begun_on, head_may_go}
+use Rattle.wt_promise.proofs.Waits.{connect_waits, handshake_waits, on_target}
 use Rattle.wt_proto.specs.ResponseWalk.{response_walk_of}
 use Rattle.wt_proto.specs.declared.response_walk.ResponseWalk.{ResponseWalk}
 use Rattle.wt_seam_spec.specs.Reports.{bis_allowed, credit, end_of, is_connected}
@@ -199,7 +201,7 @@ polled-goes Client h turn c i l p g w m = by turn l p g w (polled-stream Client 
 
 -- ---- no more than credit goes out on a stream that wasn't handed out
 
-below : (side : Side) (h : History) → IsHistory side h → (k : ℕ) → (k == local_uni side) ≡ false → is_handed_out h k ≡ false → length (out h k) ≤ credit (events h) k
+pub below : (side : Side) (h : History) → IsHistory side h → (k : ℕ) → (k == local_uni side) ≡ false → is_handed_out h k ≡ false → length (out h k) ≤ credit (events h) k
 below side [] i k n f = omega arith
 below side (p ∷ h) i k n f = by (sent-own side h k p.turn) (below side h i.2 k n before)
   where
@@ -314,8 +316,8 @@ as-credit side h turn c s i l q g e w x = by x
 
     ended : WasFinished side h s → out (p ∷ h) s ≡ take (credit (events (p ∷ h)) s) frame
     ended (ByHand y) = absurd (clash (is_handed_out h s) y (or-right (hands_out s (next side h turn).reply) (is_handed_out h s) kept))
-    ended (OfSession y) = absurd (clash (is_established h s) y (polled-new side h turn c s i l q g e))
-    ended (Whole d y long) =
+    ended (OfSession y z) = absurd (clash (is_established h s) y (polled-new side h turn c s i l q g e))
+    ended (Whole d x y z long) =
         let same : Some d ≡ Some c = sym (begun-stays p h s d y) ∙ begun in
         let one : d ≡ c = cc same in
         whole (omega (arith, long, ap (λ (b : Call). length (head_of (Some b))) one, ap length (out-add p h s), length-append (out h s) (bytes_on s (next side h turn).actions)))
@@ -337,7 +339,7 @@ going-on side h (turns.Call calls.TooManyRequests) i l p w g = cc g
 going-on side h (turns.Call c) i l p w g = cc p
 going-on side h turn i l p w g = cc p
 
-pub head-goes-out : (side : Side) (h : History) (turn : Turn) → IsHistory side h → is_lawful side h turn ≡ true → HeadGoesOut side h turn (next side h turn)
+pub head-goes-out : (side : Side) (h : History) (turn : Turn) → IsHistory side h → is_lawful side h turn ≡ true → HeadByFrame side h turn (next side h turn)
 head-goes-out side h turn i l e = by (going h turn) refl
   where
     front : (polls turn && is_pending (next side h turn).reply) ≡ true

@@ -5,12 +5,12 @@ use Rattle.std.specs.Option.{option_or}
 use Rattle.std.proofs.Common.{◌∙◌, ap, arith, refl, sym}
 use Rattle.std.proofs.lemmas.Bool.{eq-eqb, ltb-true}
 use Rattle.wt_meaning.specs.Calls.{opened_by}
-use Rattle.wt_meaning.specs.ControlBytes.{local_control_bytes}
 use Rattle.wt_meaning.specs.Findings.{first_of}
 use Rattle.wt_meaning.specs.History.{History, Pair, exists, hands_out, is_handed_out, next_id, stream_count}
 use Rattle.wt_meaning.specs.Meaning.{next, own_answer}
 use Rattle.wt_meaning.specs.Moments.{findings}
 use Rattle.wt_meaning.specs.Sends.{admits}
+use Rattle.wt_promise.proofs.OwnForms.{frame_or, head_on}
 use Rattle.wt_promise.proofs.Accepted.{or-right}
 use Rattle.wt_promise.proofs.Begun.{BegunFor, begun-for, begun-stays}
 use Rattle.wt_promise.proofs.ControlKept.{some-name}
@@ -22,7 +22,8 @@ use Rattle.wt_promise.proofs.Opened.{OpensFor, opens-for}
 use Rattle.wt_promise.proofs.Sent.{Given, Opening, Polled, Quiet, Sent, Wrote, sent-own}
 use Rattle.wt_promise.proofs.Stays.{named-stays}
 use Rattle.wt_promise.proofs.Verdicts.{ByAccept, ByOpening, HandedBy, admitted-peers, given-kept, given-not-admitted, given-peers, handed-by}
-use Rattle.wt_promise.specs.Promise.{IsHistory, accepted, accepted_by, begun_on, frame_or, head_on, header_for, header_on}
+use Rattle.wt_promise.specs.Owed.{control_bytes, header_for, header_on}
+use Rattle.wt_promise.specs.Promise.{IsHistory, accepted, accepted_by, begun_on}
 use Rattle.wt_seam_spec.specs.Streams.{local_bi, local_uni}
 use Rattle.wt_turn.specs.declared.answer.Answer.{Answer}
 use Rattle.wt_turn.specs.declared.call.Call.{Call}
@@ -77,7 +78,7 @@ begun-not-admitted Server h i k s b e = clash (list_any (admits s k) (findings S
 -- ---- heads
 
 pub head-other : (side : Side) (h : History) (k : ℕ) → (k == local_uni side) ≡ false → head_on side h k ≡ frame_or (begun_on h k) (header_on h k (first_of (λ (p : Pair). opened_by k p.turn p.answer.reply) h))
-head-other side h k n = ap (λ (b : Bool). if b then local_control_bytes else frame_or (begun_on h k) (header_on h k (first_of (λ (p : Pair). opened_by k p.turn p.answer.reply) h))) n
+head-other side h k n = ap (λ (b : Bool). if b then control_bytes else frame_or (begun_on h k) (header_on h k (first_of (λ (p : Pair). opened_by k p.turn p.answer.reply) h))) n
 
 -- the head stays, or the stream had none and wasn't handed out
 pub data HeadStep (side : Side) (p : Pair) (h : History) (k : ℕ) : Type 0 where

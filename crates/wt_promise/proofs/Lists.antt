@@ -9,6 +9,7 @@ use Rattle.wt_meaning.specs.Meaning.{after_bytes, bytes_actions, history_after, 
 use Rattle.wt_meaning.specs.Sends.{moment_actions}
 use Rattle.wt_promise.specs.Promise.{AllLawful, CutsFreely}
 use Rattle.wt_promise.proofs.Joins.{join_all-assoc}
+use Rattle.wt_promise.proofs.Prefixes.{cut-lawful}
 use Rattle.wt_turn.specs.declared.turn.Turn.TheVariants as turns
 
 -- the run of a lawful list is its meaning
@@ -36,4 +37,4 @@ bytes_actions-append side h k (b ∷ xs) ys =
 
 -- a piece may be cut in two anywhere
 pub cuts-freely : (side : Side) (h : History) (k : ℕ) (first second : List ℕ) → CutsFreely side h k first second
-cuts-freely side h k first second = record { history = after_bytes-append side h k first second; actions = bytes_actions-append side h k first second }
+cuts-freely side h k first second = record { lawful = cut-lawful side h k first second; history = after_bytes-append side h k first second; actions = bytes_actions-append side h k first second }

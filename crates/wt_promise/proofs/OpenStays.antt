@@ -12,7 +12,8 @@ use Rattle.wt_message.specs.Datagram.{datagram_of}
 use Rattle.wt_promise.proofs.Accepted.{and-right}
 use Rattle.wt_promise.proofs.Actions.{any-next, closes-by-fault, control-closes-not, opened-next}
 use Rattle.wt_promise.proofs.Grows.{findings-add, first_of-append, news, news-dropped}
-use Rattle.wt_promise.specs.Promise.{IsHistory, OpenExactly}
+use Rattle.wt_promise.proofs.OwnForms.{OpenByOwn}
+use Rattle.wt_promise.specs.Promise.{IsHistory}
 use Rattle.wt_proto.specs.declared.control_walk.ControlWalk.{ControlWalk}
 use Rattle.wt_proto.specs.declared.verdict.Verdict.{Verdict}
 use Rattle.wt_seam_spec.specs.Streams.{local_count}
@@ -152,7 +153,7 @@ open-tests false false false m n f e g = ap (λ (b : Bool). not (b || false)) (e
 open-by : (l c x : Bool) → l ≡ false → c ≡ false → x ≡ false → not ((l || c) || x) ≡ true
 open-by l c x e f g = rw (e, f, g) refl
 
-open-exactly-with : (side : Side) (h : History) (turn : Turn) → NoFault side h → OpenExactly side h turn (next side h turn)
+open-exactly-with : (side : Side) (h : History) (turn : Turn) → NoFault side h → OpenByOwn side h turn (next side h turn)
 open-exactly-with side h turn n =
     open-tests (list_any ends_by h) (loses turn) (list_any closes own.actions) (list_any closes (moment_actions side (q ∷ h))) (list_any closes (next side h turn).actions)
     (is_none (fault_of (findings side (with_pair h turn (next side h turn))))) (any-next closes (λ k x y. refl) side h turn)
@@ -172,8 +173,8 @@ none-at-first side = refl
 pub no-fault : (side : Side) (h : History) → IsHistory side h → is_open h ≡ true → fault_of (findings side h) ≡ None
 no-fault side [] i o = none-at-first side
 no-fault side (p ∷ h) i o =
-    let e : OpenExactly side h p.turn p.answer = rw i.1 (open-exactly-with side h p.turn (no-fault side h i.2)) in
+    let e : OpenByOwn side h p.turn p.answer = rw i.1 (open-exactly-with side h p.turn (no-fault side h i.2)) in
     none-of (fault_of (findings side (p ∷ h))) (and-right (is_open h && not (loses p.turn) && not (list_any closes (own_answer side h p.turn).actions)) (is_none (fault_of (findings side (p ∷ h)))) (sym e ∙ o))
 
-pub open-exactly : (side : Side) (h : History) (turn : Turn) → IsHistory side h → OpenExactly side h turn (next side h turn)
+pub open-exactly : (side : Side) (h : History) (turn : Turn) → IsHistory side h → OpenByOwn side h turn (next side h turn)
 open-exactly side h turn i = open-exactly-with side h turn (no-fault side h i)

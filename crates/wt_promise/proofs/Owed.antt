@@ -1,27 +1,22 @@
 -- What a finding owes goes out in the answer in which it is found.
-use Rattle.std.specs.Prelude.{[], ◌++◌, ◌==◌, ◌∷◌, ◌||◌, ◌≡◌, Bool, List, None, Some, drop, false, if◌then◌else◌, is_some, length, true, ℕ}
+use Rattle.std.specs.Prelude.{[], ◌++◌, ◌==◌, ◌∷◌, ◌||◌, ◌≡◌, Bool, List, drop, if◌then◌else◌, length, true, ℕ}
 use Rattle.std.specs.List.{list_any}
 use Rattle.std.proofs.Common.{◌∙◌, ap, append_assoc, append-nil, refl, sym}
 use Rattle.std.proofs.Math.Seq.{drop-append_seam}
 use Rattle.std.proofs.lemmas.Bool.{eq-eqb}
 use Rattle.std.proofs.lemmas.List.Folds.{list_any-append}
-use Rattle.wt_meaning.specs.Findings.{Classified, Faulted, Finding, SessionClosed}
-use Rattle.wt_meaning.specs.History.{History, events}
+use Rattle.wt_meaning.specs.Findings.{Finding}
+use Rattle.wt_meaning.specs.History.{History}
 use Rattle.wt_meaning.specs.Meaning.{next, own_answer, with_pair}
 use Rattle.wt_meaning.specs.Moments.{findings}
 use Rattle.wt_meaning.specs.Sends.{actions_for, actions_for_all, control_actions, moment_actions}
-use Rattle.wt_meaning.specs.Windows.{is_gone}
 use Rattle.wt_promise.proofs.Accepted.{or-true}
 use Rattle.wt_promise.proofs.Actions.{AnyPiece, any-next}
 use Rattle.wt_promise.proofs.OpenStays.{same-findings}
-use Rattle.wt_promise.specs.Promise.{OwedGoesOut, closes_with, leaves_open, owes, resets_with, stops_with}
-use Rattle.wt_seam_spec.specs.Reports.{stop_of}
-use Rattle.wt_seam_spec.specs.Sent.{finishes}
+use Rattle.wt_promise.proofs.OwnForms.{leaves_open, stops_with}
 use Rattle.wt_turn.specs.declared.action.Action.{Action}
 use Rattle.wt_turn.specs.declared.turn.Turn.{Turn}
-use Rattle.wt_wire.specs.Codes.{code_of}
 use Rattle.wt_wire.specs.declared.side.Side.{Side}
-use Rattle.wt_proto.specs.declared.verdict.Verdict.TheVariants as verdicts
 use Rattle.wt_turn.specs.declared.action.Action.TheVariants as actions
 
 -- ---- a list has what its parts have
@@ -68,38 +63,3 @@ stop-there id code = rw (same id, same code) refl
 -- the code for a stream that no window takes
 abbrev pub gone_code : Bool → ℕ
 gone_code gone = if gone then 0x170d7b68 else 0x3994bd84
-
-owed-by : (side : Side) (h : History) (found : List Finding) (f : Finding) (test : Action → Bool) → owes h found f ≡ Some test → list_any test (actions_for side h found f) ≡ true
-owed-by side h found (Classified id (verdicts.WebTransport session offset) false) test e =
-    let t : test ≡ stops_with id (gone_code (is_gone h found session)) = cc e in rw (t, stop-there id (gone_code (is_gone h found session))) refl
-owed-by side h found (Classified id (verdicts.Refused code) keeps) test e = let t : test ≡ stops_with id (code_of code) = cc e in rw (t, stop-there id (code_of code)) refl
-owed-by side h found (Classified id (verdicts.Request headers offset) false) test e = let t : test ≡ stops_with id 0x10b = cc e in rw (t, stop-there id 0x10b) refl
-owed-by side h found (SessionClosed session code reason true) test e = let t : test ≡ resets_with session 0x100 = cc e in rw (t, same session) refl
-owed-by side h found (SessionClosed session code reason false) test e = by (is_some (stop_of (events h) session)) refl e
-  where
-    by : (b : Bool) → is_some (stop_of (events h) session) ≡ b → (if b then None else Some (finishes session)) ≡ Some test → list_any test (actions_for side h found (SessionClosed session code reason false)) ≡ true
-    by true i q = absurd (cc q)
-    by false i q = let t : test ≡ finishes session = cc q in rw (t, i, same session) refl
-owed-by side h found (Faulted code) test e = let t : test ≡ closes_with (code_of code) = cc e in rw (t, same (code_of code)) refl
-owed-by side h found f test e = absurd (cc e)
-
--- no such test asks anything of a piece
-asks-no-piece : (h : History) (found : List Finding) (f : Finding) (test : Action → Bool) → owes h found f ≡ Some test → AnyPiece test
-asks-no-piece h found (Classified id (verdicts.WebTransport session offset) false) test e =
-    let t : test ≡ stops_with id (gone_code (is_gone h found session)) = cc e in λ i p q. rw t refl
-asks-no-piece h found (Classified id (verdicts.Refused code) keeps) test e = let t : test ≡ stops_with id (code_of code) = cc e in λ i p q. rw t refl
-asks-no-piece h found (Classified id (verdicts.Request headers offset) false) test e = let t : test ≡ stops_with id 0x10b = cc e in λ i p q. rw t refl
-asks-no-piece h found (SessionClosed session code reason true) test e = let t : test ≡ resets_with session 0x100 = cc e in λ i p q. rw t refl
-asks-no-piece h found (SessionClosed session code reason false) test e = by (is_some (stop_of (events h) session)) e
-  where
-    by : (b : Bool) → (if b then None else Some (finishes session)) ≡ Some test → AnyPiece test
-    by true q = absurd (cc q)
-    by false q = let t : test ≡ finishes session = cc q in λ i p q. rw t refl
-asks-no-piece h found (Faulted code) test e = let t : test ≡ closes_with (code_of code) = cc e in λ i p q. rw t refl
-asks-no-piece h found f test e = absurd (cc e)
-
-pub owed-goes-out : (side : Side) (h : History) (turn : Turn) → OwedGoesOut side h turn (next side h turn)
-owed-goes-out side h turn before after f test o e w =
-    moment-has test (asks-no-piece (with_pair h turn (next side h turn)) (findings side h ++ before) f test w) side h turn (before ++ f ∷ after) o e
-    (among test side (with_pair h turn (own_answer side h turn)) (findings side h) before after f
-    (owed-by side (with_pair h turn (own_answer side h turn)) (findings side h ++ before) f test w))

@@ -14,6 +14,7 @@ use Rattle.wt_meaning.specs.Moments.{findings}
 use Rattle.wt_meaning.specs.Rows.{answer}
 use Rattle.wt_meaning.specs.Sends.{action_if, close_if_open, is_of_session, session_gone_actions, stream_gone_actions, stream_ids}
 use Rattle.wt_meaning.specs.Windows.{gone_in, is_number, last_request, named}
+use Rattle.wt_promise.proofs.OwnForms.{head_of}
 use Rattle.wt_promise.proofs.Accepted.{or-first}
 use Rattle.wt_promise.proofs.Actions.{none-append, none-gone, none-if, none-sent}
 use Rattle.wt_promise.proofs.Begun.{polled-stream}
@@ -22,7 +23,7 @@ use Rattle.wt_promise.proofs.Flow.{clash}
 use Rattle.wt_promise.proofs.Shapes.{going}
 use Rattle.wt_promise.proofs.Sessions.{is_connect}
 use Rattle.wt_promise.proofs.Shakes.{Finishes, Goes, GoesShuts, Rejects, Shake, Shut, Shuts, Still, head_stream, rest}
-use Rattle.wt_promise.specs.Promise.{IsHistory, acts_on, head_of, sends_on}
+use Rattle.wt_promise.specs.Promise.{IsHistory, acts_on, sends_on}
 use Rattle.wt_seam_spec.specs.Reports.{end_of, is_running}
 use Rattle.wt_turn.specs.declared.action.Action.{Action}
 use Rattle.wt_turn.specs.declared.answer.Answer.{Answer}
@@ -37,7 +38,7 @@ use Rattle.wt_turn.specs.declared.reply.Reply.TheVariants as replies
 
 -- why a call sends on the stream, or finishes it
 pub data SendsWhy (side : Side) (h : History) (k : ℕ) (turn : Turn) : Type 0 where
-  Writes : is_closed h k ≡ false → SendsWhy side h k turn
+  Writes : is_handed_out h k ≡ true → is_closed h k ≡ false → SendsWhy side h k turn
   Polls : (c : Call) → polls turn ≡ true → going h turn ≡ Some c → head_stream h c ≡ k → SendsWhy side h k turn
   Opens : (name : Option ℕ) (s : ℕ) → being_opened h k ≡ Some name → named h name ≡ Some s → is_living side h s ≡ true → SendsWhy side h k turn
   Ends : is_living side h k ≡ true → SendsWhy side h k turn

@@ -89,14 +89,14 @@ acts-shape side h k call i l a x = by a x
     by : (b : Answer) → Shape side h call b → OwnActs side h k (turns.Call call) b
     by b (Nothing r n) = neither side h k (turns.Call call) r [] refl refl
     by b Nought = neither side h k (turns.Call call) (replies.Written 0) [] refl refl
-    by b (Alone r t x n u m) =
+    by b (Alone r t x n u m o) =
         neither side h k (turns.Call call) r (action_if t x) (none-if (sends_on k) t x (or-left (sends_on k x) (is_reset_of k x) (u k))) (none-if (is_reset_of k) t x (or-right (sends_on k x) (is_reset_of k x) (u k)))
     by b (Writing id bytes piece r g n e w s o) =
-        on-stream side h k id (turns.Call call) r (send h id bytes) (sends-other h k id bytes) (sends-no-reset h k id bytes) (λ q. Writes (ap (is_closed h) (sym q) ∙ n))
+        on-stream side h k id (turns.Call call) r (send h id bytes) (sends-other h k id bytes) (sends-no-reset h k id bytes) (λ q. Writes (ap (is_handed_out h) (sym q) ∙ g) (ap (is_closed h) (sym q) ∙ n))
     by b (Polling id s name r c o m v j) =
         on-stream side h k id (turns.Call call) r (send h id (head_left h id (stream_header id s))) (sends-other h k id (head_left h id (stream_header id s))) (sends-no-reset h k id (head_left h id (stream_header id s)))
         (λ q. Opens name s (ap (being_opened h) (sym q) ∙ o) m v)
-    by b (Finishing id c n) = on-stream side h k id (turns.Call call) replies.Pending (actions.Finish id ∷ []) (λ m. ap (λ (b : Bool). b || false) m) refl (λ e. Writes (ap (is_closed h) (sym e) ∙ n))
+    by b (Finishing id c ha n) = on-stream side h k id (turns.Call call) replies.Pending (actions.Finish id ∷ []) (λ m. ap (λ (b : Bool). b || false) m) refl (λ e. Writes (ap (is_handed_out h) (sym e) ∙ ha) (ap (is_closed h) (sym e) ∙ n))
     by b (Resetting id code c g n) = subst (λ (d : Call). OwnActs side h k (turns.Call d) (answer replies.Done (action_if (is_open h) (actions.ResetOut id code)))) (sym c) (reset-acts side h k id code g n)
     by b (Ending s name c m o v) =
         subst (λ (d : Call). OwnActs side h k (turns.Call d) (answer replies.Done (session_finish h s ++ session_gone_actions side h (findings side h) s))) (sym c) (ended-acts side h k name s m o v)

@@ -23,7 +23,7 @@ use Rattle.wt_meaning.specs.Rows.{row}
 use Rattle.wt_meaning.specs.Moments.{findings}
 use Rattle.wt_meaning.specs.Targets.{Target, target_of}
 use Rattle.wt_meaning.specs.Windows.{is_gone, last_request, named, queued_request, waiting_datagrams, waiting_streams}
-use Rattle.wt_promise.specs.Waits.{awaits_credit, datagram_waits, is_empty, nothing_left, on_target, opening_waits, rejection_waits, request_waits, response_waits, stream_waits}
+use Rattle.wt_promise.proofs.Waits.{awaits_credit, datagram_waits, is_empty, nothing_left, on_target, opening_waits, rejection_waits, request_waits, response_waits, stream_waits}
 use Rattle.wt_promise.proofs.Waiting.{acceptance-waits, and-false, asked-waits, begin-waits, closed-waits, exact-waits, finish-waits, first-unless, first-waits, given-waits, half-waits, named-established, open-waits, opening-waits, read-waits, rejection-waits, send_datagram-waits, session-never, session-waits, stopped-waits, waits, write-waits, write_all-waits}
 use Rattle.wt_turn.specs.declared.call.Call.TheVariants as calls
 use Rattle.wt_turn.specs.declared.connection_error.ConnectionError.TheVariants as errors

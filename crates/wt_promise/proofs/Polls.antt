@@ -21,7 +21,8 @@ use Rattle.wt_meaning.specs.Moments.{findings}
 use Rattle.wt_meaning.specs.Rows.{Row, first_row, row, row_for}
 use Rattle.wt_meaning.specs.Targets.{Target, target_of}
 use Rattle.wt_promise.specs.Promise.{IsHistory}
-use Rattle.wt_promise.specs.Waits.{awaits_response, connect_waits, handshake_waits}
+use Rattle.wt_promise.proofs.Accepted.{and-left}
+use Rattle.wt_promise.proofs.Waits.{awaits_response, connect_waits, handshake_waits, nothing_left}
 use Rattle.wt_promise.proofs.Pending.{WaitsRightly, response-rightly, waits-rightly}
 use Rattle.wt_promise.proofs.Waiting.{and-false, waits}
 use Rattle.wt_proto.specs.declared.response_walk.ResponseWalk.TheVariants as responses
@@ -142,3 +143,8 @@ poll-rightly side h i w = let b = begun side h i w in rw b.last (poll-waits side
 pub call-waits : (side : Side) (h : History) (call : Call) → IsHistory side h → may_call side h call ≡ true → WaitsRightly side h call
 call-waits side h calls.Handshake i lawful = poll-rightly side h i lawful
 call-waits side h call i lawful = waits-rightly side h call (λ e. absurd (cc e)) lawful
+
+-- what is answered Pending is answered so while the connection is open
+pub waits-while-open : (side : Side) (h : History) (turn : Turn) → IsHistory side h → is_lawful side h turn ≡ true → is_pending (next side h turn).reply ≡ true → is_open h ≡ true
+waits-while-open side h (turns.Call call) i l e = and-left (is_open h) (nothing_left side h call) (sym (call-waits side h call i l) ∙ e)
+waits-while-open side h turn i l e = absurd (cc e)

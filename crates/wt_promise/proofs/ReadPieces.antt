@@ -15,7 +15,8 @@ use Rattle.wt_promise.proofs.Grows.{is_peers}
 use Rattle.wt_promise.proofs.HandedOut.{admitted-classified, only-peers, opened-local, verdict-stays}
 use Rattle.wt_promise.proofs.Tables.{by-row, by-value, no-row}
 use Rattle.wt_promise.proofs.Verdicts.{ByAccept, ByOpening, HandedBy, handed-by}
-use Rattle.wt_promise.specs.Promise.{IsHistory, ReadsInOrder}
+use Rattle.wt_promise.proofs.OwnForms.{ReadsByWas}
+use Rattle.wt_promise.specs.Promise.{IsHistory}
 use Rattle.wt_proto.specs.declared.verdict.Verdict.{Verdict}
 use Rattle.wt_seam_spec.specs.Reports.{end_of}
 use Rattle.wt_seam_spec.specs.Streams.{local_uni}
@@ -172,7 +173,7 @@ unread-before side (p ∷ h) i k e =
     let piece = (reads-piece side h k p.turn).of_given before in
     rw (unread-before side h i.2 k before, i.1, piece) refl
 
-pub reads-in-order : (side : Side) (h : History) → IsHistory side h → ReadsInOrder side h
+pub reads-in-order : (side : Side) (h : History) → IsHistory side h → ReadsByWas side h
 reads-in-order side [] i k = refl
 reads-in-order side (p ∷ h) i k = by (is_handed_out h k) refl (reads-in-order side h i.2 k)
   where

@@ -17,7 +17,8 @@ use Rattle.wt_promise.proofs.Few.{gone-later, gone-more}
 use Rattle.wt_promise.proofs.Grows.{AClassified, AClosed, ADatagram, ADequeued, AFault, ASettings, Adds, Nothing, findings-keep, first_of-append, first_of-stays, findings-add, news, news-ended, of-stream-fault}
 use Rattle.wt_promise.proofs.Phases.{client-waits, phase}
 use Rattle.wt_promise.proofs.Tables.{fits, fits-own, is_rejected}
-use Rattle.wt_promise.specs.Promise.{IsHistory, ResultStays}
+use Rattle.wt_promise.proofs.OwnForms.{ErrorStays}
+use Rattle.wt_promise.specs.Promise.{IsHistory}
 use Rattle.wt_proto.specs.declared.verdict.Verdict.{Verdict}
 use Rattle.wt_seam_spec.specs.Reports.{loss_of}
 use Rattle.wt_turn.specs.Log.{Event}
@@ -183,7 +184,7 @@ early side h turn s g = by (first_of (closed_by s) (findings side h)) refl
         ap (session_error_with side (p ∷ h) s) k.0 ∙ ap (λ (b : Bool). if b then errors.LocallyClosed else driver_error side (p ∷ h)) k.1
         ∙ sym (ap (session_error_with side h s) q ∙ ap (λ (b : Bool). if b then errors.LocallyClosed else driver_error side h) g)
 
-pub result-stays : (side : Side) (h : History) (turn : Turn) → IsHistory side h → is_lawful side h turn ≡ true → ResultStays side h turn (next side h turn)
+pub result-stays : (side : Side) (h : History) (turn : Turn) → IsHistory side h → is_lawful side h turn ≡ true → ErrorStays side h turn (next side h turn)
 result-stays side h turn i l s e n = by (is_open h) refl
   where
     gone : (b g : Bool) → b ≡ true → is_open h ≡ true → is_established h s ≡ b → is_gone h (findings side h) s ≡ g → g ≡ true

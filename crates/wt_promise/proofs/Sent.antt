@@ -19,7 +19,8 @@ use Rattle.wt_promise.proofs.BytesOut.{bytes-append, bytes_on, none-on, sends}
 use Rattle.wt_promise.proofs.ReadPieces.{if-nothing}
 use Rattle.wt_promise.proofs.Shakes.{Finishes, Goes, GoesShuts, Rejects, Shake, Shut, Shuts, Still, gives_on, head_stream, rest}
 use Rattle.wt_promise.proofs.Shapes.{Alone, Ending, Finishing, Handshaking, Nothing, Nought, Polling, Resetting, Shape, Writing, going, is_accept, says_nothing, shape, writes_on}
-use Rattle.wt_promise.specs.Promise.{accepted_by, acts_on, head_of, says_accepted}
+use Rattle.wt_promise.proofs.OwnForms.{head_of, says_accepted}
+use Rattle.wt_promise.specs.Promise.{accepted_by, acts_on}
 use Rattle.wt_seam_spec.specs.Joined.{send_of}
 use Rattle.wt_seam_spec.specs.Reports.{stop_of}
 use Rattle.wt_turn.specs.declared.action.Action.{Action}
@@ -201,11 +202,11 @@ sent-shape side h k call a x = by a x
     by : (b : Answer) → Shape side h call b → Sent side h k (turns.Call call) b
     by b (Nothing r n) = quietly r [] n refl
     by b Nought = Quiet refl (nought-accepted k call) refl
-    by b (Alone r t x n u m) = quietly r (action_if t x) n (if-bytes k t x (acts-sends k x (u k)))
+    by b (Alone r t x n u m o) = quietly r (action_if t x) n (if-bytes k t x (acts-sends k x (u k)))
     by b (Writing id bytes piece r g n e w s o) = sent-write side h k id (turns.Call call) r bytes piece g e (w k) (written-hands k r s) o
     by b (Polling id s name r c o m l i) =
         subst (λ (d : Call). Sent side h k (turns.Call d) (answer r (send h id (head_left h id (stream_header id s))))) (sym c) (sent-opening side h k id s name r o m i)
-    by b (Finishing id c n) = quietly replies.Pending (actions.Finish id ∷ []) refl refl
+    by b (Finishing id c ha n) = quietly replies.Pending (actions.Finish id ∷ []) refl refl
     by b (Resetting id code c g n) = quietly replies.Done (action_if (is_open h) (actions.ResetOut id code)) refl (if-bytes k (is_open h) (actions.ResetOut id code) refl)
     by b (Ending s name c m o l) =
         quietly replies.Done (session_finish h s ++ session_gone_actions side h (findings side h) s) refl

@@ -11,8 +11,8 @@ use Rattle.wt_meaning.specs.Rows.{first_row}
 use Rattle.wt_meaning.specs.Sends.{action_if}
 use Rattle.wt_meaning.specs.Targets.{Target, target_of}
 use Rattle.wt_meaning.specs.Windows.{last_request, session_in}
+use Rattle.wt_promise.proofs.OwnForms.{frame_of, head_of}
 use Rattle.wt_promise.proofs.Tables.{OfRows, by-row, by-value, no-row, rejects-pass}
-use Rattle.wt_promise.specs.Promise.{frame_of, head_of}
 use Rattle.wt_proto.specs.ResponseWalk.{response_walk_of}
 use Rattle.wt_proto.specs.declared.response_walk.ResponseWalk.{ResponseWalk}
 use Rattle.wt_seam_spec.specs.Reports.{end_of}

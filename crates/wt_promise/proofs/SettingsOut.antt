@@ -16,7 +16,9 @@ use Rattle.wt_promise.proofs.ControlKept.{next-bytes, own-control}
 use Rattle.wt_promise.proofs.Flow.{take-on}
 use Rattle.wt_promise.proofs.Opened.{moment-open, open-before, opened-at, pair-is}
 use Rattle.wt_promise.proofs.Sent.{front-bytes, if-bytes, send-bytes}
-use Rattle.wt_promise.specs.Promise.{IsHistory, SettingsGoOut, leaves_open}
+use Rattle.wt_promise.proofs.HeadTests.{same-control}
+use Rattle.wt_promise.proofs.OwnForms.{SettingsByOwn, leaves_open}
+use Rattle.wt_promise.specs.Promise.{IsHistory}
 use Rattle.wt_seam_spec.specs.Joined.{send_of}
 use Rattle.wt_seam_spec.specs.Reports.{connects, credit, credit_reported, is_connected, unis_allowed}
 use Rattle.wt_seam_spec.specs.Streams.{local_count, local_uni}
@@ -32,7 +34,7 @@ use Rattle.wt_turn.specs.declared.turn.Turn.TheVariants as turns
 -- ---- credit never falls
 
 -- while the connection is open, every event counts
-open-events : (h : History) → is_open h ≡ true → events h ≡ all_events h
+pub open-events : (h : History) → is_open h ≡ true → events h ≡ all_events h
 open-events [] o = refl
 open-events (p ∷ h) o = by (event_of p.turn) refl (open-events h (open-before p h o))
   where
@@ -116,7 +118,7 @@ credit-grows side h turn a i k l = by (is_open h) refl
 
 -- ---- lists
 
-take-split : (a b : ℕ) (xs : List ℕ) → take a xs ++ take b (drop a xs) ≡ take (a + b) xs
+pub take-split : (a b : ℕ) (xs : List ℕ) → take a xs ++ take b (drop a xs) ≡ take (a + b) xs
 take-split zero b xs = let e : 0 + b ≡ b = omega arith in rw e refl
 take-split (suc a) b [] = none b ∙ sym (none (suc a + b))
   where
@@ -235,5 +237,5 @@ pub control-out : (side : Side) (h : History) → IsHistory side h → ControlOu
 control-out side [] i = record { front = refl; below = omega arith }
 control-out side (p ∷ h) i = subst (λ (q : Pair). ControlOut side (q ∷ h)) (pair-is p (next side h p.turn) i.1) (after side h p.turn i.2 i.0 (control-out side h i.2)).kept
 
-pub settings-go-out : (side : Side) (h : History) (turn : Turn) → IsHistory side h → is_lawful side h turn ≡ true → SettingsGoOut side h turn (next side h turn)
-settings-go-out side h turn i l o u = record { stream = opened-at side h turn o u; sent = (after side h turn i l (control-out side h i)).sent o u }
+pub settings-go-out : (side : Side) (h : History) (turn : Turn) → IsHistory side h → is_lawful side h turn ≡ true → SettingsByOwn side h turn (next side h turn)
+settings-go-out side h turn i l o u = record { stream = opened-at side h turn o u; sent = (after side h turn i l (control-out side h i)).sent o u ∙ ap (take (credit (events (with_pair h turn (next side h turn))) (local_uni side))) same-control }

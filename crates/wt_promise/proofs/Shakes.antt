@@ -13,7 +13,7 @@ use Rattle.wt_meaning.specs.Windows.{last_request}
 use Rattle.wt_message.specs.FixedBytes.{response_bytes}
 use Rattle.wt_promise.proofs.Accepted.{not-true}
 use Rattle.wt_promise.proofs.Tables.{OfRows, by-row, by-value, is_plain, is_session, no-row}
-use Rattle.wt_promise.specs.Promise.{fault_closes, frame_of, handshake_ends, head_of, rejection_ends}
+use Rattle.wt_promise.proofs.OwnForms.{fault_closes, frame_of, handshake_ends, head_of, rejection_ends}
 use Rattle.wt_proto.specs.ResponseWalk.{response_walk_of}
 use Rattle.wt_proto.specs.declared.response_walk.ResponseWalk.{ResponseWalk}
 use Rattle.wt_seam_spec.specs.Reports.{end_of}

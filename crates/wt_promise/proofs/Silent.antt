@@ -147,7 +147,7 @@ ends-by side h k call (replies.SendReady id) q f n e = absurd (cc f)
 ends-by side h k call (replies.BiReady id) q f n e = absurd (cc f)
 ends-by side h k call r q f n e = absurd (cc e)
 
-opening-over : (side : Side) (h : History) → IsHistory side h → (k : ℕ) → is_peers side k ≡ false → is_handed_out h k ≡ true → list_any (λ (p : Pair). opening_ends k p.turn p.answer.reply) h ≡ true
+pub opening-over : (side : Side) (h : History) → IsHistory side h → (k : ℕ) → is_peers side k ≡ false → is_handed_out h k ≡ true → list_any (λ (p : Pair). opening_ends k p.turn p.answer.reply) h ≡ true
 opening-over side [] i k n e = absurd (cc e)
 opening-over side (p ∷ h) i k n e =
     or-either {P = list_any (λ (q : Pair). opening_ends k q.turn q.answer.reply) (p ∷ h) ≡ true} (hands_out k p.answer.reply) (is_handed_out h k) e
@@ -161,7 +161,7 @@ opening-over side (p ∷ h) i k n e =
 
 -- ---- nothing is sent on it
 
-silent-opening : (side : Side) (h : History) → IsHistory side h → (k : ℕ) (name : Option ℕ) (s : ℕ) → being_opened h k ≡ Some name → named h name ≡ Some s → is_living side h s ≡ true → WasReset side h k → ⊥
+pub silent-opening : (side : Side) (h : History) → IsHistory side h → (k : ℕ) (name : Option ℕ) (s : ℕ) → being_opened h k ≡ Some name → named h name ≡ Some s → is_living side h s ≡ true → WasReset side h k → ⊥
 silent-opening side h i k name s o m l (ByHand e) = none (list_any (λ (p : Pair). opening_ends k p.turn p.answer.reply) h) (opening-over side h i k (opened-local side h i k (ap is_some (begun-opening h k name o))) e) o
   where
     none : (b : Bool) → b ≡ true → (if b then None else first_of (λ (p : Pair). opened_by k p.turn p.answer.reply) h) ≡ Some name → ⊥
@@ -184,7 +184,7 @@ silent-control side h i (WithSession s (Opened name o n) g) = control-not-opened
 
 -- a call
 silent-call : (side : Side) (h : History) (turn : Turn) (k : ℕ) → IsHistory side h → is_lawful side h turn ≡ true → list_any (is_reset_of k) (actions_out h) ≡ true → SendsWhy side h k turn → ⊥
-silent-call side h turn k i l r (Writes n) = clash (is_closed h k) closed n
+silent-call side h turn k i l r (Writes ha n) = clash (is_closed h k) closed n
   where
     closed : is_closed h k ≡ true
     closed = ap (λ (b : Bool). was_finished h k || (b || list_any (λ (p : Pair). answers_reset k p.turn p.answer.reply) h)) r ∙ or-true (was_finished h k)
@@ -224,7 +224,7 @@ reset-once side h turn k i l r (Going s m o n) = clash (is_reset (with_pair h tu
         (any-newest (is_reset_of k) own.actions (actions_out h) ∙ ap (λ (b : Bool). list_any (is_reset_of k) own.actions || b) r ∙ or-true (list_any (is_reset_of k) own.actions))
 
 -- where no part of its actions can pass a test, none of them does
-none-next : (test : Action → Bool) → AnyPiece test → (side : Side) (h : History) (turn : Turn) → (list_any test (own_answer side h turn).actions ≡ true → ⊥)
+pub none-next : (test : Action → Bool) → AnyPiece test → (side : Side) (h : History) (turn : Turn) → (list_any test (own_answer side h turn).actions ≡ true → ⊥)
     → (list_any test (moment_actions side (with_pair h turn (own_answer side h turn))) ≡ true → ⊥) → list_any test (next side h turn).actions ≡ false
 none-next test any side h turn f g = by (list_any test (next side h turn).actions) refl
   where

@@ -56,7 +56,7 @@ of-one side h i k s t (Opened name o n) (Opened other x m) =
     let b : name ≡ other = cc a in
     let c : Some s ≡ Some t = sym n ∙ ap (named h) b ∙ m in cc c
 
-stream-known : (side : Side) (p : Pair) (h : History) → IsHistory side (p ∷ h) → (s : ℕ) → StreamKnown side (p ∷ h) h s
+pub stream-known : (side : Side) (p : Pair) (h : History) → IsHistory side (p ∷ h) → (s : ℕ) → StreamKnown side (p ∷ h) h s
 stream-known Client p h i s = λ e q. absurd (let r : is_peers Client 0 ≡ true = ap (is_peers Client) (sym (client-zero (p ∷ h) i s e)) ∙ q in cc r)
 stream-known Server p h i s = λ e q. given-classified Server p h i s ((phase (p ∷ h) i).known s e)
 

@@ -20,7 +20,7 @@ use Rattle.wt_meaning.specs.Lawful.{is_pending}
 use Rattle.wt_meaning.specs.Rows.{Row, first_row, row, row_for}
 use Rattle.wt_meaning.specs.Targets.{Target}
 use Rattle.wt_meaning.specs.Windows.{establishes, first_session, is_established, named}
-use Rattle.wt_promise.specs.Waits.{on_named, on_target}
+use Rattle.wt_promise.proofs.Waits.{on_named, on_target}
 use Rattle.wt_turn.specs.declared.reply.Reply.TheVariants as replies
 use Rattle.wt_turn.specs.declared.stream_error.SendDatagramError.TheVariants as datagrams
 use Rattle.wt_turn.specs.declared.stream_error.StreamOpeningError.TheVariants as openings

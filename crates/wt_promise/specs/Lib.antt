@@ -1,2 +1,7 @@
+pub mod Causes
+pub mod Connects
+pub mod Found
+pub mod Lists
+pub mod Owed
 pub mod Promise
-pub mod Waits
+pub mod Sides

@@ -15,7 +15,8 @@ use Rattle.wt_promise.proofs.Actions.{none-append, none-if, none-sent, opened-ne
 use Rattle.wt_promise.proofs.Few.{APoll, AnAccept, SessionCall, session-call}
 use Rattle.wt_promise.proofs.Sessions.{Accepted, AcceptGives, ConnectGives, Connected, PollGives, accept-gives, poll-gives}
 use Rattle.wt_promise.proofs.Tables.{fits-own}
-use Rattle.wt_promise.specs.Promise.{IsHistory, head_of}
+use Rattle.wt_promise.proofs.OwnForms.{head_of}
+use Rattle.wt_promise.specs.Promise.{IsHistory}
 use Rattle.wt_seam_spec.specs.Sent as sends
 use Rattle.wt_seam_spec.specs.Streams as streams
 use Rattle.wt_sessions.specs.Answers.{call_effect}
