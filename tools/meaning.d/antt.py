@@ -539,6 +539,13 @@ def find(f, xs):
     return NONE
 
 
+@b(3)
+def fold(f, a, xs):
+    for x in to_list(xs):
+        a = apply(f, [a, x])
+    return a
+
+
 @b(2)
 def list_any(f, xs):
     if not stable(f):
