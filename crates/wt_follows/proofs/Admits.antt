@@ -201,6 +201,7 @@ module _ (d : DispatchedNow) (s : DriverState) (h : Keeps d s) (k session : ℕ)
       windows = windows;
       early = early;
       gone = λ j e. h.gone j e ∙ ap (λ gs. is_some (end_in gs j)) (sym gone);
+      gone_named = λ j e. h.gone_named j (ap (λ gs. is_some (end_in gs j)) (sym gone) ∙ e);
       closed = λ j e. h.closed j e ∙ ap (λ gs. closed_by j (end_in gs j)) (sym gone);
       established = h.established;
       alive = h.alive;

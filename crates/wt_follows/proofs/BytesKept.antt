@@ -1,17 +1,20 @@
 -- Bytes that nothing reads as they come wait in the transport: what is kept follows the log with them.
 use Rattle.std.proofs.Common.{◌+◌, ◌^◌, ◌∙◌, ◌≡◌, ◌≤◌, ◌++◌, ◌∷◌, Bool, List, None, Option, Some, [], ap, drop, false, length, refl, subst, sym, true, ℕ, min}
-use Rattle.std.proofs.lemmas.Bool.{true≢false}
+use Rattle.std.proofs.lemmas.Bool.{eqb-true, true≢false}
 use Rattle.std.specs.List.{list_any}
 use Rattle.std.specs.Prelude.{◌%◌, ◌&&◌, ◌/◌, ◌==◌, IsTrue, if◌then◌else◌, is_some, nat_lt, not, unwrap_or}
 use Rattle.wt_follows.proofs.BytesCome.{OnlyBytes, contents-apart, contents-on, only-bytes, reader-behind}
+use Rattle.wt_follows.proofs.EventFollows.{and-second}
 use Rattle.wt_follows.proofs.EventTaken.{same-count}
 use Rattle.wt_follows.proofs.Headers.{bi-goes, uni-goes}
-use Rattle.wt_follows.specs.Tie.{Amid, ArrivingFollows, AtHeader, ControlFollows, IsUntouched, OwnFollows, Placed, ReaderAt, Sends, SessionsFollow, SlotsAt, There, goes_on_at, header_verdict, member_position}
+use Rattle.wt_follows.proofs.OwnRequest.{response-more}
+use Rattle.wt_follows.proofs.QuietEntry.{and-first}
+use Rattle.wt_follows.specs.Tie.{Amid, ArrivingFollows, AtHeader, ControlFollows, IsUntouched, OwnFollows, Placed, ReaderAt, ResponseAt, ResponseFollows, Sends, SessionsFollow, SlotsAt, There, goes_on_at, header_verdict, member_position}
 use Rattle.wt_kept.specs.Arriving.{arrived_count, peer_kind, slots_of}
 use Rattle.wt_kept.specs.Kept.{ArrivingNow, DriverNow, LiveNow}
-use Rattle.wt_kept.specs.Readers.{ControlReading, ReaderRules, Slot, bi_rules, control_rules, session_rules, uni_rules}
+use Rattle.wt_kept.specs.Readers.{ControlReading, ReaderRules, ResponseReading, Slot, bi_rules, control_rules, response_rules, session_rules, uni_rules}
 use Rattle.wt_next_transport.proofs.Asking.{refined_peer_bis, refined_peer_unis}
-use Rattle.wt_next_transport.proofs.Refining.{bytes_refine, refined_side}
+use Rattle.wt_next_transport.proofs.Refining.{bytes_refine, refined_bytes_fit, refined_side}
 use Rattle.wt_next_transport.specs.State.{Refines, TransportState}
 use Rattle.wt_next_transport.specs.Step.{after_bytes, count_now, may_receive_now}
 use Rattle.wt_proto.proofs.BiLaws.{bi_verdict_stays}
@@ -20,17 +23,17 @@ use Rattle.wt_proto.specs.Bi.{bi_verdict_of}
 use Rattle.wt_proto.specs.Uni.{is_final, uni_verdict_of}
 use Rattle.wt_proto.specs.declared.verdict.Verdict.{Verdict}
 use Rattle.wt_proto.specs.declared.verdict.Verdict.TheVariants as verdicts
-use Rattle.wt_seam_spec.specs.Arrivals.{log_bytes, log_bytes_if}
-use Rattle.wt_seam_spec.specs.Reports.{datagrams_of, end_of, unis_allowed}
+use Rattle.wt_seam_spec.specs.Arrivals.{log_bytes, log_bytes_if, may_receive}
+use Rattle.wt_seam_spec.specs.Reports.{datagrams_of, end_of, is_connected, is_running, loss_of, unis_allowed}
 use Rattle.wt_seam_spec.specs.Sent.{is_finished, sent_on}
-use Rattle.wt_seam_spec.specs.Streams.{can_receive, contents, exists, local_count, local_uni, peer_bi, peer_count, peer_uni, stream_count}
+use Rattle.wt_seam_spec.specs.Streams.{can_receive, contents, exists, local_bi, local_count, local_uni, peer_bi, peer_count, peer_uni, stream_count}
 use Rattle.wt_seam_spec.specs.Unread.{AtOffset, GivenUp, ReadPosition}
 use Rattle.wt_sessions.specs.Driver.{ControlSent, control_sent, gives_up, still_sends}
 use Rattle.wt_sessions.specs.DriverState.{DriverState}
 use Rattle.wt_sessions.specs.Halves.{total_read}
 use Rattle.wt_sessions.specs.Moment.{is_peers}
 use Rattle.wt_sessions.specs.StreamTable.{Session}
-use Rattle.wt_turn.specs.Log.{Log, events_of, is_open}
+use Rattle.wt_turn.specs.Log.{Log, all_events_of, events_of, is_open}
 use Rattle.wt_turn.specs.declared.action.Action.{Action}
 use Rattle.wt_wire.specs.Ids.{is_bidirectional}
 use Rattle.wt_wire.specs.declared.side.Side.{Side}
@@ -136,6 +139,7 @@ module _ (side : Side) (log : Log) (id : ℕ) (piece : List ℕ) where
     critical = λ k e. receives-same k ∙ t.critical k e;
     gone = λ k e. exists-same k ∙ t.gone k e;
     own = t.own;
+    peers = t.peers;
     kinds = (ap (λ as_. local_count as_ (peer_uni side)) o.actions ∙ t.kinds.0, ap (λ as_. local_count as_ (peer_bi side)) o.actions ∙ t.kinds.1);
     few = (
       subst (λ (n : ℕ). n ≤ 2 ^ 60) (sym (λ i. peer_count side (o.all_events i) (peer_uni side) + local_count (o.actions i) (peer_uni side))) t.few.0,
@@ -243,7 +247,22 @@ module _ (side : Side) (d : DriverNow) (log : Log) (s : DriverState) (position :
     unis = λ x. same-count uni_rules t u d.unis s.unis (contents h) position side-same refl refl (arriving-more side log id piece uni_rules t d.unis s.unis position (a.unis x)) unis-same;
     bis = λ x. same-count bi_rules t u d.bis s.bis (contents h) position side-same refl refl (arriving-more side log id piece bi_rules t d.bis s.bis position (a.bis x)) bis-same;
     datagrams = λ x. a.datagrams x ∙ ap (λ es. drop s.progress.datagrams (datagrams_of es)) (sym only.events);
+    response = λ c n. response-then d.response (a.response c n);
   }
     where
+      running : (id == local_bi side) ≡ true → is_running (end_of (events_of log) (local_bi side)) ≡ true
+      running f = ap (λ k. is_running (end_of (events_of log) k)) (sym (eqb-true id (local_bi side) f)) ∙ (ap (λ es. is_running (end_of es id)) (a.work.transport.facts.open_same opened)
+          ∙ and-second (is_connected (all_events_of log) && can_receive side log id) (is_running (end_of (all_events_of log) id))
+          (and-first (may_receive side log id) (not (is_some (loss_of (all_events_of log)))) (sym (refined_bytes_fit side t log position uncollected a.work.transport id piece) ∙ fitting)))
+
+      response-then : (o : Option (Slot ResponseReading)) → ResponseFollows side o (contents log) (events_of log) position → ResponseFollows side o (contents h) (events_of h) position
+      response-then None r = r
+      response-then (Some x) r = (r.0, subst (λ es. ResponseAt x.reader (contents h (local_bi side)) (end_of es (local_bi side)) (position (local_bi side))) (sym only.events) (by (id == local_bi side) refl))
+        where
+          by : (b : Bool) → (id == local_bi side) ≡ b → ResponseAt x.reader (contents h (local_bi side)) (end_of (events_of log) (local_bi side)) (position (local_bi side))
+          by true f = response-more x.reader (contents log (local_bi side)) (contents h (local_bi side)) (end_of (events_of log) (local_bi side)) (position (local_bi side)) (running f)
+              (reader-more side log id piece response_rules x.reader (local_bi side) 0 (position (local_bi side))) r.1
+          by false f = subst (λ (xs : List ℕ). ResponseAt x.reader xs (end_of (events_of log) (local_bi side)) (position (local_bi side))) (sym (contents-apart log id piece (local_bi side) f)) r.1
+
       sent-same : control_sent side h ≡ control_sent side log
       sent-same = λ i. record { opened = not (local_count (only.actions i) (local_uni side) == 0); sent = length (sent_on (only.actions i) (local_uni side)) }

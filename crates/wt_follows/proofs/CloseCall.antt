@@ -53,6 +53,7 @@ module _ (side : Side) (d : DriverNow) (log : Log) (uncollected : List Action) (
           unis = s.amid.unis;
           bis = s.amid.bis;
           datagrams = λ e. absurd (true≢false (sym (first (state_of side g).is_open (is_none (state_of side g).progress.fault) e) ∙ (open-is g ∙ closed)));
+          response = s.amid.response;
         };
         rests = λ e. absurd (true≢false (sym e ∙ closed));
       }

@@ -50,6 +50,7 @@ module _ (side : Side) (d : DriverNow) (log : Log) (s : DriverState) (sent : Lis
     windows = h.windows;
     early = h.early;
     gone = h.gone;
+    gone_named = h.gone_named;
     closed = h.closed;
     established = h.established;
     alive = h.alive;
@@ -91,15 +92,16 @@ module _ (side : Side) (d : DriverNow) (log : Log) (s : DriverState) (sent : Lis
     unis = λ g. a.unis (back g);
     bis = λ g. a.bis (back g);
     datagrams = λ g. a.datagrams (back g);
+    response = a.response;
   }
     where
       back : goes (state_by true) ≡ true → goes s ≡ true
       back g = λ i. open_ i && is_none (f i)
 
   -- a close goes out
-  module _ (code : ErrorCode) where
+  module _ (code : ℕ) where
     abbrev close : Action
-    close = actions.Close (code_of code) []
+    close = actions.Close code []
 
     one-sent : with_actions (sent ++ close ∷ []) log ≡ Sent close ∷ sending
     one-sent = actions-append sent (close ∷ []) log
@@ -107,14 +109,14 @@ module _ (side : Side) (d : DriverNow) (log : Log) (s : DriverState) (sent : Lis
     shut : (goes (state_by false) ≡ true) → ⊥
     shut g = true≢false (sym g)
 
-    refines : Refines side (after_close d.work.transport (code_of code) []) (Sent close ∷ sending) position (close ∷ uncollected)
-    refines = subst (λ (b : Bool). Refines side (after_close d.work.transport (code_of code) []) (with_actions (if b then close ∷ [] else []) sending) position (newest_first (if b then close ∷ [] else []) uncollected))
-        (sym a.work.is_open_same ∙ open_) (close_refines side d.work.transport sending position uncollected a.work.transport (code_of code) [])
+    refines : Refines side (after_close d.work.transport code []) (Sent close ∷ sending) position (close ∷ uncollected)
+    refines = subst (λ (b : Bool). Refines side (after_close d.work.transport code []) (with_actions (if b then close ∷ [] else []) sending) position (newest_first (if b then close ∷ [] else []) uncollected))
+        (sym a.work.is_open_same ∙ open_) (close_refines side d.work.transport sending position uncollected a.work.transport code [])
 
-    loud : Amid side (record d { work = record d.work { transport = after_close d.work.transport (code_of code) [] }; datagrams = [] }) log (state_by false) (sent ++ close ∷ []) position (close ∷ uncollected)
+    pub loud : Amid side (record d { work = record d.work { transport = after_close d.work.transport code [] }; datagrams = [] }) log (state_by false) (sent ++ close ∷ []) position (close ∷ uncollected)
     loud = record {
-      work = work-then false (after_close d.work.transport (code_of code) []) (close ∷ [])
-          (subst (λ (g : Log). Refines side (after_close d.work.transport (code_of code) []) g position (close ∷ uncollected)) (sym one-sent) refines)
+      work = work-then false (after_close d.work.transport code []) (close ∷ [])
+          (subst (λ (g : Log). Refines side (after_close d.work.transport code []) g position (close ∷ uncollected)) (sym one-sent) refines)
           (ap is_open (sym one-sent))
           (subst (λ (g : Log). Sends side s log g) (sym one-sent) (record { arriving = a.work.sends.arriving; waiting = a.work.sends.waiting; members = a.work.sends.members; living = a.work.sends.living; own = a.work.sends.own }))
           (λ g. absurd (shut g));
@@ -125,13 +127,14 @@ module _ (side : Side) (d : DriverNow) (log : Log) (s : DriverState) (sent : Lis
       unis = λ g. absurd (shut g);
       bis = λ g. absurd (shut g);
       datagrams = λ g. absurd (shut g);
+      response = a.response;
     }
 
   close-if : (o : Option ErrorCode) → s.progress.fault ≡ o → Amid side (close_by o) log (state_by (is_none o)) (sent ++ close_actions o) position (newest_first (close_actions o) uncollected)
   close-if None f = subst (λ (b : Bool). Amid side (without_datagrams b (with_work (λ w. record w { transport = w.transport }) d)) log (state_by true) (sent ++ []) position uncollected)
       (sym (refined_open side d.work.transport sending position uncollected a.work.transport ∙ (sym a.work.is_open_same ∙ open_))) (quiet f)
-  close-if (Some code) f = subst (λ (b : Bool). Amid side (without_datagrams b (with_work (λ w. record w { transport = after_close d.work.transport (code_of code) [] }) d)) log (state_by false) (sent ++ close code ∷ []) position (close code ∷ uncollected))
-      (sym (refined_open side (after_close d.work.transport (code_of code) []) (Sent (close code) ∷ sending) position (close code ∷ uncollected) (refines code))) (loud code)
+  close-if (Some code) f = subst (λ (b : Bool). Amid side (without_datagrams b (with_work (λ w. record w { transport = after_close d.work.transport (code_of code) [] }) d)) log (state_by false) (sent ++ close (code_of code) ∷ []) position (close (code_of code) ∷ uncollected))
+      (sym (refined_open side (after_close d.work.transport (code_of code) []) (Sent (close (code_of code)) ∷ sending) position (close (code_of code) ∷ uncollected) (refines (code_of code)))) (loud (code_of code))
 
   pub close_follows : Amid side (close_step d) log closed_state (sent ++ close_actions s.progress.fault) position (newest_first (close_actions s.progress.fault) uncollected)
   unfolding close_step

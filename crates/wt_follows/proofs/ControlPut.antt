@@ -16,6 +16,7 @@ use Rattle.wt_follows.proofs.KeepsLaws.{keeps-sources}
 use Rattle.wt_follows.proofs.KindPut.{its-contents, its-read, kind-apart}
 use Rattle.wt_follows.proofs.Lists.{refuted}
 use Rattle.wt_follows.proofs.Moved.{not-held, sessions-moved}
+use Rattle.wt_follows.proofs.OwnRequest.{bi-apart}
 use Rattle.wt_follows.proofs.PieceAmid.{ReadsAlone, elsewhere, put-amid}
 use Rattle.wt_follows.proofs.Puts.{Put, front-datagrams, front-fault, front-progress}
 use Rattle.wt_follows.proofs.ReaderLaws.{has-said-is, says-so-far, take-two, take-whole}
@@ -123,6 +124,7 @@ module _ (side : Side) (d : DriverNow) (log : Log) (position : ℕ → ReadPosit
     there = first (exists side log id) (not (local_uni side == id % 4)) (amid.work.there.critical id critical);
     rests = λ i. no-waits i || (not-held s id no-held i && not (s.dispatched.is_established id));
     member = λ session. refuted (is_member s session id) (λ f. true≢false (sym critical ∙ (amid.work.roles.members_alone id session f).critical));
+    request = λ c n. bi-apart side id (amid.work.there.peers.critical id critical);
   }
 
   abbrev no-kinds : (is_in id s.unis ≡ false) × (is_in id s.bis ≡ false)

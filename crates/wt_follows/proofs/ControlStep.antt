@@ -9,6 +9,7 @@ use Rattle.wt_follows.proofs.Lifted.{lifted, read-counts}
 use Rattle.wt_follows.proofs.Lists.{refuted, same}
 use Rattle.wt_follows.proofs.Counts.{SameCounts}
 use Rattle.wt_follows.proofs.Moved.{sessions-moved}
+use Rattle.wt_follows.proofs.OwnRequest.{none-before, request-critical}
 use Rattle.wt_follows.proofs.OwnStop.{both, looked-back, qpack-follows, qpack_state}
 use Rattle.wt_follows.proofs.ReadsTo.{ReadsTo}
 use Rattle.wt_follows.proofs.SameStreams.{read-amid}
@@ -25,7 +26,7 @@ use Rattle.wt_next_transport.specs.State.{Refines, TransportState}
 use Rattle.wt_proto.specs.ControlWalk.{control_walk_of}
 use Rattle.wt_proto.specs.declared.control_walk.ControlWalk.{ControlWalk}
 use Rattle.wt_seam_spec.specs.Reports.{end_of, is_running}
-use Rattle.wt_seam_spec.specs.Streams.{contents}
+use Rattle.wt_seam_spec.specs.Streams.{contents, local_bi}
 use Rattle.wt_seam_spec.specs.Unread.{ReadPosition}
 use Rattle.wt_sessions.specs.Driver.{transport_view}
 use Rattle.wt_sessions.specs.DriverState.{DriverState}
@@ -187,15 +188,15 @@ control-leaves t (Some c) s = by (control_walk_of (drop c.1 (t.contents c.0)) (t
 
     by : (o : Option ErrorCode) → LeavesStreams s (record s { progress = with_fault o (record s.progress { settings = s.progress.settings || is_some (control_walk_of (drop c.1 (t.contents c.0)) (t.end c.0)).settings }) })
         × ((with_fault o (record s.progress { settings = s.progress.settings || is_some (control_walk_of (drop c.1 (t.contents c.0)) (t.end c.0)).settings })).datagrams ≡ s.progress.datagrams)
-    by None = (record { unis = refl; bis = refl; is_open = refl; actions = refl; control_sent = refl }, refl)
-    by (Some code) = (record { unis = refl; bis = refl; is_open = refl; actions = refl; control_sent = refl }, refl)
+    by None = (record { unis = refl; bis = refl; is_open = refl; actions = refl; control_sent = refl; established = λ k. refl }, refl)
+    by (Some code) = (record { unis = refl; bis = refl; is_open = refl; actions = refl; control_sent = refl; established = λ k. refl }, refl)
 
 qpack-leaves : (t : TransportView) (o : Option (ℕ × ℕ)) (s : DriverState) → LeavesStreams s (on_progress_now (check_qpack t o) s) × ((on_progress_now (check_qpack t o) s).progress.datagrams ≡ s.progress.datagrams)
 qpack-leaves t None s = (leaves-itself s, refl)
 qpack-leaves t (Some c) s = by (not (is_running (t.end c.0)))
   where
     by : (b : Bool) → LeavesStreams s (on_progress_now (critical_if b) s) × ((critical_if b s.progress).datagrams ≡ s.progress.datagrams)
-    by true = (record { unis = refl; bis = refl; is_open = refl; actions = refl; control_sent = refl }, refl)
+    by true = (record { unis = refl; bis = refl; is_open = refl; actions = refl; control_sent = refl; established = λ k. refl }, refl)
     by false = (leaves-itself s, refl)
 
 module _ (t : TransportView) (s : DriverState) where
@@ -287,7 +288,8 @@ module _ (side : Side) (d : DriverNow) (log : Log) (s : DriverState) (sent : Lis
     position_then = r.position_then;
     amid = lifted side d log s sent position uncollected a (check_qpack_now (read_control d.work)) (last_state (transport_view side log) s) sent r.position_then uncollected
         (qpack-follows side log sent r.position_then uncollected (read_control d.work) (control_state (transport_view side log) s) r.amid)
-        (read-control-counts d.work) l.0.unis l.0.bis l.1 (last-back (transport_view side log) s open_) (λ j e. r.elsewhere j (a.work.roles.arriving j e).critical) refl;
+        (read-control-counts d.work) l.0.unis l.0.bis l.1 (last-back (transport_view side log) s open_) (λ j e. r.elsewhere j (a.work.roles.arriving j e).critical) refl
+        (λ c n. (none-before s (last_state (transport_view side log) s) l.0.established n, r.elsewhere (local_bi side) (request-critical side s a.work.there.peers)));
     elsewhere = r.elsewhere;
     read = λ g. subst (λ (o : Option (Slot ControlReading)). ControlRead r.position_then (contents log) o)
         (sym (same-control (has_ended (read_control d.work).dispatched.critical.encoder (read_control d.work).transport || has_ended (read_control d.work).dispatched.critical.decoder (read_control d.work).transport) (read_control d.work)))

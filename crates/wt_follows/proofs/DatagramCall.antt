@@ -127,6 +127,7 @@ module _ (side : Side) (d : DriverNow) (log : Log) (s : DriverState) (position :
     windows = windows-given kept.sessions.living (subst AreDistinct (sym keeps.living) a.work.roles.living) keeps.windows;
     early = other-window kept.sessions.early (λ j. not (s.dispatched.is_established j)) (ap not established) keeps.early;
     gone = keeps.gone;
+    gone_named = keeps.gone_named;
     closed = keeps.closed;
     established = keeps.established;
     alive = keeps.alive;
@@ -143,7 +144,7 @@ module _ (side : Side) (d : DriverNow) (log : Log) (s : DriverState) (position :
 
   -- the session's application has the datagram
   pub received-amid : Amid side (on_sessions (with_live given_datagram session) d) log (after_call (DatagramReceived w.index) s) [] position uncollected
-  received-amid = lifted side d log s [] position uncollected a (record d.work { dispatched = kept_then }) z [] position uncollected work-then (λ kind. refl) refl refl refl (λ e. e) (λ j e. refl) refl
+  received-amid = lifted side d log s [] position uncollected a (record d.work { dispatched = kept_then }) z [] position uncollected work-then (λ kind. refl) refl refl refl (λ e. e) (λ j e. refl) refl (λ c n. (n, refl))
 
 module _ (side : Side) (d : DriverNow) (log : Log) (uncollected : List Action) (f : Follows side d log uncollected) (fits : Fits side log) (session : ℕ) (lives : is_living (state_of side log) session ≡ true)
     (w : Admitted) (found : find (λ (x : Admitted). x.session == session) (state_of side log).dispatched.datagrams ≡ Some w) (its : w.session ≡ session)

@@ -3,6 +3,7 @@ use Rattle.std.proofs.Common.{arith, drop_of_length-le, length-drop, ◌%◌, �
 use Rattle.std.proofs.lemmas.Bool.{true≢false}
 use Rattle.std.specs.Prelude.{◌&&◌, ◌++◌, if◌then◌else◌}
 use Rattle.wt_follows.proofs.KeepsLaws.{keeps-progress}
+use Rattle.wt_follows.proofs.OwnRequest.{none-before}
 use Rattle.wt_follows.proofs.SameStreams.{dated-amid}
 use Rattle.wt_follows.proofs.TakesDatagrams.{Placed, admits}
 use Rattle.wt_follows.specs.Roles.{AreDistinct}
@@ -35,20 +36,21 @@ pub record LeavesStreams (s z : DriverState) : Type 0 where
   pub is_open : z.is_open ≡ s.is_open
   pub actions : z.progress.actions ≡ s.progress.actions
   pub control_sent : z.control_sent ≡ s.control_sent
+  pub established : (k : ℕ) → z.dispatched.is_established k ≡ s.dispatched.is_established k
 
 pub leaves-itself : (s : DriverState) → LeavesStreams s s
-leaves-itself s = record { unis = refl; bis = refl; is_open = refl; actions = refl; control_sent = refl }
+leaves-itself s = record { unis = refl; bis = refl; is_open = refl; actions = refl; control_sent = refl; established = λ k. refl }
 
 pub leaves-both : (s t z : DriverState) → LeavesStreams s t → LeavesStreams t z → LeavesStreams s z
-leaves-both s t z a b = record { unis = b.unis ∙ a.unis; bis = b.bis ∙ a.bis; is_open = b.is_open ∙ a.is_open; actions = b.actions ∙ a.actions; control_sent = b.control_sent ∙ a.control_sent }
+leaves-both s t z a b = record { unis = b.unis ∙ a.unis; bis = b.bis ∙ a.bis; is_open = b.is_open ∙ a.is_open; actions = b.actions ∙ a.actions; control_sent = b.control_sent ∙ a.control_sent; established = λ k. b.established k ∙ a.established k }
 
 place-leaves : (b : Bool) (session : ℕ) (payload : List ℕ) (s : DriverState) → LeavesStreams s (place_now b session payload s)
-place-leaves true session payload s = record { unis = refl; bis = refl; is_open = refl; actions = refl; control_sent = refl }
-place-leaves false session payload s = record { unis = refl; bis = refl; is_open = refl; actions = refl; control_sent = refl }
+place-leaves true session payload s = record { unis = refl; bis = refl; is_open = refl; actions = refl; control_sent = refl; established = λ k. refl }
+place-leaves false session payload s = record { unis = refl; bis = refl; is_open = refl; actions = refl; control_sent = refl; established = λ k. refl }
 
 parsed-leaves : (r : Result (ℕ × List ℕ) ErrorCode) (s : DriverState) → LeavesStreams s (parsed_now r s)
 parsed-leaves (Ok x) s = place-leaves (is_admitted s.dispatched (4 * x.0)) (4 * x.0) x.1 s
-parsed-leaves (Err code) s = record { unis = refl; bis = refl; is_open = refl; actions = refl; control_sent = refl }
+parsed-leaves (Err code) s = record { unis = refl; bis = refl; is_open = refl; actions = refl; control_sent = refl; established = λ k. refl }
 
 each-leaves : (pieces : List (List ℕ)) (s : DriverState) → LeavesStreams s (take_each_now pieces s)
 each-leaves [] s = leaves-itself s
@@ -166,6 +168,7 @@ module _ (side : Side) (d : DriverNow) (log : Log) (s : DriverState) (sent : Lis
     unis = λ g. subst (λ ids. ArrivingFollows uni_rules d.work.transport d.unis ids (contents log) position) (sym (each-leaves d.datagrams s).unis) (a.unis (back g));
     bis = λ g. subst (λ ids. ArrivingFollows bi_rules d.work.transport d.bis ids (contents log) position) (sym (each-leaves d.datagrams s).bis) (a.bis (back g));
     datagrams = none-left;
+    response = λ c n. a.response c (none-before s looked (each-leaves d.datagrams s).established n);
   }
 
   -- the state after the step

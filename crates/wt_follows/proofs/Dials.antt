@@ -60,6 +60,7 @@ module _ (side : Side) (d : DriverNow) (log : Log) (uncollected : List Action) (
       unis = λ g. let x = a.unis g in record { ordered = x.ordered; few = x.few; same_ids = x.same_ids; read = x.read };
       bis = λ g. let x = a.bis g in record { ordered = x.ordered; few = x.few; same_ids = x.same_ids; read = x.read };
       datagrams = a.datagrams;
+      response = a.response;
     };
     rests = λ e. let r = f.rests e in record { finds = r.finds; unis = r.unis; bis = r.bis; control = r.control; sessions = r.sessions; unready = r.unready; first_unis = r.first_unis; first_bis = r.first_bis };
   }

@@ -9,7 +9,9 @@ use Rattle.wt_follows.proofs.KeepsLaws.{keeps-progress}
 use Rattle.wt_follows.proofs.Lifted.{lifted}
 use Rattle.wt_follows.proofs.Lists.{any-filter, any-map, none-left, or-true, refuted, same}
 use Rattle.wt_follows.proofs.MomentEnds.{ends-count, state-sent}
+use Rattle.wt_follows.proofs.OwnRequest.{bi-apart}
 use Rattle.wt_follows.proofs.PieceLog.{finds-with-actions}
+use Rattle.wt_follows.proofs.QuietEntry.{and-first}
 use Rattle.wt_follows.proofs.Retire.{may_retire}
 use Rattle.wt_follows.proofs.Settled.{settles}
 use Rattle.wt_follows.proofs.SameStreams.{dated-amid, told}
@@ -21,16 +23,17 @@ use Rattle.wt_follows.specs.Pieces.{AllRun, FindsNothing, noted}
 use Rattle.wt_follows.specs.Rests.{ControlRead, Resting, SessionsRead, SlotsRead}
 use Rattle.wt_follows.specs.Roles.{is_arriving, is_at, is_critical, is_in, is_living, waits}
 use Rattle.wt_follows.specs.Tie.{Amid, Follows, goes}
-use Rattle.wt_kept.specs.Calling.{awaits_answer_now, end_session_now, refuse_session_now}
+use Rattle.wt_kept.specs.Calling.{awaits_answer_now, end_session_now, refuse_session_now, refused_by, is_queued_now, was_given_now}
 use Rattle.wt_kept.specs.Ending.{finish_and_retire, retire_now}
 use Rattle.wt_kept.specs.Kept.{DriverNow, Ended, LiveNow, Refused, WorkNow}
 use Rattle.wt_kept.specs.Readers.{ControlReading, Slot, bi_rules, uni_rules}
-use Rattle.wt_kept.specs.Windows.{is_live}
+use Rattle.wt_kept.specs.Moment.{with_work}
+use Rattle.wt_kept.specs.Windows.{is_live, lives_now}
 use Rattle.wt_meaning.specs.ControlBytes.{local_control_bytes}
 use Rattle.wt_next_transport.proofs.Refining.{actions-contents, refined_open}
 use Rattle.wt_seam_spec.specs.Joined.{newest_first}
 use Rattle.wt_seam_spec.specs.Reports.{credit, is_connected, unis_allowed}
-use Rattle.wt_seam_spec.specs.Streams.{contents, local_uni, peer_bi, peer_uni}
+use Rattle.wt_seam_spec.specs.Streams.{contents, local_bi, local_uni, peer_bi, peer_uni}
 use Rattle.wt_seam_spec.specs.Unread.{AtOffset, ReadPosition}
 use Rattle.wt_sessions.proofs.LogFollows.{sent-fits}
 use Rattle.wt_sessions.specs.Driver.{ControlSent, control_actions, control_sent, transport_view}
@@ -39,7 +42,7 @@ use Rattle.wt_sessions.specs.Effect.{log_call}
 use Rattle.wt_sessions.specs.Moment.{Fits, is_known}
 use Rattle.wt_sessions.specs.Scan.{with_no_actions}
 use Rattle.wt_sessions.specs.Step.{after_entry, gone_now}
-use Rattle.wt_sessions.specs.StreamTable.{Session, TransportView}
+use Rattle.wt_sessions.specs.StreamTable.{Classified, Session, TransportView}
 use Rattle.wt_turn.specs.Log.{Called, Log, RequestRejected, is_open, with_actions}
 use Rattle.wt_turn.specs.declared.action.Action.{Action}
 use Rattle.wt_wire.specs.declared.side.Side.{Side}
@@ -145,7 +148,7 @@ module _ (side : Side) (d : DriverNow) (log : Log) (uncollected : List Action) (
     noted-amid = lifted side e (Called (RequestRejected k) ∷ before) gone [] (gone_position s k f.position) (newest_first own uncollected) taken e.work (noted s.progress.settings gone) [] (gone_position s k f.position) (newest_first own uncollected)
         (dated-amid side e.work (Called (RequestRejected k) ∷ before) gone [] (gone_position s k f.position) (newest_first own uncollected) taken.work gone.dispatched.datagrams (with_no_actions s.progress) e.work.dispatched
         (keeps-progress e.work.dispatched gone taken.work.keeps e.work.dispatched.fault (with_no_actions s.progress) refl taken.work.keeps.fault) (λ g. taken.work.control g) (λ g. taken.work.sessions g))
-        (λ kind. refl) refl refl refl (λ g. g) (λ j x. refl) refl
+        (λ kind. refl) refl refl refl (λ g. g) (λ j x. refl) refl (λ c n. (n, refl))
 
     -- what is kept follows the log after the call
     pub end-follows : Amid side e (log_call side log own (RequestRejected k)) (state_of side (log_call side log own (RequestRejected k))) [] (gone_position s k f.position) (newest_first own uncollected)
@@ -275,10 +278,17 @@ module _ (side : Side) (d : DriverNow) (log : Log) (uncollected : List Action) (
 
   refused-is : rejected_driver side d log (state_of side log) f.position uncollected f.amid k ≡ refuse_session_now k d
   unfolding refuse_session_now
-  refused-is = sym (λ i. if (refined_open side d.work.transport log f.position uncollected f.amid.work.transport ∙ opened) i && awaits i then rejected_driver side d log (state_of side log) f.position uncollected f.amid k else d)
+  refused-is = sym (λ i. if awaits i then with_work (refused_by ((refined_open side d.work.transport log f.position uncollected f.amid.work.transport ∙ opened) i) k) d else d)
+
+  held : is_in k (state_of side log).dispatched.held ≡ true
+  held = ap (is_in k) (sym f.amid.work.keeps.held) ∙ and-first (list_any (λ (h : ℕ). h == k) d.work.dispatched.requests.held) (not (is_queued_now d.work.dispatched.requests k)) (and-first (was_given_now d.work.dispatched.requests k) (not (lives_now d.work.dispatched.sessions k)) awaits)
+
+  -- the peer opened its stream
+  pub awaits-apart : (k == local_bi side) ≡ false
+  awaits-apart = bi-apart side k (f.amid.work.there.peers.held k (ap (λ b. b || list_any (λ (c : Classified). c.id == k) (state_of side log).dispatched.requests) held))
 
   -- the driver follows the log with the call, and rests
   pub refuse-session-follows : is_known side (with_actions rejecting log) k ≡ true → Follows side (refuse_session_now k d) (log_call side log rejecting (RequestRejected k)) (newest_first rejecting uncollected)
   refuse-session-follows known = subst (λ (x : DriverNow). Follows side x (log_call side log rejecting (RequestRejected k)) (newest_first rejecting uncollected)) refused-is
       (gone-follows side d log uncollected f fits opened k may rejecting (gone-ends (transport_view side log) (state_of side log).dispatched k) (retire_now k Refused d.work) refl
-      (rejected-amid side d log (state_of side log) f.position uncollected f.amid k may) known)
+      (rejected-amid side d log (state_of side log) f.position uncollected f.amid k may (λ c n. awaits-apart)) known)

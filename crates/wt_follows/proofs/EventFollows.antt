@@ -1,11 +1,13 @@
 -- The driver of an open connection that took an event, before the work of its moment.
-use Rattle.std.proofs.Common.{◌*◌, ◌+◌, ◌<◌, ◌^◌, ◌∙◌, ◌≡◌, ◌≤◌, ◌++◌, ◌∷◌, Bool, List, Option, Some, [], ap, arith, drop, false, length, refl, subst, suc, sym, true, zero, ℕ, min}
+use Rattle.std.proofs.Common.{◌*◌, ◌++◌, ◌+◌, ◌<◌, ◌^◌, ◌∙◌, ◌∷◌, ◌≡◌, ◌≤◌, Bool, List, None, Option, Some, ℕ, [], ap, arith, drop, false, length, min, refl, subst, suc, sym, true, zero}
 use Rattle.std.proofs.lemmas.Bool.{eqb-true, lt-ltb, ltb-false, ltb-true, true≢false}
 use Rattle.std.specs.Prelude.{◌%◌, ◌&&◌, ◌/◌, ◌==◌, ◌||◌, IsTrue, if◌then◌else◌, is_some, nat_lt, not, unwrap_or}
+use Rattle.std.specs.Option.{option_or}
 use Rattle.wt_follows.proofs.EventTaken.{keeps-arrived, one-more, same-count}
 use Rattle.wt_follows.proofs.Events.{AreFew, event-quiet}
 use Rattle.wt_follows.proofs.Lists.{not-true, refuted}
 use Rattle.wt_follows.proofs.Opened.{arrived, distinct-more, in-more, new-arriving, roles-more}
+use Rattle.wt_follows.proofs.OwnRequest.{response-told}
 use Rattle.wt_follows.proofs.QuietEntry.{Quiet, and-first, placed-stays, receives-stays, sending-stays, there-stays, untouched-stays}
 use Rattle.wt_follows.specs.Roles.{Roles, is_arriving, is_in}
 use Rattle.wt_follows.specs.Tie.{Amid, ArrivingFollows, IsUntouched, Placed, Sends, There, goes}
@@ -17,14 +19,15 @@ use Rattle.wt_next_transport.proofs.Asking.{refined_peer_bis, refined_peer_unis}
 use Rattle.wt_next_transport.proofs.Refining.{refined_fits, refined_side, turn_refines}
 use Rattle.wt_next_transport.specs.State.{Refines, TransportState}
 use Rattle.wt_next_transport.specs.Step.{after_turn, count_now, fits_now}
-use Rattle.wt_seam_spec.specs.Arrivals.{event_entry, fits, log_reported, log_turn, may_begin}
-use Rattle.wt_seam_spec.specs.Reports.{bis_allowed, datagrams_of, is_connected, loss_of, unis_allowed}
-use Rattle.wt_seam_spec.specs.Streams.{can_receive, contents, exists, local_count, local_uni, one_more_if, peer_bi, peer_count, peer_opens, peer_uni, stream_count}
+use Rattle.wt_seam_spec.specs.Arrivals.{event_entry, fits, log_reported, log_turn, may_begin, may_receive}
+use Rattle.wt_seam_spec.specs.Reports.{bis_allowed, datagrams_of, end_of, end_reported, if_same, is_connected, is_running, loss_of, unis_allowed}
+use Rattle.wt_seam_spec.specs.Streams.{can_receive, contents, exists, local_bi, local_count, local_uni, one_more_if, peer_bi, peer_count, peer_opens, peer_uni, stream_count}
 use Rattle.wt_seam_spec.specs.Unread.{AtOffset, ReadPosition}
 use Rattle.wt_sessions.specs.Driver.{transport_view}
 use Rattle.wt_sessions.specs.DriverState.{DriverState, state_of}
+use Rattle.wt_sessions.specs.Moment.{is_peers}
 use Rattle.wt_sessions.specs.Step.{after_entry}
-use Rattle.wt_turn.specs.Log.{Datagram, Event, Log, Loss, PeerBi, PeerUni, Reported, actions_of, all_events_of, events_of, is_open}
+use Rattle.wt_turn.specs.Log.{Datagram, Event, Log, Loss, PeerBi, PeerUni, Reported, actions_of, all_events_of, events_of, is_open, newest}
 use Rattle.wt_turn.specs.Turns.{event_of}
 use Rattle.wt_turn.specs.declared.action.Action.{Action}
 use Rattle.wt_turn.specs.declared.turn.Turn.{Turn}
@@ -32,6 +35,8 @@ use Rattle.wt_turn.specs.declared.turn.Turn.TheVariants as turns
 use Rattle.wt_wire.specs.Ids.{is_bidirectional}
 use Rattle.wt_wire.specs.declared.side.Side.{Side}
 use Rattle.wt_wire.specs.declared.side.Side.TheVariants.{Client, Server}
+use Rattle.wt_wire.specs.declared.side.StreamEnd.TheVariants.{Fin, Reset, Running}
+use Rattle.wt_wire.specs.declared.side.StreamEnd.{StreamEnd}
 
 -- ---- the log
 
@@ -246,6 +251,33 @@ peers-differ : (side : Side) → ((local_uni side == peer_uni side) ≡ false) �
 peers-differ Client = (refl, refl)
 peers-differ Server = (refl, refl)
 
+peers-named : (side : Side) → ((peer_uni side == peer_uni side || peer_uni side == peer_bi side) ≡ true) × ((peer_bi side == peer_uni side || peer_bi side == peer_bi side) ≡ true)
+peers-named Client = (refl, refl)
+peers-named Server = (refl, refl)
+
+-- ---- ends
+
+-- a stream that ended doesn't end again
+ended-by : (side : Side) (log : Log) (id k : ℕ) (end : StreamEnd) → fits side log (turns.End id) ≡ true → events_of log ≡ all_events_of log → is_running (end_of (events_of log) k) ≡ false
+    → unwrap_or (option_or (if_same id k end) (newest (end_reported k) (events_of log))) Running ≡ end_of (events_of log) k
+ended-by side log id k end may same over = by (id == k) refl
+  where
+    running : is_running (end_of (events_of log) id) ≡ true
+    running = ap (λ es. is_running (end_of es id)) same ∙ and-second (is_connected (all_events_of log) && can_receive side log id) (is_running (end_of (all_events_of log) id))
+        (and-first (may_receive side log id) (not (is_some (loss_of (all_events_of log)))) may)
+
+    by : (b : Bool) → (id == k) ≡ b → unwrap_or (option_or (if b then Some end else None) (newest (end_reported k) (events_of log))) Running ≡ end_of (events_of log) k
+    by true f = absurd (true≢false (sym running ∙ (ap (λ j. is_running (end_of (events_of log) j)) (eqb-true id k f) ∙ over)))
+    by false f = refl
+
+once-ended : (side : Side) (log : Log) (turn : Turn) (e : Event) (k : ℕ) → event_of turn ≡ Some e → fits side log turn ≡ true → events_of log ≡ all_events_of log → is_running (end_of (events_of log) k) ≡ false
+    → end_of (e ∷ events_of log) k ≡ end_of (events_of log) k
+once-ended side log (turns.Bytes id piece) e k r may same over = absurd cc
+once-ended side log (turns.Call call) e k r may same over = absurd cc
+once-ended side log (turns.End id) e k r may same over = ap (λ (o : Option Event). end_of (unwrap_or o e ∷ events_of log) k) (sym r) ∙ ended-by side log id k Fin may same over
+once-ended side log (turns.Reset id code) e k r may same over = ap (λ (o : Option Event). end_of (unwrap_or o e ∷ events_of log) k) (sym r) ∙ ended-by side log id k (Reset code) may same over
+once-ended side log turn e k r may same over = ap (λ (o : Option Event). end_of (unwrap_or o e ∷ events_of log) k) (sym r)
+
 -- ---- all of it
 
 module _ (side : Side) (d : DriverNow) (log : Log) (position : ℕ → ReadPosition) (uncollected : List Action) (turn : Turn) (e : Event)
@@ -322,7 +354,7 @@ module _ (side : Side) (d : DriverNow) (log : Log) (position : ℕ → ReadPosit
 
     module _ (roles : Roles z) (back : goes z ≡ true → goes s ≡ true) (same : open_ ≡ is_open g)
         (one_way : (k : ℕ) → is_in k us ≡ true → is_bidirectional k ≡ false) (two_way : (k : ℕ) → is_in k bs ≡ true → is_bidirectional k ≡ true)
-        (there : (k : ℕ) → is_arriving z k ≡ true → can_receive side g k ≡ true) (untouched : (k : ℕ) → is_arriving z k ≡ true → IsUntouched g k)
+        (there : (k : ℕ) → is_arriving z k ≡ true → can_receive side g k ≡ true) (peers : (k : ℕ) → is_arriving z k ≡ true → is_peers side k ≡ true) (untouched : (k : ℕ) → is_arriving z k ≡ true → IsUntouched g k)
         (unis : goes z ≡ true → ArrivingFollows uni_rules u d.unis us (contents g) position)
         (bis : goes z ≡ true → ArrivingFollows bi_rules u d.bis bs (contents g) position) where
       q : Quiet side log g
@@ -345,7 +377,7 @@ module _ (side : Side) (d : DriverNow) (log : Log) (position : ℕ → ReadPosit
           keeps = keeps-arrived d.work.dispatched s us bs open_ a.work.keeps;
           roles = roles;
           placed = record { headers = placed.headers; members = placed.members; heads = placed.heads; untouched = placed.untouched; arriving = untouched; unopened = placed.unopened };
-          there = record { unis = one_way; bis = two_way; arriving = there; waiting = known.waiting; living = known.living; held = known.held; members = known.members; critical = known.critical; gone = known.gone; own = known.own; kinds = known.kinds; few = known.few };
+          there = record { unis = one_way; bis = two_way; arriving = there; waiting = known.waiting; living = known.living; held = known.held; members = known.members; critical = known.critical; gone = known.gone; own = known.own; kinds = known.kinds; few = known.few; peers = record { arriving = peers; critical = known.peers.critical; held = known.peers.held; waiting = known.peers.waiting } };
           sends = record { arriving = λ k x. refl; waiting = sending.waiting; members = sending.members; living = sending.living; own = sending.own };
           control = λ x. a.work.control (back x);
           sessions = λ x. a.work.sessions (back x);
@@ -358,12 +390,14 @@ module _ (side : Side) (d : DriverNow) (log : Log) (position : ℕ → ReadPosit
         unis = unis;
         bis = bis;
         datagrams = λ x. unlooked-by turn e s.progress.datagrams (events_of log) d.datagrams reports looked (a.datagrams (back x));
+        response = λ c n. response-told side d.response (contents log) (events_of log) (e ∷ events_of log) position
+            (λ over. once-ended side log turn e (local_bi side) reports (sym (refined_fits side t log position uncollected a.work.transport turn) ∙ fitting) same-events over) (a.response c n);
       }
 
   -- ---- by what the event is
 
   -- a stream of this kind came
-  module _ (kind : ℕ) (low : kind < 4) (foreign : (local_uni side == kind) ≡ false) (opens : peer_opens side kind e ≡ true) where
+  module _ (kind : ℕ) (low : kind < 4) (foreign : (local_uni side == kind) ≡ false) (named : (kind == peer_uni side || kind == peer_bi side) ≡ true) (opens : peer_opens side kind e ≡ true) where
     abbrev new : ℕ
     new = 4 * stream_count side log kind + kind
 
@@ -390,6 +424,16 @@ module _ (side : Side) (d : DriverNow) (log : Log) (position : ℕ → ReadPosit
     there-all : (k : ℕ) (b : Bool) → is_arriving s k ≡ b → (b || new == k) ≡ true → can_receive side g k ≡ true
     there-all k true x y = receives-stays side log g (event-quiet side log e few-then) k (a.work.there.arriving k x)
     there-all k false x y = subst (λ (j : ℕ). can_receive side g j ≡ true) (eqb-true new k y) new-there
+
+    peers-all : (k : ℕ) (b : Bool) → is_arriving s k ≡ b → (b || new == k) ≡ true → is_peers side k ≡ true
+    peers-all k true x y = a.work.there.peers.arriving k x
+    peers-all k false x y = subst (λ (j : ℕ). is_peers side j ≡ true) (eqb-true new k y) (its-peers (stream_count side log kind))
+      where
+        its-peers : (n : ℕ) → is_peers side (4 * n + kind) ≡ true
+        its-peers n = ap (λ m. m == peer_uni side || m == peer_bi side) (rest n) ∙ named
+          where
+            rest : (n : ℕ) → (4 * n + kind) % 4 ≡ kind
+            rest n = let l = low in omega (arith, l)
 
     untouched-all : (k : ℕ) (b : Bool) → is_arriving s k ≡ b → (b || new == k) ≡ true → IsUntouched g k
     untouched-all k true x y = untouched-stays side log g (event-quiet side log e few-then) k (a.work.placed.arriving k x)
@@ -419,14 +463,14 @@ module _ (side : Side) (d : DriverNow) (log : Log) (position : ℕ → ReadPosit
       (one-more uni_rules t u d.unis s.unis (contents log) position side-same refl refl (a.unis y)
       (unis-after ∙ counted-more (peer_opens side (peer_uni side) e) (peer_count side (all_events_of log) (peer_uni side)) (local_count (actions_of log) (peer_uni side)) x
       ∙ ap (λ n. n + 1) (sym unis-before))
-      (ap position uni-number ∙ at-front (peer_uni side) (uni-low side) ((peers-differ side).0) x))
+      (ap position uni-number ∙ at-front (peer_uni side) (uni-low side) ((peers-differ side).0) ((peers-named side).0) x))
 
   bis-grow : peer_opens side (peer_bi side) e ≡ true → goes s ≡ true → ArrivingFollows bi_rules u d.bis (s.bis ++ (4 * stream_count side log (peer_bi side) + peer_bi side) ∷ []) (contents g) position
   bis-grow x y = subst (λ (n : ℕ). ArrivingFollows bi_rules u d.bis (s.bis ++ n ∷ []) (contents log) position) bi-number
       (one-more bi_rules t u d.bis s.bis (contents log) position side-same refl refl (a.bis y)
       (bis-after ∙ counted-more (peer_opens side (peer_bi side) e) (peer_count side (all_events_of log) (peer_bi side)) (local_count (actions_of log) (peer_bi side)) x
       ∙ ap (λ n. n + 1) (sym bis-before))
-      (ap position bi-number ∙ at-front (peer_bi side) (bi-low side) ((peers-differ side).1) x))
+      (ap position bi-number ∙ at-front (peer_bi side) (bi-low side) ((peers-differ side).1) ((peers-named side).1) x))
 
   uni-way : (k : ℕ) (b : Bool) → is_in k s.unis ≡ b → (b || 4 * stream_count side log (peer_uni side) + peer_uni side == k) ≡ true → is_bidirectional k ≡ false
   uni-way k true x y = a.work.there.unis k x
@@ -455,8 +499,9 @@ module _ (side : Side) (d : DriverNow) (log : Log) (position : ℕ → ReadPosit
   uni-came x y same = subst (λ (n : ℕ). Amid side then_ g (arrived (s.unis ++ (4 * n + peer_uni side) ∷ []) s.bis s.is_open s) [] position uncollected) view-uni
       (taken-so (s.unis ++ (4 * stream_count side log (peer_uni side) + peer_uni side) ∷ []) s.bis s.is_open (uni-roles side log s a.work.roles a.work.there s.is_open) (λ z. z) same
       (λ k z. uni-way k (is_in k s.unis) refl (sym (in-more k (4 * stream_count side log (peer_uni side) + peer_uni side) s.unis) ∙ z)) a.work.there.bis
-      (λ k z. there-all (peer_uni side) (uni-low side) ((peers-differ side).0) x k (is_arriving s k) refl (sym (moved k) ∙ z))
-      (λ k z. untouched-all (peer_uni side) (uni-low side) ((peers-differ side).0) x k (is_arriving s k) refl (sym (moved k) ∙ z))
+      (λ k z. there-all (peer_uni side) (uni-low side) ((peers-differ side).0) ((peers-named side).0) x k (is_arriving s k) refl (sym (moved k) ∙ z))
+      (λ k z. peers-all (peer_uni side) (uni-low side) ((peers-differ side).0) ((peers-named side).0) x k (is_arriving s k) refl (sym (moved k) ∙ z))
+      (λ k z. untouched-all (peer_uni side) (uni-low side) ((peers-differ side).0) ((peers-named side).0) x k (is_arriving s k) refl (sym (moved k) ∙ z))
       (unis-grow x) (bis-stay y))
     where
       moved : (k : ℕ) → (is_in k (s.unis ++ (4 * stream_count side log (peer_uni side) + peer_uni side) ∷ []) || is_in k s.bis) ≡ (is_arriving s k || 4 * stream_count side log (peer_uni side) + peer_uni side == k)
@@ -468,8 +513,9 @@ module _ (side : Side) (d : DriverNow) (log : Log) (position : ℕ → ReadPosit
   bi-came x y same = subst (λ (n : ℕ). Amid side then_ g (arrived s.unis (s.bis ++ (4 * n + peer_bi side) ∷ []) s.is_open s) [] position uncollected) view-bi
       (taken-so s.unis (s.bis ++ (4 * stream_count side log (peer_bi side) + peer_bi side) ∷ []) s.is_open (bi-roles side log s a.work.roles a.work.there s.is_open) (λ z. z) same
       a.work.there.unis (λ k z. bi-way k (is_in k s.bis) refl (sym (in-more k (4 * stream_count side log (peer_bi side) + peer_bi side) s.bis) ∙ z))
-      (λ k z. there-all (peer_bi side) (bi-low side) ((peers-differ side).1) x k (is_arriving s k) refl (sym (moved k) ∙ z))
-      (λ k z. untouched-all (peer_bi side) (bi-low side) ((peers-differ side).1) x k (is_arriving s k) refl (sym (moved k) ∙ z))
+      (λ k z. there-all (peer_bi side) (bi-low side) ((peers-differ side).1) ((peers-named side).1) x k (is_arriving s k) refl (sym (moved k) ∙ z))
+      (λ k z. peers-all (peer_bi side) (bi-low side) ((peers-differ side).1) ((peers-named side).1) x k (is_arriving s k) refl (sym (moved k) ∙ z))
+      (λ k z. untouched-all (peer_bi side) (bi-low side) ((peers-differ side).1) ((peers-named side).1) x k (is_arriving s k) refl (sym (moved k) ∙ z))
       (unis-stay y) (bis-grow x))
     where
       moved : (k : ℕ) → (is_in k s.unis || is_in k (s.bis ++ (4 * stream_count side log (peer_bi side) + peer_bi side) ∷ [])) ≡ (is_arriving s k || 4 * stream_count side log (peer_bi side) + peer_bi side == k)
@@ -479,7 +525,7 @@ module _ (side : Side) (d : DriverNow) (log : Log) (position : ℕ → ReadPosit
   pub none-came : peer_opens side (peer_uni side) e ≡ false → peer_opens side (peer_bi side) e ≡ false → (open_ : Bool) → (goes (arrived s.unis s.bis open_ s) ≡ true → goes s ≡ true) → open_ ≡ is_open g
       → Amid side then_ g (arrived s.unis s.bis open_ s) [] position uncollected
   none-came x y open_ back same = taken-so s.unis s.bis open_ (same-roles side log s a.work.roles a.work.there open_) back same a.work.there.unis a.work.there.bis
-      (λ k z. receives-stays side log g (event-quiet side log e few-then) k (a.work.there.arriving k z))
+      (λ k z. receives-stays side log g (event-quiet side log e few-then) k (a.work.there.arriving k z)) (λ k z. a.work.there.peers.arriving k z)
       (λ k z. untouched-stays side log g (event-quiet side log e few-then) k (a.work.placed.arriving k z))
       (λ z. unis-stay x (back z)) (λ z. bis-stay y (back z))
 

@@ -25,6 +25,7 @@ keeps-arrived d s us bs open_ k = record {
   windows = k.windows;
   early = k.early;
   gone = k.gone;
+  gone_named = k.gone_named;
   closed = k.closed;
   established = k.established;
   alive = k.alive;

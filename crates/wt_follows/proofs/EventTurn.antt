@@ -77,6 +77,7 @@ module _ (side : Side) (d : DriverNow) (log : Log) (uncollected : List Action) (
       unis = amid.unis;
       bis = amid.bis;
       datagrams = λ g. absurd (shut g);
+      response = amid.response;
     }
 
     moment-is : moment_now taken ≡ without_datagrams false taken

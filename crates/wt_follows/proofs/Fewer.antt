@@ -5,6 +5,7 @@ use Rattle.std.proofs.lemmas.List.Folds.{list_any-append}
 use Rattle.std.specs.Prelude.{◌==◌, ◌||◌, if◌then◌else◌}
 use Rattle.wt_follows.proofs.Gains.{IsNew}
 use Rattle.wt_follows.proofs.Logs.{flip, same-id}
+use Rattle.wt_follows.proofs.OwnRequest.{peers-kept}
 use Rattle.wt_follows.specs.Roles.{AreDistinct, IsApart, IsSessions, is_arriving, is_in}
 use Rattle.wt_follows.specs.Tie.{WorkAmid}
 use Rattle.wt_kept.specs.Kept.{WorkNow}
@@ -150,6 +151,7 @@ module _ (side : Side) (w : WorkNow) (log : Log) (s : DriverState) (sent : List 
       windows = amid.keeps.windows;
       early = amid.keeps.early;
       gone = amid.keeps.gone;
+      gone_named = amid.keeps.gone_named;
       closed = amid.keeps.closed;
       established = amid.keeps.established;
       alive = amid.keeps.alive;
@@ -196,6 +198,7 @@ module _ (side : Side) (w : WorkNow) (log : Log) (s : DriverState) (sent : List 
       own = amid.there.own;
       kinds = amid.there.kinds;
       few = amid.there.few;
+      peers = peers-kept side full less arriving-less (λ j e. e) (λ j e. e) (λ j e. e) amid.there.peers;
     };
     sends = record {
       arriving = λ j e. amid.sends.arriving j (arriving-less j e);
@@ -250,5 +253,6 @@ module _ (side : Side) (w : WorkNow) (log : Log) (s : DriverState) (sent : List 
     arriving = gone-now;
     untouched = amid.placed.arriving k its-arriving;
     receives = amid.there.arriving k its-arriving;
+    peers = amid.there.peers.arriving k its-arriving;
     sends = amid.sends.arriving k its-arriving;
   }

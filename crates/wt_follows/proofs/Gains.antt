@@ -10,6 +10,7 @@ use Rattle.wt_seam_spec.specs.Streams.{can_receive, contents, exists, local_uni}
 use Rattle.wt_seam_spec.specs.Unread.{ReadPosition}
 use Rattle.wt_sessions.specs.Driver.{still_sends}
 use Rattle.wt_sessions.specs.DriverState.{DriverState}
+use Rattle.wt_sessions.specs.Moment.{is_peers}
 use Rattle.wt_sessions.specs.StreamTable.{Dispatched, DriverProgress, Waiting}
 use Rattle.wt_turn.specs.Log.{Log, with_actions}
 use Rattle.wt_turn.specs.declared.action.Action.{Action}
@@ -41,6 +42,7 @@ pub record IsNew (side : Side) (log : Log) (sent : List Action) (s : DriverState
   pub arriving : is_arriving s k ≡ false
   pub untouched : IsUntouched log k
   pub receives : can_receive side log k ≡ true
+  pub peers : is_peers side k ≡ true
   pub sends : still_sends side (with_actions sent log) k ≡ still_sends side log k
 
 module _ (side : Side) (w : WorkNow) (log : Log) (s : DriverState) (sent : List Action) (position : ℕ → ReadPosition) (uncollected : List Action) (amid : WorkAmid side w log s sent position uncollected) (k : ℕ) (new : IsNew side log sent s k)
@@ -123,6 +125,12 @@ module _ (side : Side) (w : WorkNow) (log : Log) (s : DriverState) (sent : List 
     own = λ session. member-same session (local_uni side) ∙ amid.there.own session;
     kinds = amid.there.kinds;
     few = amid.there.few;
+    peers = record {
+      arriving = amid.there.peers.arriving;
+      critical = λ j. by-id (λ i. is_critical z i ≡ true → is_peers side i ≡ true) k j (λ e. new.peers) (λ ne e. amid.there.peers.critical j (sym (g.critical j ne) ∙ e));
+      held = λ j. by-id (λ i. is_held z i ≡ true → is_peers side i ≡ true) k j (λ e. new.peers) (λ ne e. amid.there.peers.held j (sym (g.held j ne) ∙ e));
+      waiting = λ j. by-id (λ i. waits z i ≡ true → is_peers side i ≡ true) k j (λ e. new.peers) (λ ne e. amid.there.peers.waiting j (sym (g.waiting j ne) ∙ e));
+    };
   }
 
   sends-then : Sends side z log (with_actions sent log)

@@ -6,6 +6,7 @@ use Rattle.std.specs.Prelude.{◌&&◌, ◌==◌, ◌||◌, if◌then◌else◌,
 use Rattle.wt_follows.proofs.Admits.{ids-stay, readers-stay}
 use Rattle.wt_follows.proofs.Lifted.{lifted}
 use Rattle.wt_follows.proofs.Lists.{all-pass, any-filter, any-map, distinct-sub, distinct-with, filter-swap, flip, in-with, none-filtered, none-left, or-true, refuted, same, without-first}
+use Rattle.wt_follows.proofs.OwnRequest.{peers-kept}
 use Rattle.wt_follows.specs.Roles.{AreDistinct, IsSessions, Roles, is_arriving, is_in, is_living, is_member, waits}
 use Rattle.wt_follows.specs.Tie.{Amid, AtHeader, Keeps, Placed, There, WindowFollows, WindowsFollow, WorkAmid, goes_on_at, header_verdict, member_position}
 use Rattle.wt_kept.specs.Calling.{on_sessions}
@@ -181,6 +182,7 @@ module _ (side : Side) (d : DriverNow) (log : Log) (s : DriverState) (position :
     windows = windows-given kept.sessions.living distinct-living keeps.windows;
     early = other-window kept.sessions.early (λ j. not (s.dispatched.is_established j)) (ap not established) keeps.early;
     gone = keeps.gone;
+    gone_named = keeps.gone_named;
     closed = keeps.closed;
     established = keeps.established;
     alive = keeps.alive;
@@ -298,6 +300,7 @@ module _ (side : Side) (d : DriverNow) (log : Log) (s : DriverState) (position :
     own = λ k. joined-other (local_uni side) k (own-apart side id peers) ∙ t.own k;
     kinds = t.kinds;
     few = t.few;
+    peers = peers-kept side s z (λ j e. e) (λ j e. e) (λ j e. e) still-waits t.peers;
   }
 
   work-then : WorkAmid side (record d.work { dispatched = kept_then }) log z [] position uncollected
@@ -315,4 +318,4 @@ module _ (side : Side) (d : DriverNow) (log : Log) (s : DriverState) (position :
 
   -- the session's application has the stream
   pub given-amid : Amid side (on_sessions (with_live (given_stream w.id) session) d) log (after_call (StreamAccepted w.id session) s) [] position uncollected
-  given-amid = lifted side d log s [] position uncollected a (record d.work { dispatched = kept_then }) z [] position uncollected work-then (λ kind. refl) refl refl refl (λ e. e) (λ j e. refl) refl
+  given-amid = lifted side d log s [] position uncollected a (record d.work { dispatched = kept_then }) z [] position uncollected work-then (λ kind. refl) refl refl refl (λ e. e) (λ j e. refl) refl (λ c n. (n, refl))

@@ -166,6 +166,13 @@ module _ (d : DispatchedNow) (s : DriverState) (h : Keeps d s) (k : ℕ) where
         by true g = or-true (s.dispatched.is_gone j)
         by false g = or-false (s.dispatched.is_gone j) ∙ g
 
+    gone-named : (k % 4) ≡ 0 → (end : SessionEndNow) (j : ℕ) → is_some (end_in (with_gone (record { id = k; end = end }) d.sessions.gone) j) ≡ true → (j % 4) ≡ 0
+    gone-named four end j f = by (k == j) refl (ap is_some (sym (end-in-with (record { id = k; end = end }) d.sessions.gone j (ungone four))) ∙ f)
+      where
+        by : (b : Bool) → (k == j) ≡ b → is_some (if b then Some end else end_in d.sessions.gone j) ≡ true → (j % 4) ≡ 0
+        by true e g = subst (λ i. (i % 4) ≡ 0) (eqb-true k j e) four
+        by false e g = h.gone_named j g
+
     -- these are the closed ones where this one ended so
     abbrev pub AreClosed : SessionEndNow → (ℕ → Option Closed) → Type 0
     AreClosed end closed = (j : ℕ) → (j % 4) ≡ 0 → closed j ≡ (if k == j then closed_by k (Some end) else s.closed j)
@@ -207,6 +214,7 @@ module _ (d : DispatchedNow) (s : DriverState) (h : Keeps d s) (k : ℕ) where
               (none-left (is_live k) (λ (y : LiveNow). not (is_live k y)) (λ y f. ap not f) d.sessions.living));
           early = window-apart s.dispatched k d.sessions.early (λ j. not (s.dispatched.is_established j)) (ap not (h.established k remains ∙ lives-same (Some x) e)) h.early;
           gone = gone-then four end;
+          gone_named = gone-named four end;
           closed = closed-then four end closed c;
           established = established-then;
           alive = alive-then;
@@ -227,6 +235,7 @@ module _ (d : DispatchedNow) (s : DriverState) (h : Keeps d s) (k : ℕ) where
           windows = windows-apart s.dispatched k d.sessions.living h.windows (found-any (is_live k) d.sessions.living None e);
           early = early-then (h.established k remains ∙ lives-same None e);
           gone = gone-then four end;
+          gone_named = gone-named four end;
           closed = closed-then four end closed c;
           established = established-then;
           alive = alive-then;

@@ -5,6 +5,7 @@ use Rattle.std.specs.List.{list_any}
 use Rattle.std.specs.Prelude.{◌&&◌, ◌==◌, ◌||◌, not}
 use Rattle.wt_follows.proofs.GoneKeeps.{gone_by, unliving, waiting_for}
 use Rattle.wt_follows.proofs.Lists.{any-filter, any-map, distinct-filter, distinct-sub, flip, in-with-all, map-filter, none-filtered, none-left, once, or-true, refuted, same, same-parts}
+use Rattle.wt_follows.proofs.OwnRequest.{peers-kept}
 use Rattle.wt_follows.proofs.StreamEnds.{all-given-up-apart, all_given_up, given-up-apart, there}
 use Rattle.wt_follows.specs.Roles.{AreDistinct, Roles, is_arriving, is_at, is_critical, is_held, is_in, is_living, is_member, waits}
 use Rattle.wt_follows.specs.Tie.{AtHeader, ControlFollows, Placed, ReaderAt, Sends, SessionsFollow, There, rests_at_header}
@@ -182,6 +183,7 @@ module _ (side : Side) (log : Log) (s : DriverState) (k : ℕ) (closed : ℕ →
     own = t.own;
     kinds = t.kinds;
     few = t.few;
+    peers = peers-kept side s later (λ j e. e) (λ j e. e) was-held waited t.peers;
   }
 
   -- ---- what is sent

@@ -60,7 +60,7 @@ module _ (side : Side) (d : DriverNow) (log : Log) (uncollected : List Action) (
     sent = length (if b then sent_on (actions_of log) (local_uni side) ++ piece else sent_on (actions_of log) (local_uni side));
   }) no_control
 
-  safe-bytes : (bytes : List ℕ) → Harmless side log (send_of id bytes)
+  pub safe-bytes : (bytes : List ℕ) → Harmless side log (send_of id bytes)
   safe-bytes [] = record { there = λ k x. x; peers = (refl, refl); kinds = f.amid.work.there.kinds; control = refl; living = f.amid.work.sends.living; unfinished = f.amid.work.sends.own.0; unreset = f.amid.work.sends.own.1 }
   safe-bytes (byte ∷ later) = record {
     there = λ k x. x;
@@ -78,7 +78,7 @@ module _ (side : Side) (d : DriverNow) (log : Log) (uncollected : List Action) (
 
   -- ---- the end of the half
 
-  safe-finish : Harmless side log (actions.Finish id ∷ [])
+  pub safe-finish : Harmless side log (actions.Finish id ∷ [])
   safe-finish = record {
     there = λ k x. x;
     peers = (refl, refl);
@@ -93,7 +93,7 @@ module _ (side : Side) (d : DriverNow) (log : Log) (uncollected : List Action) (
   pub finish-follows : IsTrue (may_send_now t id) → Follows side (with_transport (after_finish t id)) (log_call side log (actions.Finish id ∷ []) Polled) (actions.Finish id ∷ uncollected)
   finish-follows may = polled-with (actions.Finish id ∷ []) (after_finish t id) safe-finish (finish_refines side t log f.position uncollected f.amid.work.transport id may)
 
-  safe-reset : (code : ℕ) → Harmless side log (actions.ResetOut id code ∷ [])
+  pub safe-reset : (code : ℕ) → Harmless side log (actions.ResetOut id code ∷ [])
   safe-reset code = record {
     there = λ k x. x;
     peers = (refl, refl);

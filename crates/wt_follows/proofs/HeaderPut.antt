@@ -14,6 +14,7 @@ use Rattle.wt_follows.proofs.KindPut.{apart-same, incomplete-at, its-kind, kind-
 use Rattle.wt_follows.proofs.Lists.{any-map}
 use Rattle.wt_follows.proofs.Logs.{flip}
 use Rattle.wt_follows.proofs.Moved.{Elsewhere, control-moved, no-rest, not-at, sessions-moved}
+use Rattle.wt_follows.proofs.OwnRequest.{bi-apart}
 use Rattle.wt_follows.proofs.PieceAmid.{ReadsAlone, put-amid}
 use Rattle.wt_follows.proofs.PlacesAlone.{session-found}
 use Rattle.wt_follows.proofs.PieceSlots.{fed-ids}
@@ -75,6 +76,7 @@ module _ (side : Side) (d : DriverNow) (log : Log) (position : ℕ → ReadPosit
       there = first (exists side log id) (not (local_uni side == id % 4)) (amid.work.there.arriving id arriving);
       rests = no-rest s id apart;
       member = apart.member;
+      request = λ c n. bi-apart side id (amid.work.there.peers.arriving id arriving);
     }
 
     no-session : HasNoSession view s id resting.finds

@@ -59,6 +59,7 @@ module _ (side : Side) where
     alive = λ k e. absurd cc;
     named = λ k e. absurd cc;
     named_streams = λ k e. absurd cc;
+    gone_named = λ k e. absurd cc;
     named_datagrams = λ k e. absurd cc;
     unjoined = λ k e. refl;
     fault = refl;
@@ -99,6 +100,7 @@ module _ (side : Side) where
     own = λ session. refl;
     kinds = (refl, refl);
     few = (omega arith, omega arith);
+    peers = record { arriving = λ k e. absurd cc; critical = λ k e. absurd cc; held = λ k e. absurd cc; waiting = λ k e. absurd cc };
   }
 
   sends : Sends side s [] []
@@ -127,6 +129,7 @@ module _ (side : Side) where
     unis = λ e. unis-first side;
     bis = λ e. bis-first side;
     datagrams = λ e. refl;
+    response = λ c n. refl;
   }
 
   finds : FindsNothing (transport_view side []) s s.progress.settings

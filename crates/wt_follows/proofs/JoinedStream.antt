@@ -6,6 +6,7 @@ use Rattle.wt_follows.proofs.AcceptCall.{changed-read}
 use Rattle.wt_follows.proofs.Admits.{ids-stay, readers-stay}
 use Rattle.wt_follows.proofs.Lifted.{lifted}
 use Rattle.wt_follows.proofs.Lists.{distinct-with, flip, in-with, refuted}
+use Rattle.wt_follows.proofs.OwnRequest.{peers-kept}
 use Rattle.wt_follows.proofs.RecordTold.{told-amid}
 use Rattle.wt_follows.proofs.RestingCall.{resting-call-follows}
 use Rattle.wt_follows.specs.Roles.{AreDistinct, IsSessions, Roles, is_arriving, is_in, is_living, is_member, waits}
@@ -98,6 +99,7 @@ module _ (side : Side) (d : DriverNow) (log : Log) (s : DriverState) (position :
     windows = windows-joined kept.sessions.living (subst AreDistinct (sym keeps.living) roles.living) keeps.windows;
     early = same-window kept.sessions.early _ keeps.early;
     gone = keeps.gone;
+    gone_named = keeps.gone_named;
     closed = keeps.closed;
     established = keeps.established;
     alive = keeps.alive;
@@ -206,6 +208,7 @@ module _ (side : Side) (d : DriverNow) (log : Log) (s : DriverState) (position :
       own = λ k. joined-other (local_uni side) k may.own ∙ t.own k;
       kinds = t.kinds;
       few = t.few;
+      peers = peers-kept side s z (λ k e. e) (λ k e. e) (λ k e. e) (λ k e. e) t.peers;
     };
     sends = record { arriving = λ j e. refl; waiting = λ j e. refl; members = λ j k e f. refl; living = a.work.sends.living; own = a.work.sends.own };
     control = a.work.control;
@@ -214,7 +217,7 @@ module _ (side : Side) (d : DriverNow) (log : Log) (s : DriverState) (position :
 
   -- the stream is one of the session's
   pub joined-amid : Amid side (on_sessions (with_live (joined_by id) session) d) log (after_call (OpeningStarted id session) s) [] position uncollected
-  joined-amid = lifted side d log s [] position uncollected a (record d.work { dispatched = kept_then }) z [] position uncollected work-then (λ kind. refl) refl refl refl (λ e. e) (λ j e. refl) refl
+  joined-amid = lifted side d log s [] position uncollected a (record d.work { dispatched = kept_then }) z [] position uncollected work-then (λ kind. refl) refl refl refl (λ e. e) (λ j e. refl) refl (λ c n. (n, refl))
 
 module _ (side : Side) (d : DriverNow) (log : Log) (uncollected : List Action) (f : Follows side d log uncollected) (fits : Fits side log) (session : ℕ) (lives : is_living (state_of side log) session ≡ true)
     (id : ℕ) (may : MayJoin side log (state_of side log) f.position id) where

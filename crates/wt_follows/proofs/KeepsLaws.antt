@@ -47,6 +47,7 @@ module _ (d : DispatchedNow) (s : DriverState) (h : Keeps d s) where
     windows = windows-same s.dispatched (with_sources control encoder decoder requests held) refl refl (λ k. refl) d.sessions.living h.windows;
     early = window-same s.dispatched (with_sources control encoder decoder requests held) refl refl (λ k. refl) d.sessions.early (λ k. not (s.dispatched.is_established k)) h.early;
     gone = h.gone;
+    gone_named = h.gone_named;
     closed = h.closed;
     established = h.established;
     alive = h.alive;
@@ -78,6 +79,7 @@ module _ (d : DispatchedNow) (s : DriverState) (h : Keeps d s) where
     windows = windows-same s.dispatched (record s.dispatched { is_gone = λ j. s.dispatched.is_gone j || k == j }) refl refl (λ j. refl) d.sessions.living h.windows;
     early = window-same s.dispatched (record s.dispatched { is_gone = λ j. s.dispatched.is_gone j || k == j }) refl refl (λ j. refl) d.sessions.early (λ j. not (s.dispatched.is_established j)) h.early;
     gone = λ j e. same j (none j e) ∙ h.gone j e;
+    gone_named = h.gone_named;
     closed = h.closed;
     established = λ j e. h.established j (less j e);
     alive = λ j e. same j (differs (is_living s) k dead j e) ∙ h.alive j e;

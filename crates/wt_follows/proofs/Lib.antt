@@ -1,44 +1,45 @@
 pub mod Lists
+pub mod OwnRequest
 pub mod StreamEnds
 pub mod GoneKeeps
 pub mod GoneRoles
 pub mod Retire
-mod Headers
-mod QuietEntry
-mod Events
-mod Opened
-mod EventTaken
-mod EventFollows
-mod Looked
-mod TurnFollows
-mod TurnAnswers
-mod QuietCalls
-mod HalfCalls
-mod HalvesFollow
-mod ReadCalls
-mod StopCall
-mod FedDirectly
-mod FedReader
-mod PieceAmid
-mod PieceSlots
-mod KindPut
-mod Puts
-mod HeaderPut
-mod PutFollows
-mod RestFollows
-mod BytesCome
-mod BytesKept
-mod EntryAtRest
-mod SentFollows
-mod CloseCall
-mod Unnoticed
-mod PlacesAlone
-mod AtOnce
-mod Silence
-mod ComesToRest
-mod MomentRests
-mod FlushRests
-mod PieceLog
+pub mod Headers
+pub mod QuietEntry
+pub mod Events
+pub mod Opened
+pub mod EventTaken
+pub mod EventFollows
+pub mod Looked
+pub mod TurnFollows
+pub mod TurnAnswers
+pub mod QuietCalls
+pub mod HalfCalls
+pub mod HalvesFollow
+pub mod ReadCalls
+pub mod StopCall
+pub mod FedDirectly
+pub mod FedReader
+pub mod PieceAmid
+pub mod PieceSlots
+pub mod KindPut
+pub mod Puts
+pub mod HeaderPut
+pub mod PutFollows
+pub mod RestFollows
+pub mod BytesCome
+pub mod BytesKept
+pub mod EntryAtRest
+pub mod SentFollows
+pub mod CloseCall
+pub mod Unnoticed
+pub mod PlacesAlone
+pub mod AtOnce
+pub mod Silence
+pub mod ComesToRest
+pub mod MomentRests
+pub mod FlushRests
+pub mod PieceLog
 pub mod IsReader
 pub mod Offsets
 pub mod ReaderLaws
@@ -62,6 +63,10 @@ pub mod SessionStep
 pub mod SessionsStep
 pub mod Settled
 pub mod ReadLaws
+pub mod ResponseReads
+pub mod ResponseRead
+pub mod ResponseEnd
+pub mod Known
 pub mod MomentFollows
 pub mod MomentEnds
 pub mod EventTurn
@@ -85,6 +90,7 @@ pub mod ScanStep
 pub mod ScanAmid
 pub mod Initial
 pub mod NewSession
+pub mod Begins
 pub mod Registers
 pub mod Dials
 pub mod GivenStream

@@ -3,6 +3,7 @@ use Rattle.std.proofs.Common.{◌∙◌, ◌≡◌, ◌≤◌, ◌^◌, ◌-◌,
 use Rattle.std.specs.Prelude.{◌==◌, ◌||◌}
 use Rattle.wt_follows.proofs.Counts.{SameCounts, consumed-counts}
 use Rattle.wt_follows.proofs.Lists.{or-true, same}
+use Rattle.wt_follows.proofs.OwnRequest.{LeavesRequest, response-moved}
 use Rattle.wt_follows.specs.Roles.{is_arriving, is_in}
 use Rattle.wt_follows.specs.Tie.{Amid, ArrivingFollows, OwnFollows, ReaderAt, SlotsAt, WorkAmid, goes}
 use Rattle.wt_kept.specs.Arriving.{arrived_count, fresh_slots, peer_kind, slots_of}
@@ -59,8 +60,8 @@ module _ (side : Side) (d : DriverNow) (log : Log) (s : DriverState) (sent : Lis
   pub lifted : (w : WorkNow) (z : DriverState) (more : List Action) (new : ℕ → ReadPosition) (later : List Action) → WorkAmid side w log z more new later
       → SameCounts d.work.transport w.transport → z.unis ≡ s.unis → z.bis ≡ s.bis → z.progress.datagrams ≡ s.progress.datagrams → (goes z ≡ true → goes s ≡ true)
       → ((j : ℕ) → is_arriving s j ≡ true → new j ≡ position j) → control_sent side (with_actions more log) ≡ control_sent side (with_actions sent log)
-      → Amid side (record d { work = w }) log z more new later
-  lifted w z more new later b counts unis bis datagrams back moved own = record {
+      → LeavesRequest side s z position new → Amid side (record d { work = w }) log z more new later
+  lifted w z more new later b counts unis bis datagrams back moved own leaves = record {
     work = b;
     kinds = a.kinds;
     few = a.few;
@@ -71,6 +72,7 @@ module _ (side : Side) (d : DriverNow) (log : Log) (s : DriverState) (sent : Lis
     bis = λ g. subst (λ ids. ArrivingFollows bi_rules w.transport d.bis ids (contents log) new) (sym bis)
         (arriving-stays bi_rules (contents log) position new d.work.transport w.transport sides counts d.bis s.bis (λ j e. moved j (ap (λ x. is_in j s.unis || x) e ∙ or-true (is_in j s.unis))) (a.bis (back g)));
     datagrams = λ g. a.datagrams (back g) ∙ ap (λ n. drop n (datagrams_of (events_of log))) (sym datagrams);
+    response = λ c n. let l = leaves c n in response-moved side d.response (contents log) (events_of log) position new l.1 (a.response c l.0);
   }
     where
       sides : w.transport.side ≡ d.work.transport.side

@@ -101,7 +101,7 @@ module _ (side : Side) (log : Log) (d : DriverNow) (s : DriverState) (position :
   begun-amid = lifted side d log s [] position uncollected amid d.work begun [] position uncollected
       (dated-amid side d.work log s [] position uncollected amid.work s.dispatched.datagrams (with_no_actions s.progress) d.work.dispatched
       (keeps-progress d.work.dispatched s amid.work.keeps d.work.dispatched.fault (with_no_actions s.progress) refl amid.work.keeps.fault) (λ g. amid.work.control g) (λ g. amid.work.sessions g))
-      (λ kind. refl) refl refl refl (λ g. g) (λ j e. refl) refl
+      (λ kind. refl) refl refl refl (λ g. g) (λ j e. refl) refl (λ c n. (n, refl))
 
   own-amid : Amid side (own_step d) log begun own position (newest_first own uncollected)
   own-amid = own-lead side log d begun position uncollected begun-amid opened unstopped

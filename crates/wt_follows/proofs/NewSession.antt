@@ -5,9 +5,10 @@ use Rattle.std.specs.Prelude.{◌&&◌, ◌==◌, ◌||◌, if◌then◌else◌,
 use Rattle.wt_follows.proofs.IsReader.{session_reader_is}
 use Rattle.wt_follows.proofs.KeepsLaws.{windows-same}
 use Rattle.wt_follows.proofs.Lifted.{lifted}
-use Rattle.wt_follows.proofs.Lists.{any-map, distinct-with, filter-implied, flip, in-with, map-filter, refuted, same-parts}
+use Rattle.wt_follows.proofs.Lists.{any-map, distinct-with, filter-implied, flip, in-with, map-filter, refuted, same, same-parts}
+use Rattle.wt_follows.proofs.OwnRequest.{peers-kept}
 use Rattle.wt_follows.specs.Roles.{AreDistinct, Roles, is_arriving, is_critical, is_in, is_living, is_member, waits}
-use Rattle.wt_follows.specs.Tie.{Amid, Keeps, Placed, ReaderAt, Sends, SessionsFollow, There, WindowFollows, WindowsFollow, WorkAmid}
+use Rattle.wt_follows.specs.Tie.{Amid, Keeps, NoneEstablished, Placed, ReaderAt, Sends, SessionsFollow, There, WindowFollows, WindowsFollow, WorkAmid}
 use Rattle.wt_kept.specs.Calling.{on_sessions}
 use Rattle.wt_kept.specs.Kept.{DispatchedNow, DriverNow, LiveNow, WaitingDatagram}
 use Rattle.wt_kept.specs.Readers.{session_rules}
@@ -195,6 +196,7 @@ module _ (side : Side) (d : DriverNow) (log : Log) (s : DriverState) (position :
     windows = windows-with live z.dispatched kept.sessions.living own-window (sym (keeps.unjoined k may.unestablished)) (windows-same s.dispatched z.dispatched refl refl (λ j. refl) kept.sessions.living keeps.windows);
     early = early-window;
     gone = keeps.gone;
+    gone_named = keeps.gone_named;
     closed = keeps.closed;
     established = λ j e. ap (λ b. (k == j) || b) (keeps.established j e) ∙ sym (living-is j);
     alive = living-by (λ j. s.dispatched.is_gone j ≡ false) may.remains keeps.alive;
@@ -259,6 +261,7 @@ module _ (side : Side) (d : DriverNow) (log : Log) (s : DriverState) (position :
     own = t.own;
     kinds = t.kinds;
     few = t.few;
+    peers = peers-kept side s z (λ k e. e) (λ k e. e) (λ k e. e) (λ k e. e) t.peers;
   }
 
   sends-then : Sends side z log log
@@ -293,7 +296,11 @@ module _ (side : Side) (d : DriverNow) (log : Log) (s : DriverState) (position :
     sessions = λ e. sessions-with live new (contents log) position refl reader-at kept.sessions.living s.sessions keeps.living (a.work.sessions e);
   }
 
+  -- a session was established
+  begun : NoneEstablished z → ⊥
+  begun n = true≢false (sym (ap (λ b. b || s.dispatched.is_established k) (same k)) ∙ n k)
+
   -- the session lives
   pub established-amid : Amid side (on_sessions (establish_now k) d) log (established_now (record { id = k; offset = offset }) s) [] position uncollected
   established-amid = subst (λ (x : DriverState). Amid side (on_sessions (establish_now k) d) log x [] position uncollected) (sym state-is)
-      (lifted side d log s [] position uncollected a (record d.work { dispatched = kept_then }) z [] position uncollected work-then (λ kind. refl) refl refl refl (λ e. e) (λ j e. refl) refl)
+      (lifted side d log s [] position uncollected a (record d.work { dispatched = kept_then }) z [] position uncollected work-then (λ kind. refl) refl refl refl (λ e. e) (λ j e. refl) refl (λ c n. absurd (begun n)))

@@ -219,7 +219,7 @@ headers-reported offset (Ok fields) g e = parsed-reported offset (request_of fie
 headers-reported offset (Err fault) g e = absurd cc
 
 -- an outcome that stops a walk tells where the item ends, or nothing
-reported-there : {S O : Type 0} (offset : O → Option ℕ) (start m : ℕ) (v o : O) (n g : ℕ) → ((k : ℕ) → offset v ≡ Some k → k ≡ start + m) → (step : Step S O) → step ≡ Stops v m → step ≡ Stops o n → offset o ≡ Some g → g ≡ start + n
+pub reported-there : {S O : Type 0} (offset : O → Option ℕ) (start m : ℕ) (v o : O) (n g : ℕ) → ((k : ℕ) → offset v ≡ Some k → k ≡ start + m) → (step : Step S O) → step ≡ Stops v m → step ≡ Stops o n → offset o ≡ Some g → g ≡ start + n
 reported-there offset start m v o n g f step is e t =
     let same : v ≡ o = cc in
     let size : m ≡ n = cc in

@@ -1,8 +1,10 @@
 -- The streams that have a verdict stand in the table once each.
 use Rattle.std.proofs.Common.{arith, ◌∙◌, ◌≡◌, ◌<◌, ◌+◌, ℕ, zero, suc, ◌*◌, ap, Bool, true, false, cond, List, [], ◌∷◌, ◌++◌, filter, map, is_none, refl, sym}
 use Rattle.std.proofs.lemmas.Bool.{eqb-true, or_from, or_parts, true≢false}
-use Rattle.std.specs.Prelude.{Option, Some, None, Result, Ok, Err, ◌==◌, ◌&&◌, ◌||◌, drop, if◌then◌else◌, not}
-use Rattle.wt_follows.proofs.Lists.{distinct-sub, flip, none-filtered, refuted}
+use Rattle.std.specs.Prelude.{Option, Some, None, Result, Ok, Err, ◌==◌, ◌&&◌, ◌||◌, drop, if◌then◌else◌, not, filter_map}
+use Rattle.std.specs.List.{cons_option}
+use Rattle.wt_follows.proofs.Lists.{distinct-sub, flip, none-filtered, refuted, any-filter, or-true}
+use Rattle.wt_follows.proofs.QuietEntry.{and-first}
 use Rattle.wt_follows.specs.Roles.{AreDistinct, is_in}
 use Rattle.wt_message.specs.Datagram.{datagram_of}
 use Rattle.wt_meaning.specs.Moments.{ids_from}
@@ -16,8 +18,9 @@ use Rattle.wt_sessions.proofs.Scans.{classified-other}
 use Rattle.wt_sessions.specs.Driver.{apply_if, call_view, is_moment, stream_table, transport_view}
 use Rattle.wt_sessions.specs.DriverState.{state_of}
 use Rattle.wt_sessions.specs.Scan.{admit_datagram, bi_ids, check_each, check_living, classify, in_order, is_admitted, is_unclassified, on_progress, places_after, scan, scan_kind, scan_order, session_walked, steps, take_datagrams, take_each, take_parsed, uni_ids, unless_ended, with_no_actions}
-use Rattle.wt_sessions.specs.StreamTable.{CallView, Classified, Session, StreamTable, TransportView, dispatched_streams, is_gone, is_queued, verdict_of}
+use Rattle.wt_sessions.specs.StreamTable.{CallView, Classified, Session, StreamTable, TransportView, dispatched_streams, is_gone, is_queued, verdict_of, is_request, queued_id}
 use Rattle.wt_turn.specs.Log.{Log, is_open}
+use Rattle.wt_wire.specs.HeaderList.{Fields}
 use Rattle.wt_wire.specs.declared.error.ErrorCode.{ErrorCode}
 use Rattle.wt_wire.specs.declared.side.Side.{Side}
 use Rattle.wt_wire.specs.declared.side.StreamEnd.TheVariants.{Running}
@@ -207,3 +210,48 @@ log-once side (e ∷ log) = by (is_moment e && is_open (e ∷ log)) (log-once si
 pub requests-distinct : (side : Side) (log : Log) → AreDistinct (map (λ (c : Classified). c.id) (state_of side log).dispatched.requests)
 unfolding state_of
 requests-distinct side log = distinct-sub (λ (c : Classified). c.id) (λ (c : Classified). is_queued c && not ((call_view log).delivered c.id)) (stream_table side log).classified (log-once side log)
+
+-- ---- what is held
+
+queued-listed : (k : ℕ) (cs : List Classified) → is_in k (filter_map queued_id cs) ≡ true → is_in k (once_ids cs) ≡ true
+queued-listed k [] e = e
+queued-listed k (c ∷ cs) e = by (is_queued c) e (queued-listed k cs)
+  where
+    each : (b : Bool) → (b || is_in k (filter_map queued_id cs)) ≡ true → (is_in k (filter_map queued_id cs) ≡ true → is_in k (once_ids cs) ≡ true) → (b || is_in k (once_ids cs)) ≡ true
+    each true g again = refl
+    each false g again = again g
+
+    by : (b : Bool) → is_in k (cons_option (if b then Some c.id else None) (filter_map queued_id cs)) ≡ true → (is_in k (filter_map queued_id cs) ≡ true → is_in k (once_ids cs) ≡ true) → ((c.id == k) || is_in k (once_ids cs)) ≡ true
+    by true f again = each (c.id == k) f again
+    by false f again = ap (λ b. (c.id == k) || b) (again f) ∙ or-true (c.id == k)
+
+-- a request
+pub record IsRequestOf (k : ℕ) (cs : List Classified) : Type 0 where
+  pub fields : Fields
+  pub offset : ℕ
+  pub verdict : verdict_of k cs ≡ Some (verdicts.Request fields offset)
+
+requested : (v : Verdict) → is_request v ≡ true → (fields : Fields) × ((offset : ℕ) × (v ≡ verdicts.Request fields offset))
+requested (verdicts.Request fields offset) e = (fields, (offset, refl))
+requested _ e = absurd cc
+
+queued-verdict : (k : ℕ) (cs : List Classified) → AreDistinct (once_ids cs) → is_in k (filter_map queued_id cs) ≡ true → IsRequestOf k cs
+queued-verdict k [] d e = absurd (true≢false (sym e))
+queued-verdict k (c ∷ cs) d e = by (c.id == k) refl (is_queued c) refl e (queued-verdict k cs d.1)
+  where
+    behind : (c.id == k) ≡ false → IsRequestOf k cs → IsRequestOf k (c ∷ cs)
+    behind f r = record { fields = r.fields; offset = r.offset; verdict = ap (λ (b : Bool). if b then Some c.verdict else verdict_of k cs) f ∙ r.verdict }
+
+    by : (a : Bool) → (c.id == k) ≡ a → (b : Bool) → is_queued c ≡ b → is_in k (cons_option (if b then Some c.id else None) (filter_map queued_id cs)) ≡ true → (is_in k (filter_map queued_id cs) ≡ true → IsRequestOf k cs) → IsRequestOf k (c ∷ cs)
+    by true f true g h again =
+        let r = requested c.verdict (and-first (is_request c.verdict) c.admitted g) in
+        record { fields = r.0; offset = r.1.0; verdict = ap (λ (b : Bool). if b then Some c.verdict else verdict_of k cs) f ∙ ap Some r.1.1 }
+    by true f false g h again = absurd (true≢false (sym (queued-listed k cs h) ∙ (ap (λ j. is_in j (once_ids cs)) (sym (eqb-true c.id k f)) ∙ d.0)))
+    by false f true g h again = behind f (again (sym (ap (λ (b : Bool). b || is_in k (filter_map queued_id cs)) f) ∙ h))
+    by false f false g h again = behind f (again h)
+
+-- a stream that is held has a request's verdict
+pub held-request : (side : Side) (log : Log) (k : ℕ) → is_in k (state_of side log).dispatched.held ≡ true → IsRequestOf k (stream_table side log).classified
+unfolding state_of
+held-request side log k e = queued-verdict k (stream_table side log).classified (log-once side log)
+    (any-filter (λ (j : ℕ). j == k) (λ (j : ℕ). not (is_gone (call_view log) (stream_table side log) j)) (filter_map queued_id (stream_table side log).classified) e)

@@ -400,6 +400,7 @@ module _ (side : Side) (log : Log) where
         bis = λ e. arriving-kept bi_rules d.bis t x.transport side-same
             (subst (λ (k : Bool). count_now x.transport (peer_kind t.side k) ≡ count_now t (peer_kind t.side k)) (sym amid.kinds.1) bis-count) s.bis (contents log) position position (λ j g. refl) (amid.bis e);
         datagrams = amid.datagrams;
+        response = amid.response;
       }
 
     pub own-lead : Amid side (own_step d) log s head_actions position (newest_first head_actions uncollected)

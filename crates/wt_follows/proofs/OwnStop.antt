@@ -5,6 +5,7 @@ use Rattle.std.specs.Prelude.{◌&&◌, ◌==◌, ◌||◌, if◌then◌else◌,
 use Rattle.wt_follows.proofs.Datagrams.{LeavesStreams}
 use Rattle.wt_follows.proofs.KeepsLaws.{keeps-progress}
 use Rattle.wt_follows.proofs.Lifted.{lifted}
+use Rattle.wt_follows.proofs.OwnRequest.{none-before}
 use Rattle.wt_follows.proofs.SameStreams.{dated-amid}
 use Rattle.wt_follows.proofs.StreamEnds.{actions-events}
 use Rattle.wt_follows.specs.Tie.{Amid, WorkAmid, goes}
@@ -64,9 +65,9 @@ looked-leaves closed s = by s.progress.fault closed
   where
     by : (o : Option ErrorCode) (c : Bool) → LeavesStreams s (unless_ended o (on_progress_now (critical_if c)) s) × ((unless_ended o (on_progress_now (critical_if c)) s).progress.datagrams ≡ s.progress.datagrams)
         × ((unless_ended o (on_progress_now (critical_if c)) s).dispatched ≡ s.dispatched) × ((unless_ended o (on_progress_now (critical_if c)) s).sessions ≡ s.sessions)
-    by None true = (record { unis = refl; bis = refl; is_open = refl; actions = refl; control_sent = refl }, refl, refl, refl)
-    by None false = (record { unis = refl; bis = refl; is_open = refl; actions = refl; control_sent = refl }, refl, refl, refl)
-    by (Some code) c = (record { unis = refl; bis = refl; is_open = refl; actions = refl; control_sent = refl }, refl, refl, refl)
+    by None true = (record { unis = refl; bis = refl; is_open = refl; actions = refl; control_sent = refl; established = λ k. refl }, refl, refl, refl)
+    by None false = (record { unis = refl; bis = refl; is_open = refl; actions = refl; control_sent = refl; established = λ k. refl }, refl, refl, refl)
+    by (Some code) c = (record { unis = refl; bis = refl; is_open = refl; actions = refl; control_sent = refl; established = λ k. refl }, refl, refl, refl)
 
 pub looked-back : (closed : Bool) (s : DriverState) → goes (looked closed s) ≡ true → goes s ≡ true
 looked-back closed s = by s.progress.fault refl closed
@@ -125,7 +126,7 @@ module _ (side : Side) (d : DriverNow) (log : Log) (s : DriverState) (sent : Lis
 
   at : (closed : Bool) → Amid side (record d { work = with_dispatched (fail_if_closed closed) d.work }) log (looked closed s) sent position uncollected
   at closed = let l = looked-leaves closed s in lifted side d log s sent position uncollected a (with_dispatched (fail_if_closed closed) d.work) (looked closed s) sent position uncollected
-      (fail-follows side log sent position uncollected d.work s a.work closed) (λ kind. refl) l.0.unis l.0.bis l.1 (looked-back closed s) (λ j e. refl) refl
+      (fail-follows side log sent position uncollected d.work s a.work closed) (λ kind. refl) l.0.unis l.0.bis l.1 (looked-back closed s) (λ j e. refl) refl (λ c n. (none-before s (looked closed s) l.0.established n, refl))
 
   pub own_stop_follows : Amid side (own_stop_step d) log own_stop_state sent position uncollected
   unfolding own_stop_step

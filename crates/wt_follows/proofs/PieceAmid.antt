@@ -2,26 +2,28 @@
 -- the stream read up to their end.
 use Rattle.std.proofs.Common.{◌+◌, ◌∙◌, ◌≡◌, ◌≤◌, List, [], ap, drop, false, length, subst, sym, true, ℕ}
 use Rattle.std.specs.Prelude.{◌&&◌, ◌==◌, if◌then◌else◌, is_none, not, nat_lt}
-use Rattle.wt_follows.proofs.BytesCome.{OnlyBytes, only-bytes}
+use Rattle.wt_follows.proofs.BytesCome.{OnlyBytes, contents-apart, only-bytes}
 use Rattle.wt_follows.proofs.BytesKept.{exists-same, placed-more, sending-more, there-more}
 use Rattle.wt_follows.proofs.FedDirectly.{fed-directly}
 use Rattle.wt_follows.proofs.Gains.{next}
 use Rattle.wt_follows.proofs.Logs.{differs, same-id}
 use Rattle.wt_follows.proofs.Moved.{Elsewhere}
+use Rattle.wt_follows.proofs.OwnRequest.{response-same}
 use Rattle.wt_follows.proofs.Progress.{placed-progress, roles-progress, sends-progress, there-progress}
 use Rattle.wt_follows.specs.Roles.{is_member}
-use Rattle.wt_follows.specs.Tie.{Amid, ArrivingFollows, AtHeader, ControlFollows, Keeps, OwnFollows, Placed, SessionsFollow, goes, rests_at_header}
+use Rattle.wt_follows.specs.Tie.{Amid, ArrivingFollows, AtHeader, ControlFollows, Keeps, NoneEstablished, OwnFollows, Placed, SessionsFollow, goes, rests_at_header}
 use Rattle.wt_kept.specs.Kept.{ArrivingNow, DispatchedNow, DriverNow}
 use Rattle.wt_kept.specs.Readers.{BiReading, UniReading, bi_rules, uni_rules}
+use Rattle.wt_meaning.specs.Lawful.{is_client}
 use Rattle.wt_seam_spec.specs.Arrivals.{log_bytes}
-use Rattle.wt_seam_spec.specs.Reports.{datagrams_of, unis_allowed}
+use Rattle.wt_seam_spec.specs.Reports.{datagrams_of, end_of, unis_allowed}
 use Rattle.wt_seam_spec.specs.Sent.{sent_on}
-use Rattle.wt_seam_spec.specs.Streams.{contents, exists, local_count, local_uni}
+use Rattle.wt_seam_spec.specs.Streams.{contents, exists, local_bi, local_count, local_uni}
 use Rattle.wt_seam_spec.specs.Unread.{AtOffset, ReadPosition, advance, position_after}
 use Rattle.wt_sessions.specs.Driver.{ControlSent, control_sent}
 use Rattle.wt_sessions.specs.DriverState.{DriverState}
 use Rattle.wt_sessions.specs.StreamTable.{DriverProgress}
-use Rattle.wt_turn.specs.Log.{Log}
+use Rattle.wt_turn.specs.Log.{Log, events_of}
 use Rattle.wt_turn.specs.declared.action.Action.{Action}
 use Rattle.wt_wire.specs.declared.side.Side.{Side}
 
@@ -30,6 +32,7 @@ pub record ReadsAlone (side : Side) (log : Log) (s : DriverState) (id : ℕ) : T
   pub there : exists side log id ≡ true
   pub rests : rests_at_header s id ≡ false
   pub member : (session : ℕ) → is_member s session id ≡ false
+  pub request : is_client side ≡ true → NoneEstablished s → (id == local_bi side) ≡ false
 
 -- it is read up to the end of these bytes
 pub put-at : (log : Log) (position : ℕ → ReadPosition) (id : ℕ) (piece : List ℕ) → position id ≡ AtOffset (length (contents log id)) → position_after position id (length piece) id ≡ AtOffset (length (contents log id) + length piece)
@@ -98,4 +101,6 @@ module _ (side : Side) (d : DriverNow) (log : Log) (s : DriverState) (position :
       unis = λ x. reads_unis (back x);
       bis = λ x. reads_bis (back x);
       datagrams = λ x. a.datagrams (back x) ∙ (λ i. drop (sym datagrams i) (datagrams_of (sym only.events i)));
+      response = λ c n. response-same side d.response (contents log) (contents g) (events_of log) (events_of g) position after (contents-apart log id piece (local_bi side) (alone.request c n))
+          (ap (λ es. end_of es (local_bi side)) only.events) (elsewhere (local_bi side) (alone.request c n)) (a.response c n);
     }

@@ -121,6 +121,7 @@ module _ (side : Side) (old : List Action) (id : ℕ) where
           unis = λ g. absurd (true≢false (sym g ∙ stopped));
           bis = λ g. absurd (true≢false (sym g ∙ stopped));
           datagrams = λ g. absurd (true≢false (sym g ∙ stopped));
+          response = c.follows.amid.response;
         };
         rests = λ e. absurd (true≢false (sym e ∙ shut));
       };

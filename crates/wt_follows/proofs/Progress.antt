@@ -2,6 +2,7 @@
 use Rattle.std.proofs.Common.{◌≡◌, Option, true}
 use Rattle.wt_follows.proofs.Gains.{next}
 use Rattle.wt_follows.proofs.KeepsLaws.{keeps-progress}
+use Rattle.wt_follows.proofs.OwnRequest.{peers-kept}
 use Rattle.wt_follows.specs.Roles.{IsApart, IsSessions, Roles}
 use Rattle.wt_follows.specs.Tie.{Placed, Sends, There, WorkAmid, goes}
 use Rattle.wt_kept.specs.Kept.{WorkNow}
@@ -59,6 +60,7 @@ module _ (s : DriverState) (p : DriverProgress) where
     own = h.own;
     kinds = h.kinds;
     few = h.few;
+    peers = peers-kept side s then (λ k e. e) (λ k e. e) (λ k e. e) (λ k e. e) h.peers;
   }
 
   pub sends-progress : (side : Side) (before after : Log) → Sends side s before after → Sends side then before after

@@ -128,6 +128,7 @@ module _ (side : Side) (d : DriverNow) (log : Log) (uncollected : List Action) (
         own = x.own;
         kinds = x.kinds;
         few = x.few;
+        peers = x.peers;
       };
       sends = record {
         arriving = λ k x. refl;
@@ -146,6 +147,7 @@ module _ (side : Side) (d : DriverNow) (log : Log) (uncollected : List Action) (
     unis = λ x. same-count uni_rules t u d.unis s.unis (contents log) f.position side-same refl refl (a.unis x) unis-same;
     bis = λ x. same-count bi_rules t u d.bis s.bis (contents log) f.position side-same refl refl (a.bis x) bis-same;
     datagrams = a.datagrams;
+    response = a.response;
   }
 
   state-then : after_entry (transport_view side log) (Called r) s ≡ s
@@ -190,7 +192,7 @@ module _ (side : Side) (d : DriverNow) (log : Log) (uncollected : List Action) (
     amid-noted = lifted side e g s [] f.position uncollected taken e.work (noted s.progress.settings s) [] f.position uncollected
         (dated-amid side e.work g s [] f.position uncollected taken.work s.dispatched.datagrams (noted s.progress.settings s).progress e.work.dispatched
         (keeps-progress e.work.dispatched s taken.work.keeps e.work.dispatched.fault (noted s.progress.settings s).progress refl taken.work.keeps.fault) (λ x. taken.work.control x) (λ x. taken.work.sessions x))
-        (λ kind. refl) refl refl refl (λ x. x) (λ j x. refl) refl
+        (λ kind. refl) refl refl refl (λ x. x) (λ j x. refl) refl (λ c n. (n, refl))
 
     following : Follows side e g uncollected
     following = let q = f.rests opened in record {

@@ -85,6 +85,7 @@ module _ (side : Side) (log g : Log) (q : Quiet side log g) where
     own = t.own;
     kinds = (ap (λ as_. local_count as_ (peer_uni side)) q.actions_same ∙ t.kinds.0, ap (λ as_. local_count as_ (peer_bi side)) q.actions_same ∙ t.kinds.1);
     few = q.few;
+    peers = t.peers;
   }
 
   pub sending-stays : (s : DriverState) → Sends side s log log → Sends side s g g

@@ -12,6 +12,7 @@ use Rattle.wt_follows.proofs.Lifted.{arriving-stays, lifted}
 use Rattle.wt_follows.proofs.Lists.{any-map, or-true, refuted, same}
 use Rattle.wt_follows.proofs.Logs.{differs, flip}
 use Rattle.wt_follows.proofs.Moved.{Elsewhere, control-moved, not-held, sessions-moved}
+use Rattle.wt_follows.proofs.OwnRequest.{none-joined}
 use Rattle.wt_follows.proofs.SameStreams.{dated-amid}
 use Rattle.wt_follows.proofs.ScanStep.{reading-kept}
 use Rattle.wt_follows.specs.Pieces.{FindsNothing, noted}
@@ -144,6 +145,7 @@ module _ (side : Side) (d : DriverNow) (log : Log) (uncollected : List Action) (
         own = x.own;
         kinds = x.kinds;
         few = x.few;
+        peers = x.peers;
       };
       sends = record {
         arriving = λ k x. refl;
@@ -162,6 +164,7 @@ module _ (side : Side) (d : DriverNow) (log : Log) (uncollected : List Action) (
     unis = λ x. arriving-stays uni_rules (contents log) f.position after t u sides counts d.unis s.unis (λ j y. arrives-apart j (ap (λ b. b || is_in j s.bis) y)) (a.unis x);
     bis = λ x. arriving-stays bi_rules (contents log) f.position after t u sides counts d.bis s.bis (λ j y. arrives-apart j (ap (λ b. is_in j s.unis || b) y ∙ or-true (is_in j s.unis))) (a.bis x);
     datagrams = a.datagrams;
+    response = λ c n. absurd (true≢false (sym joined ∙ none-joined d.work.dispatched s a.work.keeps n session id));
   }
 
   state-then : after_entry (transport_view side log) (Called r) s ≡ s
@@ -221,7 +224,7 @@ module _ (side : Side) (d : DriverNow) (log : Log) (uncollected : List Action) (
     amid-noted = lifted side e g s [] after uncollected taken e.work (noted s.progress.settings s) [] after uncollected
         (dated-amid side e.work g s [] after uncollected taken.work s.dispatched.datagrams (noted s.progress.settings s).progress e.work.dispatched
         (keeps-progress e.work.dispatched s taken.work.keeps e.work.dispatched.fault (noted s.progress.settings s).progress refl taken.work.keeps.fault) (λ x. taken.work.control x) (λ x. taken.work.sessions x))
-        (λ kind. refl) refl refl refl (λ x. x) (λ j x. refl) refl
+        (λ kind. refl) refl refl refl (λ x. x) (λ j x. refl) refl (λ c n. (n, refl))
 
     following : Follows side e g uncollected
     following = let q = f.rests opened in record {

@@ -1,11 +1,11 @@
 -- Reading on, by the laws of readers: what it leads to by the tie, and what it says of a session's end and of SETTINGS.
-use Rattle.std.proofs.Common.{add-zero, drop-drop, append_assoc, arith, length-drop, take-add, take-append-drop, ◌∙◌, ◌≡◌, ◌<◌, ◌≤◌, ◌+◌, ◌-◌, ◌++◌, ◌∷◌, Bool, List, None, Option, Some, [], ap, drop, false, inl, inr, is_some, length, refl, subst, suc, sym, take, true, zero, ℕ}
+use Rattle.std.proofs.Common.{◌++◌, ◌+◌, ◌-◌, ◌<◌, ◌∙◌, ◌∷◌, ◌≡◌, ◌≤◌, Bool, List, None, Option, Some, ℕ, [], add-zero, ap, append-nil, append_assoc, arith, drop, drop-drop, false, inl, inr, is_some, length, length-drop, refl, subst, suc, sym, take, take-add, take-append-drop, true, zero}
 use Rattle.std.proofs.lemmas.Bool.{cases_lt, eqb-true, true≢false}
-use Rattle.std.specs.Prelude.{◌&&◌, ◌==◌, if◌then◌else◌, not, unwrap_or}
+use Rattle.std.specs.Prelude.{◌&&◌, ◌==◌, ◌⊎◌, if◌then◌else◌, not, unwrap_or}
 use Rattle.wt_follows.proofs.IsReader.{IsReader, control_reader, session_reader_is}
 use Rattle.wt_follows.proofs.ControlStep.{ReadsControl, SettingsStay}
 use Rattle.wt_follows.proofs.Lists.{same}
-use Rattle.wt_follows.proofs.ReaderLaws.{after-runs, at-runs, at-says, reader_after, reads-on, says-so-far, taken-runs, taken-within}
+use Rattle.wt_follows.proofs.ReaderLaws.{after-runs, at-runs, at-says, reader_after, reads-on, says-so-far, taken-none, taken-runs, taken-within}
 use Rattle.wt_follows.proofs.ReadsTo.{ReadsTo}
 use Rattle.wt_follows.proofs.SessionStep.{ReadsSession}
 use Rattle.wt_follows.proofs.SessionsStep.{ReadsSessions}
@@ -115,6 +115,25 @@ module _ {V O : Type 0} (w : ReaderRules V O) (final : O → Bool) (walk_of : Li
     least = not-least;
   }
 
+  piece-is : fed_piece w r rest ≡ w.fed w.start (before ++ take count rest)
+  piece-is = ap (λ (v : V). w.fed v (take count rest)) at.taken ∙ is.more before (take count rest)
+
+  -- it learned the end, or it didn't
+  noted-by : (b : Bool) → w.has_said r ≡ b → ((if b then r else noted_if w.ended (not (is_running end) && count == length rest) end (fed_piece w r rest)) ≡ w.fed w.start (before ++ take count rest))
+      ⊎ (((if b then r else noted_if w.ended (not (is_running end) && count == length rest) end (fed_piece w r rest)) ≡ w.ended end (w.fed w.start (before ++ take count rest))) × (is_running end ≡ false) × (after k ≡ AtOffset (length (contents log k))))
+  noted-by true e = inl (at.taken ∙ ap (λ ys. w.fed w.start ys) (sym (append-nil before) ∙ ap (λ n. before ++ take n rest) (sym (taken-none w final walk_of is r rest e))))
+  noted-by false e = by (is_running end) refl (count == length rest) refl
+    where
+      by : (b : Bool) → is_running end ≡ b → (c : Bool) → (count == length rest) ≡ c → (noted_if w.ended (not b && c) end (fed_piece w r rest) ≡ w.fed w.start (before ++ take count rest))
+          ⊎ ((noted_if w.ended (not b && c) end (fed_piece w r rest) ≡ w.ended end (w.fed w.start (before ++ take count rest))) × (b ≡ false) × (after k ≡ AtOffset (length (contents log k))))
+      by true f c g = inl piece-is
+      by false f false g = inl piece-is
+      by false f true g = inr (
+        ap (λ (v : V). w.ended end v) piece-is,
+        refl,
+        after-here ∙ (ap (advance count) at.at_offset ∙ ap AtOffset (let long = rest-long in let all = eqb-true count (length rest) g in let e : offset + at.count + count ≡ length (contents log k) = omega (arith, long, all) in e)),
+      )
+
   pub reads_to : ReadsTo w walk_of side t log (with_actions sent log) position uncollected k r offset
   reads_to = record {
     position_then = after;
@@ -123,6 +142,8 @@ module _ {V O : Type 0} (w : ReaderRules V O) (final : O → Bool) (walk_of : Li
     says = ap (λ (x : ReadOn V). w.outcome x.reader) read-is ∙ at-says w final walk_of is r offset (contents log k) (position k) end at;
     front = w.fed w.start (before ++ take count rest);
     at_front = front-at;
+    noted = subst (λ (x : ReadOn V). (x.reader ≡ w.fed w.start (before ++ take count rest)) ⊎ ((x.reader ≡ w.ended end (w.fed w.start (before ++ take count rest))) × (is_running end ≡ false) × (after k ≡ AtOffset (length (contents log k)))))
+        (sym read-is) (noted-by (w.has_said r) refl);
     no_end = λ e.
         let runs = after-runs w final walk_of is r before rest end at.taken (ap (λ (x : ReadOn V). w.has_said x.reader) (sym read-is) ∙ e) in
         ap (λ (x : ReadOn V). x.reader) read-is ∙ (runs.1 ∙ ap (λ ys. w.fed w.start (before ++ ys)) (sym (ap (λ n. take n rest) runs.0 ∙ take-length rest)));

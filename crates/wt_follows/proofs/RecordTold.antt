@@ -66,6 +66,7 @@ module _ (side : Side) (log : Log) (r : CallRecord) (none : MovesNone log r) whe
     unis = a.unis;
     bis = a.bis;
     datagrams = a.datagrams;
+    response = a.response;
   }
     where
       quiet : Quiet side log g

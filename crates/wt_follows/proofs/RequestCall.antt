@@ -7,6 +7,7 @@ use Rattle.wt_follows.proofs.KeepsLaws.{window-same, windows-same}
 use Rattle.wt_follows.proofs.Lifted.{lifted}
 use Rattle.wt_follows.proofs.Lists.{all-pass, any-filter, any-map, flip, refuted, same}
 use Rattle.wt_follows.proofs.OnceClassified.{requests-distinct}
+use Rattle.wt_follows.proofs.OwnRequest.{peers-kept}
 use Rattle.wt_follows.proofs.RecordTold.{told-amid}
 use Rattle.wt_follows.proofs.RestingCall.{resting-call-follows}
 use Rattle.wt_follows.specs.Roles.{AreDistinct, Roles, is_held, is_in}
@@ -92,6 +93,7 @@ module _ (side : Side) (d : DriverNow) (log : Log) (s : DriverState) (position :
     windows = windows-same s.dispatched z.dispatched refl refl (λ k. refl) kept.sessions.living h.windows;
     early = window-same s.dispatched z.dispatched refl refl (λ k. refl) kept.sessions.early (λ k. not (s.dispatched.is_established k)) h.early;
     gone = h.gone;
+    gone_named = h.gone_named;
     closed = h.closed;
     established = h.established;
     alive = h.alive;
@@ -140,6 +142,7 @@ module _ (side : Side) (d : DriverNow) (log : Log) (s : DriverState) (position :
       own = t.own;
       kinds = t.kinds;
       few = t.few;
+      peers = peers-kept side s z (λ j e. e) (λ j e. e) was-held (λ j e. e) t.peers;
     };
     sends = record { arriving = λ j e. refl; waiting = λ j e. refl; members = λ j k e f. refl; living = a.work.sends.living; own = a.work.sends.own };
     control = λ e. a.work.control e;
@@ -148,7 +151,7 @@ module _ (side : Side) (d : DriverNow) (log : Log) (s : DriverState) (position :
 
   -- the request was given
   pub taken-amid : Amid side (with_work (with_dispatched (λ (x : DispatchedNow). record x { requests = record x.requests { queued = later } })) d) log (after_call (RequestDelivered q.id) s) [] position uncollected
-  taken-amid = lifted side d log s [] position uncollected a (record d.work { dispatched = kept_then }) z [] position uncollected work-then (λ kind. refl) refl refl refl (λ e. e) (λ j e. refl) refl
+  taken-amid = lifted side d log s [] position uncollected a (record d.work { dispatched = kept_then }) z [] position uncollected work-then (λ kind. refl) refl refl refl (λ e. e) (λ j e. refl) refl (λ c n. (n, refl))
 
 module _ (side : Side) (d : DriverNow) (log : Log) (uncollected : List Action) (f : Follows side d log uncollected) (fits : Fits side log)
     (q : QueuedRequest) (later : List QueuedRequest) (queue : d.work.dispatched.requests.queued ≡ q ∷ later) (recorded : MayRecord side log (RequestDelivered q.id)) where

@@ -179,7 +179,7 @@ module _ (side : Side) (d : DriverNow) (log : Log) (position : ℕ → ReadPosit
         lifted side waiting_driver h z [] position uncollected kept waiting_driver.work (after_front whole came z) [] position uncollected
         (dated-amid side waiting_driver.work h z [] position uncollected kept.work z.dispatched.datagrams (after_front whole came z).progress waiting_driver.work.dispatched
         (keeps-progress waiting_driver.work.dispatched z kept.work.keeps waiting_driver.work.dispatched.fault (after_front whole came z).progress refl kept.work.keeps.fault) (λ g. kept.work.control g) (λ g. kept.work.sessions g))
-        (λ kind. refl) refl refl refl (λ g. g) (λ j e. refl) refl
+        (λ kind. refl) refl refl refl (λ g. g) (λ j e. refl) refl (λ c n. (n, refl))
 
     other-bytes : (j : ℕ) → (id == j) ≡ false → (contents h j ≡ contents log j) × (position j ≡ position j)
     other-bytes j e = (contents-apart log id whole j e, refl)

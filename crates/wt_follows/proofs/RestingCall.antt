@@ -103,7 +103,7 @@ module _ (side : Side) (log : Log) (r : CallRecord) where
           lifted side e g z [] f.position uncollected a w (noted came z) [] f.position uncollected
           (dated-amid side w g z [] f.position uncollected a.work z.dispatched.datagrams (noted came z).progress w.dispatched
           (keeps-progress w.dispatched z a.work.keeps w.dispatched.fault (noted came z).progress settings-same a.work.keeps.fault) (λ x. a.work.control x) (λ x. a.work.sessions x))
-          (λ kind. refl) refl refl refl (λ x. x) (λ j x. refl) refl
+          (λ kind. refl) refl refl refl (λ x. x) (λ j x. refl) refl (λ c n. (n, refl))
 
       resting : Resting side e g f.position
       resting = let x = f.rests opened in record {
@@ -140,3 +140,19 @@ module _ (side : Side) (log : Log) (r : CallRecord) where
         by : (b : Bool) → is_open log ≡ b → Follows side e (log_call side log [] r) uncollected
         by true q = open-follows q
         by false q = closed-follows q
+
+-- nothing goes out at the moment of a record that changes nothing that a moment looks at
+pub record-alone : (side : Side) (log : Log) (r : CallRecord) (d : DriverNow) (uncollected : List Action) → Follows side d log uncollected → Fits side (Called r ∷ log)
+    → SameSources (state_of side log) (after_entry (transport_view side log) (Called r) (state_of side log)) → log_call side log [] r ≡ Called r ∷ log
+record-alone side log r d uncollected f fits same = by (is_open log) refl
+  where
+    z : DriverState
+    z = after_entry (transport_view side log) (Called r) (state_of side log)
+
+    as-open : (b : Bool) → is_open log ≡ b → z.is_open ≡ b
+    as-open b e = same.is_open ∙ (f.amid.work.is_open_same ∙ e)
+
+    by : (b : Bool) → is_open log ≡ b → log_call side log [] r ≡ Called r ∷ log
+    by true e = open-alone side log (Called r) fits refl (state_of side log).progress.settings (as-open true e)
+        (finds-same side log r (state_of side log) z (state_of side log).progress.settings same (f.rests e).finds)
+    by false e = closed-alone side log (Called r) fits refl (as-open false e)

@@ -4,6 +4,7 @@ use Rattle.std.proofs.lemmas.Bool.{eqb-true, true≢false}
 use Rattle.std.specs.Prelude.{◌==◌}
 use Rattle.wt_follows.proofs.Gains.{next}
 use Rattle.wt_follows.proofs.Lists.{refuted}
+use Rattle.wt_follows.proofs.OwnRequest.{peers-kept}
 use Rattle.wt_follows.specs.Roles.{Roles, is_member}
 use Rattle.wt_follows.specs.Tie.{AtHeader, ControlFollows, Keeps, Placed, Sends, SessionsFollow, There, WorkAmid, goes, rests_at_header}
 use Rattle.wt_kept.specs.Kept.{DispatchedNow, WorkNow}
@@ -58,6 +59,7 @@ module _ (s : DriverState) (xs : List Admitted) (p : DriverProgress) (c : Contro
     own = t.own;
     kinds = t.kinds;
     few = t.few;
+    peers = peers-kept side s (told c o (dated xs p s)) (λ k e. e) (λ k e. e) (λ k e. e) (λ k e. e) t.peers;
   }
 
   pub told-sends : (side : Side) (before after : Log) → Sends side s before after → Sends side (told c o (dated xs p s)) before after

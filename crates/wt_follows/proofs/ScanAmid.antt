@@ -36,7 +36,7 @@ use Rattle.wt_seam_spec.specs.Unread.{AtOffset, GivenUp, ReadPosition, advance, 
 use Rattle.wt_sessions.specs.Driver.{transport_view}
 use Rattle.wt_sessions.specs.DriverState.{DriverState}
 use Rattle.wt_sessions.specs.Scan.{places_after, with_fault}
-use Rattle.wt_sessions.specs.Step.{classified_now, scan_ids, stays_if, unless_faulty}
+use Rattle.wt_sessions.specs.Step.{classified_now, dispatch_by, scan_ids, stays_if, unless_faulty}
 use Rattle.wt_sessions.specs.Step as steps
 use Rattle.wt_sessions.specs.StreamTable.{Consequence, DriverProgress, TransportView, consequence}
 use Rattle.wt_turn.specs.Log.{Log, events_of, with_actions}
@@ -62,6 +62,7 @@ pub record SameRest (s z : DriverState) : Type 0 where
   pub bis : z.bis ≡ s.bis
   pub is_open : z.is_open ≡ s.is_open
   pub datagrams : z.progress.datagrams ≡ s.progress.datagrams
+  pub established : (k : ℕ) → z.dispatched.is_established k ≡ s.dispatched.is_established k
 
 -- slots at positions that are the same for them
 pub slots-same : {V O : Type 0} (w : ReaderRules V O) (bytes : ℕ → List ℕ) (before after : ℕ → ReadPosition) (xs : List (Slot V)) → ((j : ℕ) → is_in j (map (λ (x : Slot V). x.id) xs) ≡ true → after j ≡ before j)
@@ -116,7 +117,7 @@ module _ {V : Type 0} (rules : ReaderRules V Verdict) (verdict_of : List ℕ →
     slots = slots;
     read = tt;
     elsewhere = λ j e f. refl;
-    same = record { unis = refl; bis = refl; is_open = refl; datagrams = refl };
+    same = record { unis = refl; bis = refl; is_open = refl; datagrams = refl; established = λ m. refl };
     counts = λ kind. refl;
   }
 
@@ -245,6 +246,23 @@ module _ {V : Type 0} (rules : ReaderRules V Verdict) (verdict_of : List ℕ →
 
     -- ---- it goes
 
+    -- a verdict establishes no session
+    classified-established : (v : Verdict) (m : ℕ) → (classified_now k v (consequence view s.dispatched k v) s).dispatched.is_established m ≡ s.dispatched.is_established m
+    classified-established v m = by v (consequence view s.dispatched k v).admitted
+      where
+        by : (v : Verdict) (b : Bool) → (dispatch_by v (record { id = k; verdict = v; admitted = b }) s.dispatched).is_established m ≡ s.dispatched.is_established m
+        by verdicts.Incomplete b = refl
+        by (verdicts.Control offset) b = refl
+        by (verdicts.Encoder offset) b = refl
+        by (verdicts.Decoder offset) b = refl
+        by (verdicts.WebTransport session offset) true = refl
+        by (verdicts.WebTransport session offset) false = refl
+        by (verdicts.Request fields offset) true = refl
+        by (verdicts.Request fields offset) false = refl
+        by (verdicts.Refused code) b = refl
+        by verdicts.Dropped b = refl
+        by (verdicts.Fault code) b = refl
+
     shown : (v : Verdict) → is_final v ≡ true → rules.outcome reader_then ≡ v
         → ScanLeads s sent position uncollected front (x ∷ xs) r (scan_slots rules classify_now (suc n) xs (classify_now k v (with_transport transport_then r)))
         (scan_ids view verdict (suc n) (ids_of xs) (classified_now k v (consequence view s.dispatched k v) s))
@@ -283,7 +301,7 @@ module _ {V : Type 0} (rules : ReaderRules V Verdict) (verdict_of : List ℕ →
           elsewhere = λ j f g.
               let parts = or_parts (k == j) (is_in j (ids_of xs)) f in
               rest.elsewhere j parts.1 (leads.waiting j parts.0 g) ∙ (leads.elsewhere j parts.0 g ∙ after-else j parts.0);
-          same = record { unis = rest.same.unis; bis = rest.same.bis; is_open = rest.same.is_open; datagrams = rest.same.datagrams ∙ fault-datagrams c.fault _ };
+          same = record { unis = rest.same.unis; bis = rest.same.bis; is_open = rest.same.is_open; datagrams = rest.same.datagrams ∙ fault-datagrams c.fault _; established = λ m. rest.same.established m ∙ classified-established v m };
           counts = λ kind. rest.counts kind ∙ (classify-counts k v (with_transport transport_then r) kind ∙ consumed-counts r.transport k count kind);
         }
       where

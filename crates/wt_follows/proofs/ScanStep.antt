@@ -2,6 +2,7 @@
 use Rattle.std.proofs.Common.{◌∙◌, ◌≡◌, ◌≤◌, ◌+◌, ◌-◌, ◌++◌, ◌∷◌, Bool, List, None, Option, Some, [], ap, arith, false, length, map, refl, subst, suc, sym, take, true, zero, ℕ}
 use Rattle.std.proofs.lemmas.List.{append-nil}
 use Rattle.std.specs.Prelude.{◌&&◌, ◌^◌, ◌%◌, ◌==◌, ◌||◌, drop, if◌then◌else◌, is_none, min}
+use Rattle.std.proofs.lemmas.Bool.{or_parts}
 use Rattle.wt_follows.proofs.Counts.{SameCounts}
 use Rattle.wt_follows.proofs.Ends.{AreEnds, control-same}
 use Rattle.wt_follows.proofs.Fewer.{in-parts, with_ids}
@@ -9,10 +10,11 @@ use Rattle.wt_follows.proofs.HeaderRules.{bi-heads, bi-names, uni-heads, uni-nam
 use Rattle.wt_follows.proofs.IsReader.{IsReader, bi_reader, uni_reader}
 use Rattle.wt_follows.proofs.Logs.{same-id, with-append}
 use Rattle.wt_follows.proofs.Offsets.{IsOffset, bi_offset, uni_offset, verdict_offset}
+use Rattle.wt_follows.proofs.OwnRequest.{none-before, request-arriving, request-waits, response-moved}
 use Rattle.wt_follows.proofs.ScanAmid.{SameRest, ScanLeads, scan-leads, slots-same}
 use Rattle.wt_follows.proofs.ScanSlots.{ReadingSame, Scanned, first-read, reading-same, scan_slots}
 use Rattle.wt_follows.specs.Rests.{SlotsRead}
-use Rattle.wt_follows.specs.Roles.{is_in, waits}
+use Rattle.wt_follows.specs.Roles.{is_arriving, is_in, waits}
 use Rattle.wt_follows.specs.Tie.{Amid, ArrivingFollows, OwnFollows, SlotsAt, WorkAmid, goes, header_verdict}
 use Rattle.wt_kept.specs.Arriving.{ScannedNow, arrived_count, arriving_after, fresh_slots, peer_kind, scan_now, scan_reading, scan_waiting, slots_of}
 use Rattle.wt_kept.specs.Classifying.{classify_now}
@@ -29,7 +31,7 @@ use Rattle.wt_proto.specs.declared.verdict.Verdict.{Verdict}
 use Rattle.wt_proto.specs.declared.verdict.Verdict.TheVariants as verdicts
 use Rattle.wt_seam_spec.specs.Joined.{newest_first}
 use Rattle.wt_seam_spec.specs.Reports.{datagrams_of, end_of}
-use Rattle.wt_seam_spec.specs.Streams.{contents}
+use Rattle.wt_seam_spec.specs.Streams.{contents, local_bi}
 use Rattle.wt_seam_spec.specs.Unread.{ReadPosition}
 use Rattle.wt_sessions.specs.Driver.{ControlSent, control_sent, transport_view}
 use Rattle.wt_sessions.specs.DriverState.{DriverState}
@@ -193,7 +195,7 @@ module _ {V : Type 0} (rules : ReaderRules V Verdict) (verdict_of : List ℕ →
           first = λ f. absurd (not-going f);
           few = few;
           elsewhere = λ j f g. refl;
-          same = record { unis = refl; bis = refl; is_open = refl; datagrams = refl };
+          same = record { unis = refl; bis = refl; is_open = refl; datagrams = refl; established = λ m. refl };
           stays = λ f. f;
           counts = λ kind. refl;
         })
@@ -261,6 +263,9 @@ module _ (side : Side) (log : Log) (d : DriverNow) (s : DriverState) (sent : Lis
       by true f = f
       by false f = absurd (let g = stays f in cc)
 
+  request-apart : is_arriving s (local_bi side) ≡ false
+  request-apart = request-arriving side s amid.work.there.peers
+
   -- ---- the unidirectional streams
 
   abbrev unis_left : steps.Scanned
@@ -294,6 +299,9 @@ module _ (side : Side) (log : Log) (d : DriverNow) (s : DriverState) (sent : Lis
               (arriving-kept bi_rules d.bis d.work.transport (scan_now uni_rules classify_now d.unis d.work).work.transport (side-of _ _ _ _ _ l.amid_then) (l.counts (peer_kind d.work.transport.side d.bis.bidirectional)) s.bis (contents log) position l.position_then
               (λ j f. l.elsewhere j (arrives-bi j f).0 (arrives-bi j f).1) (amid.bis (went unis_left.state l.stays e)));
           datagrams = λ e. amid.datagrams (went unis_left.state l.stays e) ∙ ap (λ n. drop n (datagrams_of (events_of log))) (sym l.same.datagrams);
+          response = λ c n. response-moved side d.response (contents log) (events_of log) position l.position_then
+              (l.elsewhere (local_bi side) (or_parts (is_in (local_bi side) s.unis) (is_in (local_bi side) s.bis) request-apart).0 (request-waits side s amid.work.there.peers))
+              (amid.response c (none-before s unis_left.state l.same.established n));
         };
         actions = l.actions;
         ends = l.ends;
@@ -337,6 +345,9 @@ module _ (side : Side) (log : Log) (d : DriverNow) (s : DriverState) (sent : Lis
               (λ j f. l.elsewhere j (arrives-uni j f).0 (arrives-uni j f).1) (amid.unis (went bis_left.state l.stays e)));
           bis = l.arriving;
           datagrams = λ e. amid.datagrams (went bis_left.state l.stays e) ∙ ap (λ n. drop n (datagrams_of (events_of log))) (sym l.same.datagrams);
+          response = λ c n. response-moved side d.response (contents log) (events_of log) position l.position_then
+              (l.elsewhere (local_bi side) (or_parts (is_in (local_bi side) s.unis) (is_in (local_bi side) s.bis) request-apart).1 (request-waits side s amid.work.there.peers))
+              (amid.response c (none-before s bis_left.state l.same.established n));
         };
         actions = l.actions;
         ends = l.ends;

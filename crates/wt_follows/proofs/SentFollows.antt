@@ -1,19 +1,20 @@
 -- Actions of a call went out before its record: what is kept follows the log with them, as long as they touch neither this end's control
 -- stream nor what a session that lives sends on its own stream.
-use Rattle.std.proofs.Common.{◌+◌, ◌^◌, ◌∙◌, ◌≡◌, ◌≤◌, ◌∷◌, Bool, List, [], ap, drop, false, length, refl, subst, sym, take, true, ℕ, min}
+use Rattle.std.proofs.Common.{◌+◌, ◌^◌, ◌∙◌, ◌∷◌, ◌≡◌, ◌≤◌, Bool, List, ℕ, [], ap, drop, false, length, min, refl, subst, subst₂, sym, take, true}
 use Rattle.std.proofs.lemmas.Bool.{true≢false}
 use Rattle.std.specs.List.{list_any}
 use Rattle.std.specs.Prelude.{◌%◌, ◌&&◌, ◌==◌, ◌||◌, if◌then◌else◌, is_none, is_some, nat_lt, not, unwrap_or}
 use Rattle.wt_follows.proofs.EventTaken.{same-count}
 use Rattle.wt_follows.proofs.Lists.{refuted}
 use Rattle.wt_follows.proofs.Logs.{calls-kept, events-kept}
+use Rattle.wt_follows.proofs.OwnRequest.{peers-kept}
 use Rattle.wt_follows.proofs.PieceLog.{finds-with-actions}
 use Rattle.wt_follows.proofs.EventFollows.{and-second}
 use Rattle.wt_follows.proofs.QuietEntry.{and-first, and-more}
 use Rattle.wt_follows.specs.Pieces.{FindsNothing}
 use Rattle.wt_follows.specs.Rests.{ControlRead, Resting, SessionsRead, SlotsRead}
 use Rattle.wt_follows.specs.Roles.{Roles, is_living}
-use Rattle.wt_follows.specs.Tie.{Amid, ArrivingFollows, ControlFollows, Follows, IsUntouched, Keeps, OwnFollows, Placed, SessionsFollow, There, goes, goes_on_at, header_verdict, member_position}
+use Rattle.wt_follows.specs.Tie.{Amid, ArrivingFollows, ControlFollows, Follows, IsUntouched, Keeps, OwnFollows, Placed, ResponseFollows, SessionsFollow, There, goes, goes_on_at, header_verdict, member_position}
 use Rattle.wt_kept.specs.Arriving.{arrived_count, peer_kind}
 use Rattle.wt_kept.specs.Kept.{DriverNow}
 use Rattle.wt_kept.specs.Readers.{bi_rules, uni_rules}
@@ -53,7 +54,7 @@ unfolding state_of
 sent-is side log = refl
 
 -- actions change nothing else of what is kept
-state-sent : (side : Side) (own : List Action) (log : Log)
+pub state-sent : (side : Side) (own : List Action) (log : Log)
     → state_of side (with_actions own log) ≡ record (state_of side log) { control_sent = control_sent side (with_actions own log); is_open = is_open (with_actions own log) }
 unfolding state_of stream_table
 state-sent side [] log = refl
@@ -122,6 +123,7 @@ module _ (side : Side) (d : DriverNow) (log : Log) (uncollected : List Action) (
     own = x.own;
     kinds = safe.kinds;
     few = (subst (λ (n : ℕ). n ≤ 2 ^ 60) (sym safe.peers.0) x.few.0, subst (λ (n : ℕ). n ≤ 2 ^ 60) (sym safe.peers.1) x.few.1);
+    peers = x.peers;
   }
 
   -- readers go on only where they did
@@ -173,6 +175,7 @@ module _ (side : Side) (d : DriverNow) (log : Log) (uncollected : List Action) (
     windows = k.windows;
     early = k.early;
     gone = k.gone;
+    gone_named = k.gone_named;
     closed = k.closed;
     established = k.established;
     alive = k.alive;
@@ -201,15 +204,16 @@ module _ (side : Side) (d : DriverNow) (log : Log) (uncollected : List Action) (
     held = r.held;
   }
 
-  amid : Amid side e g z [] f.position (newest_first own uncollected)
-  amid = record {
+  -- in the midst of no moment, with readers where they were
+  pub sent-amid : Amid side e g z [] f.position (newest_first own uncollected)
+  sent-amid = record {
     work = record {
       transport = refines;
       is_open_same = refl;
       keeps = keeps-sent;
       roles = roles-sent;
       placed = let p = placed in record { headers = p.headers; members = p.members; heads = p.heads; untouched = p.untouched; arriving = p.arriving; unopened = p.unopened };
-      there = let x = there in record { unis = x.unis; bis = x.bis; arriving = x.arriving; waiting = x.waiting; living = x.living; held = x.held; members = x.members; critical = x.critical; gone = x.gone; own = x.own; kinds = x.kinds; few = x.few };
+      there = let x = there in record { unis = x.unis; bis = x.bis; arriving = x.arriving; waiting = x.waiting; living = x.living; held = x.held; members = x.members; critical = x.critical; gone = x.gone; own = x.own; kinds = x.kinds; few = x.few; peers = peers-kept side s z (λ k e. e) (λ k e. e) (λ k e. e) (λ k e. e) x.peers };
       sends = record { arriving = λ k x. refl; waiting = λ k x. refl; members = λ k session x y. refl; living = safe.living; own = (safe.unfinished, safe.unreset) };
       control = λ x. subst (λ (c : ℕ → List ℕ). ControlFollows d.work.dispatched.critical.control s.dispatched.control c f.position) (sym contents-same) (a.work.control (back x));
       sessions = λ x. subst (λ (c : ℕ → List ℕ). SessionsFollow d.work.dispatched.sessions.living s.sessions c f.position) (sym contents-same) (a.work.sessions (back x));
@@ -221,6 +225,7 @@ module _ (side : Side) (d : DriverNow) (log : Log) (uncollected : List Action) (
     unis = λ x. subst (λ (c : ℕ → List ℕ). ArrivingFollows uni_rules u d.unis s.unis c f.position) (sym contents-same) (same-count uni_rules t u d.unis s.unis (contents log) f.position side-same refl refl (a.unis (back x)) unis-same);
     bis = λ x. subst (λ (c : ℕ → List ℕ). ArrivingFollows bi_rules u d.bis s.bis c f.position) (sym contents-same) (same-count bi_rules t u d.bis s.bis (contents log) f.position side-same refl refl (a.bis (back x)) bis-same);
     datagrams = λ x. a.datagrams (back x) ∙ ap (λ es. drop s.progress.datagrams (datagrams_of es)) (sym events-same);
+    response = λ c n. subst₂ (λ b es. ResponseFollows side d.response b es f.position) (sym contents-same) (sym events-same) (a.response c n);
   }
 
   -- a driver that rested rests
@@ -238,8 +243,8 @@ module _ (side : Side) (d : DriverNow) (log : Log) (uncollected : List Action) (
     idle = ap (λ (c : ControlSent). control_actions (transport_view side g).may_open (local_uni side) (transport_view side g).credit c) (safe.control ∙ sym (sent-is side log)) ∙ x.idle;
   }
 
-  resting : is_open g ≡ true → Resting side e g f.position
-  resting x = let r = f.rests (open-stays own log x) in record {
+  pub sent-rests : is_open g ≡ true → Resting side e g f.position
+  sent-rests x = let r = f.rests (open-stays own log x) in record {
     finds = subst (λ (w : DriverState). FindsNothing (transport_view side g) w w.progress.settings) (sym (state-sent side own log)) (finds-then r.finds);
     unis = subst (λ (c : ℕ → List ℕ). SlotsRead f.position c d.unis.reading) (sym contents-same) r.unis;
     bis = subst (λ (c : ℕ → List ℕ). SlotsRead f.position c d.bis.reading) (sym contents-same) r.bis;
@@ -256,6 +261,6 @@ module _ (side : Side) (d : DriverNow) (log : Log) (uncollected : List Action) (
   pub sent-follows : Follows side e g (newest_first own uncollected)
   sent-follows = record {
     position = f.position;
-    amid = subst (λ (w : DriverState). Amid side e g w [] f.position (newest_first own uncollected)) (sym (state-sent side own log)) amid;
-    rests = resting;
+    amid = subst (λ (w : DriverState). Amid side e g w [] f.position (newest_first own uncollected)) (sym (state-sent side own log)) sent-amid;
+    rests = sent-rests;
   }

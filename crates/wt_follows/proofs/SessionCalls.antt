@@ -9,16 +9,18 @@ use Rattle.wt_follows.proofs.GoneRoles.{MayRetire, gone-elsewhere, gone_position
 use Rattle.wt_follows.proofs.Lifted.{lifted}
 use Rattle.wt_follows.proofs.Lists.{refuted}
 use Rattle.wt_follows.proofs.MomentEnds.{ends-count}
+use Rattle.wt_follows.proofs.OwnRequest.{none-lives, request-waits}
 use Rattle.wt_follows.proofs.Retire.{finish_follows, may_retire, retire_follows, unclosed}
 use Rattle.wt_follows.proofs.SessionStep.{finish-counts, own-ends}
 use Rattle.wt_follows.proofs.Settled.{settled_state, settles}
 use Rattle.wt_follows.specs.Roles.{is_arriving, is_living}
-use Rattle.wt_follows.specs.Tie.{Amid, IsUntouched, Placed, body_of}
+use Rattle.wt_follows.specs.Tie.{Amid, IsUntouched, NoneEstablished, Placed, body_of}
 use Rattle.wt_kept.specs.Ending.{finish_and_retire, finish_running, retire_now}
 use Rattle.wt_kept.specs.Kept.{DriverNow, Ended, Refused}
+use Rattle.wt_meaning.specs.Lawful.{is_client}
 use Rattle.wt_next_transport.specs.State.{Refines}
 use Rattle.wt_seam_spec.specs.Joined.{newest_first}
-use Rattle.wt_seam_spec.specs.Streams.{peer_bi, peer_uni}
+use Rattle.wt_seam_spec.specs.Streams.{local_bi, peer_bi, peer_uni}
 use Rattle.wt_seam_spec.specs.Unread.{AtOffset, GivenUp, ReadPosition}
 use Rattle.wt_sessions.specs.Driver.{gives_up, transport_view}
 use Rattle.wt_sessions.specs.DriverState.{DriverState}
@@ -59,6 +61,7 @@ module _ (side : Side) (d : DriverNow) (log : Log) (s : DriverState) (position :
         (finish_follows side d.work log s [] position uncollected a.work k open_ lives Ended s.closed (unclosed side d.work log s [] position uncollected a.work k may))
         (λ kind. retire-counts k Ended (record d.work { transport = finish_running d.work.transport k }) kind ∙ finish-counts d.work.transport k kind)
         refl refl refl (λ g. g) (λ j e. gone-elsewhere s k position j (not-own j e) (a.work.roles.arriving j e).waits) (control-same side end_actions log end-ends)
+        (λ c n. absurd (true≢false (sym lives ∙ none-lives d.work.dispatched s a.work.keeps n k)))
 
     -- with what went out in the log
     pub ended-settles : Amid side ended_driver (with_actions end_actions log) (settled_state side ended_driver log (gone_now k s) end_actions (gone_position s k position) (newest_first end_actions uncollected) ended-amid
@@ -76,13 +79,14 @@ module _ (side : Side) (d : DriverNow) (log : Log) (s : DriverState) (position :
   abbrev pub rejected_driver : DriverNow
   rejected_driver = record d { work = retire_now k Refused d.work }
 
-  module _ (may : MayRetire side log s k) where
+  module _ (may : MayRetire side log s k) (apart : is_client side ≡ true → NoneEstablished s → (k == local_bi side) ≡ false) where
     pub rejected-amid : Amid side rejected_driver log (gone_now k s) reject_actions (gone_position s k position) (newest_first reject_actions uncollected)
     rejected-amid = lifted side d log s [] position uncollected a (retire_now k Refused d.work) (gone_now k s) reject_actions (gone_position s k position) (newest_first reject_actions uncollected)
         (retire_follows side d.work log s [] position uncollected a.work k may) (λ kind. retire-counts k Refused d.work kind)
         refl refl refl (λ g. g)
         (λ j e. gone-elsewhere s k position j (refuted (k == j) (λ f. true≢false (sym e ∙ (ap (is_arriving s) (sym (eqb-true k j f)) ∙ may.arriving)))) (a.work.roles.arriving j e).waits)
         (control-same side reject_actions log (gone-ends view s.dispatched k))
+        (λ c n. (n, gone-elsewhere s k position (local_bi side) (apart c n) (request-waits side s a.work.there.peers)))
 
     pub rejected-settles : Amid side rejected_driver (with_actions reject_actions log) (settled_state side rejected_driver log (gone_now k s) reject_actions (gone_position s k position) (newest_first reject_actions uncollected) rejected-amid
         (ends-count (peer_uni side) reject_actions log (gone-ends view s.dispatched k)) (ends-count (peer_bi side) reject_actions log (gone-ends view s.dispatched k))) [] (gone_position s k position) (newest_first reject_actions uncollected)
@@ -146,6 +150,7 @@ module _ (side : Side) (e : DriverNow) (log : Log) (z : DriverState) (position :
         own = t.own;
         kinds = t.kinds;
         few = t.few;
+        peers = t.peers;
       };
       sends = record { arriving = λ j x. refl; waiting = λ j x. refl; members = λ j session x y. refl; living = a.work.sends.living; own = a.work.sends.own };
       control = a.work.control;
@@ -158,4 +163,5 @@ module _ (side : Side) (e : DriverNow) (log : Log) (z : DriverState) (position :
     unis = a.unis;
     bis = a.bis;
     datagrams = a.datagrams;
+    response = a.response;
   }

@@ -16,6 +16,7 @@ use Rattle.wt_follows.proofs.KeepsLaws.{keeps-progress}
 use Rattle.wt_follows.proofs.KindPut.{its-contents, its-read, kind-apart}
 use Rattle.wt_follows.proofs.Lists.{refuted}
 use Rattle.wt_follows.proofs.Moved.{control-moved}
+use Rattle.wt_follows.proofs.OwnRequest.{none-lives}
 use Rattle.wt_follows.proofs.PieceAmid.{ReadsAlone, elsewhere, put-amid}
 use Rattle.wt_follows.proofs.Puts.{Put, front-datagrams, front-fault, front-progress, front-settings}
 use Rattle.wt_follows.proofs.ReaderLaws.{has-said-is, take-whole}
@@ -126,6 +127,7 @@ module _ (side : Side) (d : DriverNow) (log : Log) (position : ℕ → ReadPosit
     there = first (exists side log id) (not (local_uni side == id % 4)) (amid.work.there.living id lives);
     rests = (λ i. no-waits i || (is_in id s.dispatched.held && not (established i))) ∙ none (is_in id s.dispatched.held);
     member = λ session. refuted (is_member s session id) (λ f. true≢false (sym lives ∙ (amid.work.roles.members_alone id session f).living));
+    request = λ c n. absurd (true≢false (sym lives ∙ none-lives d.work.dispatched s amid.work.keeps n id));
   }
     where
       none : (b : Bool) → (b && false) ≡ false

@@ -105,6 +105,7 @@ module _ (k : ℕ) (r : SessionReader) where
     windows = windows-read s.dispatched d.sessions.living h.windows;
     early = h.early;
     gone = h.gone;
+    gone_named = h.gone_named;
     closed = h.closed;
     established = h.established;
     alive = h.alive;

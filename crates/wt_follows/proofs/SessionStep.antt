@@ -11,13 +11,14 @@ use Rattle.wt_follows.proofs.KeepsLaws.{keeps-progress}
 use Rattle.wt_follows.proofs.Lifted.{read-counts}
 use Rattle.wt_follows.proofs.Lists.{any-filter, none-left, refuted, same}
 use Rattle.wt_follows.proofs.Moved.{control-moved}
+use Rattle.wt_follows.proofs.OwnRequest.{LeavesRequest, none-lives}
 use Rattle.wt_follows.proofs.ReadsTo.{ReadsTo}
 use Rattle.wt_follows.proofs.Retire.{finish_follows, reset_follows}
 use Rattle.wt_follows.proofs.SameStreams.{dated-amid, read-amid}
 use Rattle.wt_follows.proofs.SessionReads.{reader-keeps, retire-read, sessions-read}
 use Rattle.wt_follows.proofs.StreamEnds.{there}
 use Rattle.wt_follows.specs.Roles.{is_arriving, is_at, is_critical, is_in, is_living, is_member, waits}
-use Rattle.wt_follows.specs.Tie.{WorkAmid, goes, rests_at_header}
+use Rattle.wt_follows.specs.Tie.{NoneEstablished, WorkAmid, goes, rests_at_header}
 use Rattle.wt_kept.specs.Classifying.{fail_with, with_dispatched, with_sessions}
 use Rattle.wt_kept.specs.Ending.{finish_running}
 use Rattle.wt_kept.specs.Kept.{Closed, LiveNow, SessionEndNow, WorkNow}
@@ -69,6 +70,7 @@ pub record Stepped (side : Side) (log : Log) (sent : List Action) (position : �
   pub ends : AreEnds more
   pub back : goes z ≡ true → goes s ≡ true
   pub lives : (k : ℕ) → is_living z k ≡ true → is_living s k ≡ true
+  pub request : LeavesRequest side s z position position_then
   pub apart : (j : ℕ) → is_in j looked ≡ false → is_living z j ≡ true → position_then j ≡ position j
   pub read : goes z ≡ true → (j : ℕ) → is_in j looked ≡ true → is_living z j ≡ true → position_then j ≡ AtOffset (length (contents log j))
 
@@ -113,6 +115,10 @@ module _ (side : Side) (log : Log) (sent : List Action) (position : ℕ → Read
 
   lives : is_living s k ≡ true
   lives = found-any (λ (z : Session). z.id == k) s.sessions (Some y) listed
+
+  -- a session was established
+  begun : NoneEstablished s → ⊥
+  begun n = true≢false (sym lives ∙ none-lives w.dispatched s a.keeps n k)
 
   abbrev new : ℕ → ReadPosition
   new = rs.reads.position_then
@@ -179,6 +185,7 @@ module _ (side : Side) (log : Log) (sent : List Action) (position : ℕ → Read
     ends = tt;
     back = λ f. f;
     lives = λ j f. f;
+    request = λ c n. absurd (begun n);
     apart = λ j f l. rs.reads.elsewhere j (not-alone j f);
     read = λ f j h l. subst (λ n. new n ≡ AtOffset (length (contents log n))) (alone j h) (rs.reads.read_all (ap is_over e));
   }
@@ -201,6 +208,7 @@ module _ (side : Side) (log : Log) (sent : List Action) (position : ℕ → Read
     ends = tt;
     back = λ f. absurd (shut f);
     lives = λ j f. f;
+    request = λ c n. absurd (begun n);
     apart = λ j f l. rs.reads.elsewhere j (not-alone j f);
     read = λ f j h l. absurd (shut f);
   }
@@ -271,6 +279,7 @@ module _ (side : Side) (log : Log) (sent : List Action) (position : ℕ → Read
       ends = ends-both (session_end view k b) (gone_actions view s.dispatched k) (own-ends view k b) (gone-ends view s.dispatched k);
       back = λ f. f;
       lives = λ j f. still j f;
+      request = λ c n. absurd (begun n);
       apart = λ j f l. gone-elsewhere s k new j (not-alone j f) (refuted (waits s j) (λ h. true≢false (sym (still j l) ∙ (a.roles.waiting_alone j h).living))) ∙ rs.reads.elsewhere j (not-alone j f);
       read = λ f j h l. absurd (true≢false (sym (ap (is_living (closed_state b)) (alone j h) ∙ l) ∙ left));
     }

@@ -52,6 +52,7 @@ module _ (side : Side) (log : Log) where
     ends = tt;
     back = λ e. e;
     lives = λ k e. e;
+    request = λ c n. (n, refl);
     apart = λ j e f. refl;
     read = λ e j f. absurd (true≢false (sym f));
   }
@@ -73,6 +74,7 @@ module _ (side : Side) (log : Log) where
     ends = tt;
     back = λ e. e;
     lives = λ k e. e;
+    request = λ c n. (n, refl);
     apart = λ j e f. refl;
     read = λ e j f l. absurd (true≢false (sym (stopped s.is_open s.progress.fault fault e)));
   }
@@ -97,6 +99,7 @@ module _ (side : Side) (log : Log) where
     ends = ends-both one.more two.more one.ends two.ends;
     back = λ e. one.back (two.back e);
     lives = λ j e. one.lives j (two.lives j e);
+    request = λ c n. let later = two.request c n in let first = one.request c later.0 in (first.0, later.1 ∙ first.1);
     apart = λ j e l. let parts = or_parts (k == j) (is_in j ks) e in two.apart j parts.1 l ∙ one.apart j (or_from (k == j) false parts.0 refl) (two.lives j l);
     read = λ e j f l. by e j l (is_in j ks) refl f;
   }
@@ -234,7 +237,7 @@ module _ (side : Side) (log : Log) (reads : ReadsSessions side log) where
       position_then = stepped.position_then;
       more = stepped.more;
       amid = lifted side d log s sent position uncollected a (read_sessions d.work) (sessions_state s) (sent ++ stepped.more) stepped.position_then (newest_first stepped.more uncollected) stepped.amid
-          stepped.counts stepped.unis stepped.bis stepped.datagrams back stepped.elsewhere (ap (control_sent side) (actions-append sent stepped.more log) ∙ control-same side stepped.more (with_actions sent log) stepped.ends);
+          stepped.counts stepped.unis stepped.bis stepped.datagrams back stepped.elsewhere (ap (control_sent side) (actions-append sent stepped.more log) ∙ control-same side stepped.more (with_actions sent log) stepped.ends) stepped.request;
       actions = stepped.actions;
       is_open = stepped.is_open ∙ open_;
       ends = stepped.ends;

@@ -1,12 +1,12 @@
 -- After a moment: what went out at it is in the log, and the tie holds between two turns.
-use Rattle.std.proofs.Common.{◌+◌, ◌^◌, ◌∙◌, ◌≡◌, ◌≤◌, List, [], ap, drop, nat_lt, refl, subst, sym, true, ℕ}
+use Rattle.std.proofs.Common.{◌+◌, ◌^◌, ◌∙◌, ◌≡◌, ◌≤◌, List, ℕ, [], ap, drop, nat_lt, refl, subst, subst₂, sym, true}
 use Rattle.std.proofs.lemmas.Bool.{true≢false}
 use Rattle.std.specs.List.{list_any}
 use Rattle.std.specs.Prelude.{◌&&◌, if◌then◌else◌, is_none, is_some, unwrap_or}
 use Rattle.wt_follows.proofs.Lists.{refuted}
 use Rattle.wt_follows.proofs.SameStreams.{told, told-placed, told-roles, told-there}
 use Rattle.wt_follows.proofs.StreamEnds.{actions-all-events, actions-calls, actions-events, exists-then, receives-then}
-use Rattle.wt_follows.specs.Tie.{Amid, ArrivingFollows, AtHeader, ControlFollows, IsUntouched, Keeps, Placed, SessionsFollow, There, goes, goes_on_at, header_verdict, member_position}
+use Rattle.wt_follows.specs.Tie.{Amid, ArrivingFollows, AtHeader, ControlFollows, IsUntouched, Keeps, Placed, ResponseFollows, SessionsFollow, There, goes, goes_on_at, header_verdict, member_position}
 use Rattle.wt_kept.specs.Kept.{DriverNow}
 use Rattle.wt_kept.specs.Readers.{bi_rules, uni_rules}
 use Rattle.wt_next_transport.proofs.Refining.{actions-contents}
@@ -83,6 +83,7 @@ module _ (side : Side) (d : DriverNow) (log : Log) (s : DriverState) (sent : Lis
     own = t.own;
     kinds = (unis_same ∙ t.kinds.0, bis_same ∙ t.kinds.1);
     few = (few-then (peer_uni side) unis_same t.few.0, few-then (peer_bi side) bis_same t.few.1);
+    peers = t.peers;
   }
 
   keeps-then : Keeps d.work.dispatched settled_state
@@ -97,6 +98,7 @@ module _ (side : Side) (d : DriverNow) (log : Log) (s : DriverState) (sent : Lis
     windows = h.windows;
     early = h.early;
     gone = h.gone;
+    gone_named = h.gone_named;
     closed = h.closed;
     established = h.established;
     alive = h.alive;
@@ -130,4 +132,5 @@ module _ (side : Side) (d : DriverNow) (log : Log) (s : DriverState) (sent : Lis
     unis = λ e. subst (λ c. ArrivingFollows uni_rules d.work.transport d.unis s.unis c position) (sym contents-same) (a.unis (back e));
     bis = λ e. subst (λ c. ArrivingFollows bi_rules d.work.transport d.bis s.bis c position) (sym contents-same) (a.bis (back e));
     datagrams = λ e. a.datagrams (back e) ∙ ap (λ es. drop s.progress.datagrams (datagrams_of es)) (sym events-same);
+    response = λ c n. subst₂ (λ b es. ResponseFollows side d.response b es position) (sym contents-same) (sym events-same) (a.response c n);
   }

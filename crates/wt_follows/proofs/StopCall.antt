@@ -29,7 +29,7 @@ module _ (side : Side) (d : DriverNow) (log : Log) (uncollected : List Action) (
   abbrev own : List Action
   own = if_open log (actions.StopOut id code)
 
-  safe-if : (b : Bool) → Harmless side log (if b then actions.StopOut id code ∷ [] else [])
+  pub safe-if : (b : Bool) → Harmless side log (if b then actions.StopOut id code ∷ [] else [])
   safe-if true = record { there = λ k x. x; peers = (refl, refl); kinds = f.amid.work.there.kinds; control = refl; living = f.amid.work.sends.living; unfinished = f.amid.work.sends.own.0; unreset = f.amid.work.sends.own.1 }
   safe-if false = record { there = λ k x. x; peers = (refl, refl); kinds = f.amid.work.there.kinds; control = refl; living = f.amid.work.sends.living; unfinished = f.amid.work.sends.own.0; unreset = f.amid.work.sends.own.1 }
 

@@ -102,6 +102,7 @@ new-still side log sent s k code new = record {
   arriving = new.arriving;
   untouched = new.untouched;
   receives = new.receives;
+  peers = new.peers;
   sends = ap (λ g. still_sends side g k) (with-append sent (actions.StopOut k code ∷ []) log) ∙ new.sends;
 }
 

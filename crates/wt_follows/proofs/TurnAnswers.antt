@@ -64,6 +64,7 @@ module _ (side : Side) (d : DriverNow) (log : Log) where
           unis = λ x. let r = a.unis x in record { ordered = r.ordered; few = r.few; same_ids = r.same_ids; read = r.read };
           bis = λ x. let r = a.bis x in record { ordered = r.ordered; few = r.few; same_ids = r.same_ids; read = r.read };
           datagrams = a.datagrams;
+          response = a.response;
         };
         rests = λ x. let r = c.follows.rests x in record {
           finds = r.finds;

@@ -146,6 +146,7 @@ module _ (side : Side) (old : List Action) (d : DriverNow) (log : Log) (c : Came
         unis = λ x. absurd (shut x);
         bis = λ x. absurd (shut x);
         datagrams = λ x. absurd (shut x);
+        response = a.response;
       }
 
       late : Came side old (with_turn turn d) g

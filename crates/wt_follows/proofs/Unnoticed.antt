@@ -67,7 +67,7 @@ module _ (side : Side) (log : Log) where
   resets-none (OpeningFailed id) e k = refl
   resets-none _ e k = absurd cc
 
-  stays-same : (r : CallRecord) → is_unnoticed r ≡ true → (s : DriverState) → after_call r s ≡ s
+  pub stays-same : (r : CallRecord) → is_unnoticed r ≡ true → (s : DriverState) → after_call r s ≡ s
   stays-same Polled e s = refl
   stays-same (ConnectStarted reserved head) e s = refl
   stays-same (ResponseStarted accepts head) e s = refl
@@ -76,7 +76,7 @@ module _ (side : Side) (log : Log) where
   stays-same (OpeningFailed id) e s = refl
   stays-same _ e s = absurd cc
 
-  may-come : (r : CallRecord) → is_unnoticed r ≡ true → Fits side log → Fits side (Called r ∷ log)
+  pub may-come : (r : CallRecord) → is_unnoticed r ≡ true → Fits side log → Fits side (Called r ∷ log)
   may-come Polled e f = (tt, f)
   may-come (ConnectStarted reserved head) e f = (tt, f)
   may-come (ResponseStarted accepts head) e f = (tt, f)
@@ -155,6 +155,7 @@ module _ (side : Side) (log : Log) where
         unis = a.unis;
         bis = a.bis;
         datagrams = a.datagrams;
+        response = a.response;
       }
 
       -- at rest the moment of the record finds nothing
@@ -190,7 +191,7 @@ module _ (side : Side) (log : Log) where
             lifted side d g s [] f.position uncollected taken d.work (noted came s) [] f.position uncollected
             (dated-amid side d.work g s [] f.position uncollected taken.work s.dispatched.datagrams (noted came s).progress d.work.dispatched
             (keeps-progress d.work.dispatched s taken.work.keeps d.work.dispatched.fault (noted came s).progress refl taken.work.keeps.fault) (λ x. taken.work.control x) (λ x. taken.work.sessions x))
-            (λ kind. refl) refl refl refl (λ x. x) (λ j e. refl) refl
+            (λ kind. refl) refl refl refl (λ x. x) (λ j e. refl) refl (λ c n. (n, refl))
 
         resting : Resting side d g f.position
         resting = let x = f.rests opened in record {

@@ -1,21 +1,22 @@
 -- The tie: what a driver keeps follows a log. The log enters here, and nowhere else. Between two turns the state is that of the log; in
 -- the midst of a moment it is that after some of the moment's steps, and some of what goes out is out.
-use Rattle.std.specs.Prelude.{[], ◌^◌, ◌%◌, ◌<◌, ◌&&◌, ◌+◌, ◌==◌, ◌∷◌, ◌≡◌, ◌≤◌, ◌||◌, Bool, List, None, Option, Some, drop, false, filter, if◌then◌else◌, is_none, is_some, length, map, nat_lt, not, option_map, take, true, unwrap_or, ℕ}
+use Rattle.std.specs.Prelude.{[], ◌%◌, ◌&&◌, ◌+◌, ◌<◌, ◌==◌, ◌^◌, ◌||◌, ◌∷◌, ◌≡◌, ◌≤◌, ◌⊎◌, Bool, List, None, Option, Some, ℕ, drop, false, filter, if◌then◌else◌, is_none, is_some, length, map, nat_lt, not, option_map, take, true, unwrap_or}
 use Rattle.std.specs.List.{list_any}
 use Rattle.wt_follows.specs.Rests.{Resting}
 use Rattle.wt_follows.specs.Roles.{Roles, is_arriving, is_critical, is_held, is_in, is_living, is_member, waits}
 use Rattle.wt_kept.specs.Arriving.{arrived_count, slots_of}
 use Rattle.wt_kept.specs.Kept.{ArrivingNow, Closed, DispatchedNow, DriverNow, LiveNow, OwnControlNow, QueuedRequest, SessionEndNow, WindowNow, WorkNow}
-use Rattle.wt_kept.specs.Readers.{ControlReading, ReaderRules, Slot, bi_rules, control_rules, session_rules, uni_rules}
+use Rattle.wt_kept.specs.Readers.{ControlReading, ReaderRules, ResponseReading, Slot, bi_rules, control_rules, response_rules, session_rules, uni_rules}
 use Rattle.wt_kept.specs.Windows.{end_in}
 use Rattle.wt_meaning.specs.ControlBytes.{local_control_bytes}
+use Rattle.wt_meaning.specs.Lawful.{is_client}
 use Rattle.wt_proto.specs.Bi.{bi_verdict_of}
 use Rattle.wt_proto.specs.Uni.{uni_verdict_of}
 use Rattle.wt_proto.specs.declared.verdict.Verdict.{Verdict}
 use Rattle.wt_proto.specs.declared.verdict.Verdict.TheVariants as verdicts
-use Rattle.wt_seam_spec.specs.Reports.{datagrams_of, end_of, unis_allowed}
+use Rattle.wt_seam_spec.specs.Reports.{datagrams_of, end_of, is_running, unis_allowed}
 use Rattle.wt_seam_spec.specs.Sent.{is_finished, is_reset}
-use Rattle.wt_seam_spec.specs.Streams.{can_receive, contents, exists, local_count, local_uni, peer_bi, peer_uni, stream_count}
+use Rattle.wt_seam_spec.specs.Streams.{can_receive, contents, exists, local_bi, local_count, local_uni, peer_bi, peer_uni, stream_count}
 use Rattle.wt_seam_spec.specs.Unread.{AtOffset, GivenUp, ReadPosition}
 use Rattle.wt_sessions.specs.Driver.{ControlSent, control_sent, gives_up, still_sends}
 use Rattle.wt_sessions.specs.DriverState.{DriverState, state_of}
@@ -24,11 +25,12 @@ use Rattle.wt_sessions.specs.Moment.{is_peers}
 use Rattle.wt_sessions.specs.StreamTable.{Admitted, Classified, Dispatched, Session, Waiting}
 use Rattle.wt_sessions.specs.StreamTable as streams
 use Rattle.wt_next_transport.specs.State.{Refines, TransportState}
-use Rattle.wt_turn.specs.Log.{Log, actions_of, calls_of, events_of, is_open, with_actions}
+use Rattle.wt_turn.specs.Log.{Event, Log, actions_of, calls_of, events_of, is_open, with_actions}
 use Rattle.wt_turn.specs.declared.action.Action.{Action}
 use Rattle.wt_wire.specs.HeaderList.{Fields}
 use Rattle.wt_wire.specs.Ids.{is_bidirectional}
 use Rattle.wt_wire.specs.declared.side.Side.{Side}
+use Rattle.wt_wire.specs.declared.side.StreamEnd.{StreamEnd}
 
 -- ---- readers
 
@@ -64,6 +66,24 @@ abbrev pub SessionsFollow : List LiveNow → List Session → (ℕ → List ℕ)
 SessionsFollow [] [] bytes position = Unit {0}
 SessionsFollow (x ∷ xs) (s ∷ ss) bytes position = ReaderAt session_rules x.reader s.offset (bytes s.id) (position s.id) × SessionsFollow xs ss bytes position
 SessionsFollow _ _ bytes position = ⊥
+
+-- ---- a client's response
+
+-- no session was established
+abbrev pub NoneEstablished : DriverState → Type 0
+NoneEstablished s = (k : ℕ) → s.dispatched.is_established k ≡ false
+
+-- the response's reader took the bytes that are read of its stream, and then noted the stream's end, if that came behind them
+pub record ResponseAt (reader : ResponseReading) (bytes : List ℕ) (end : StreamEnd) (position : ReadPosition) : Type 0 where
+  pub front : ResponseReading
+  pub at_front : ReaderAt response_rules front 0 bytes position
+  pub noted : (reader ≡ front) ⊎ ((reader ≡ response_rules.ended end front) × (is_running end ≡ false) × (position ≡ AtOffset (length bytes)))
+
+-- before its session a client's request stream is read by the response's reader alone
+abbrev pub ResponseFollows : Side → Option (Slot ResponseReading) → (ℕ → List ℕ) → List Event → (ℕ → ReadPosition) → Type 0
+ResponseFollows side None bytes events position = position (local_bi side) ≡ AtOffset 0
+ResponseFollows side (Some x) bytes events position =
+    (x.id ≡ local_bi side) × ResponseAt x.reader (bytes (local_bi side)) (end_of events (local_bi side)) (position (local_bi side))
 
 -- ---- windows
 
@@ -115,6 +135,7 @@ pub record Keeps (d : DispatchedNow) (s : DriverState) : Type 0 where
   pub windows : WindowsFollow d.sessions.living s.dispatched
   pub early : WindowFollows d.sessions.early s.dispatched (λ k. not (s.dispatched.is_established k))
   pub gone : (k : ℕ) → (k % 4) ≡ 0 → s.dispatched.is_gone k ≡ is_some (end_in d.sessions.gone k)
+  pub gone_named : (k : ℕ) → is_some (end_in d.sessions.gone k) ≡ true → (k % 4) ≡ 0
   pub closed : (k : ℕ) → (k % 4) ≡ 0 → s.closed k ≡ closed_by k (end_in d.sessions.gone k)
   pub established : (k : ℕ) → s.dispatched.is_gone k ≡ false → s.dispatched.is_established k ≡ is_living s k
   pub alive : (k : ℕ) → is_living s k ≡ true → s.dispatched.is_gone k ≡ false
@@ -170,6 +191,13 @@ pub record Placed (side : Side) (s : DriverState) (log : Log) (position : ℕ �
 
 -- ---- which streams there are
 
+-- the peer opened each stream whose header is read, each critical one, each that carries a request and each that waits
+pub record ArePeers (side : Side) (s : DriverState) : Type 0 where
+  pub arriving : (k : ℕ) → is_arriving s k ≡ true → is_peers side k ≡ true
+  pub critical : (k : ℕ) → is_critical s k ≡ true → is_peers side k ≡ true
+  pub held : (k : ℕ) → is_held s k ≡ true → is_peers side k ≡ true
+  pub waiting : (k : ℕ) → waits s k ≡ true → is_peers side k ≡ true
+
 -- The streams that have a place are there. (This end's control stream is no session's, and this end opens streams of its own kinds alone.)
 pub record There (side : Side) (s : DriverState) (log : Log) : Type 0 where
   pub unis : (k : ℕ) → is_in k s.unis ≡ true → is_bidirectional k ≡ false
@@ -184,6 +212,7 @@ pub record There (side : Side) (s : DriverState) (log : Log) : Type 0 where
   pub own : (session : ℕ) → is_member s session (local_uni side) ≡ false
   pub kinds : (local_count (actions_of log) (peer_uni side) ≡ 0) × (local_count (actions_of log) (peer_bi side) ≡ 0)
   pub few : (stream_count side log (peer_uni side) ≤ 2 ^ 60) × (stream_count side log (peer_bi side) ≤ 2 ^ 60)
+  pub peers : ArePeers side s
 
 -- ---- the halves on which this end sends
 
@@ -232,6 +261,7 @@ pub record Amid (side : Side) (d : DriverNow) (log : Log) (s : DriverState) (sen
   pub unis : goes s ≡ true → ArrivingFollows uni_rules d.work.transport d.unis s.unis (contents log) position
   pub bis : goes s ≡ true → ArrivingFollows bi_rules d.work.transport d.bis s.bis (contents log) position
   pub datagrams : goes s ≡ true → d.datagrams ≡ drop s.progress.datagrams (datagrams_of (events_of log))
+  pub response : is_client side ≡ true → NoneEstablished s → ResponseFollows side d.response (contents log) (events_of log) position
 
 -- A driver follows a log, with these actions not collected yet, the newest first.
 pub record Follows (side : Side) (d : DriverNow) (log : Log) (uncollected : List Action) : Type 0 where

@@ -3,13 +3,16 @@ use Rattle.std.specs.Prelude.{[], ◌%◌, ◌++◌, ◌==◌, ◌∷◌, ◌&&�
 use Rattle.std.specs.List.{list_any}
 use Rattle.wt_kept.specs.Arriving.{none_arriving}
 use Rattle.wt_kept.specs.Classifying.{with_dispatched, with_sessions}
-use Rattle.wt_kept.specs.Ending.{finish_and_retire, retire_now}
+use Rattle.wt_kept.specs.Ending.{finish_and_retire, forget_session, retire_now}
 use Rattle.wt_kept.specs.Kept.{DispatchedNow, DriverNow, Ended, LiveNow, QueuedRequest, Refused, RequestsNow, SessionsNow, WorkNow}
 use Rattle.wt_kept.specs.Moment.{moment_now, with_work}
 use Rattle.wt_kept.specs.Pieces.{take_piece_now}
+use Rattle.wt_kept.specs.Readers.{ReadOn, ResponseReading, Slot, read_on, response_rules}
 use Rattle.wt_kept.specs.Windows.{empty_window, establish_now, is_gone_now, lives_now, with_live}
 use Rattle.wt_next_transport.specs.State.{TransportState}
 use Rattle.wt_next_transport.specs.Step.{after_close, after_turn, fits_now, nothing_connected}
+use Rattle.wt_proto.specs.declared.response_walk.ResponseWalk.{ResponseWalk}
+use Rattle.wt_seam_spec.specs.Streams.{local_bi}
 use Rattle.wt_turn.specs.declared.turn.Turn.{Turn}
 use Rattle.wt_turn.specs.declared.turn.Turn.TheVariants as turns
 use Rattle.wt_wire.specs.HeaderList.{Fields}
@@ -34,6 +37,7 @@ driver_at_first side = record {
     };
   };
   datagrams = [];
+  response = None;
   gave_settings = false;
 }
 
@@ -61,6 +65,33 @@ lawful_turn turn d = if d.work.transport.is_open then open_turn turn d else with
 unfoldable pub turn_now : Turn → DriverNow → DriverNow
 turn_now turn d = if fits_now d.work.transport turn then lawful_turn turn d else d
 
+-- ---- a client's response
+
+-- the client's request stream, and the reader of what comes on it, which begins at the first byte (RFC 9114, section 4.1)
+abbrev pub response_slot : Side → Option (Slot ResponseReading) → Slot ResponseReading
+response_slot side None = record { id = local_bi side; reader = response_rules.start }
+response_slot side (Some x) = x
+
+-- so much of it was read
+abbrev pub response_read_so : ℕ → ReadOn ResponseReading → DriverNow → DriverNow
+response_read_so id x d = record (with_work (λ w. record w { transport = x.transport }) d) { response = Some (record { id = id; reader = x.reader }) }
+
+abbrev pub response_read_by : Slot ResponseReading → DriverNow → DriverNow
+response_read_by x d = response_read_so x.id (read_on response_rules x.id x.reader d.work.transport) d
+
+-- the response is read on as far as it came
+unfoldable pub response_read : DriverNow → DriverNow
+response_read d = response_read_by (response_slot d.work.transport.side d.response) d
+
+-- what it says so far
+abbrev pub response_said : DriverNow → ResponseWalk
+response_said d = response_rules.outcome (response_slot d.work.transport.side d.response).reader
+
+-- the part of its stream begins that is the session's: on a client behind the response, which is kept no more
+abbrev pub response_over : Side → DriverNow → DriverNow
+response_over Server d = d
+response_over Client d = record (response_read d) { response = None }
+
 -- ---- the life of sessions
 
 -- no session lives and none is gone
@@ -83,7 +114,9 @@ on_sessions f d = with_work (with_dispatched (λ x. with_sessions (f x.sessions)
 
 -- the session lives from now on, and what came on its stream is read
 unfoldable pub register_now : ℕ → DriverNow → DriverNow
-register_now s d = if d.work.transport.is_open && may_register s d then moment_now (on_sessions (establish_now s) d) else d
+register_now s d =
+    if d.work.transport.is_open && may_register s d
+    then moment_now (on_sessions (establish_now s) (response_over d.work.transport.side d)) else d
 
 -- the application ends the session
 unfoldable pub end_session_now : ℕ → DriverNow → DriverNow
@@ -124,10 +157,14 @@ take_request_of (q ∷ later) r = request_taken_if (q.id % 4 == 0) q later r
 abbrev pub take_request_now : RequestsNow → RequestTaken
 take_request_now r = take_request_of r.queued r
 
+-- the session becomes gone; after the connection's end no stream of it ends any more
+abbrev pub refused_by : Bool → ℕ → WorkNow → WorkNow
+refused_by true s w = retire_now s Refused w
+refused_by false s w = with_dispatched (forget_session s Refused) w
+
 -- the request for the session is rejected
 unfoldable pub refuse_session_now : ℕ → DriverNow → DriverNow
-refuse_session_now s d =
-    if d.work.transport.is_open && awaits_answer_now s d.work.dispatched then with_work (retire_now s Refused) d else d
+refuse_session_now s d = if awaits_answer_now s d.work.dispatched then with_work (refused_by d.work.transport.is_open s) d else d
 
 -- ---- the end
 

@@ -61,15 +61,16 @@ give_up_all t (k ∷ ks) = give_up_all (give_up_now t k) ks
 abbrev pub forget_request : ℕ → RequestsNow → RequestsNow
 forget_request k r = record r { held = without_first (λ (h : ℕ). h == k) r.held }
 
+-- nothing is kept of the session but how it ended
+abbrev pub forget_session : ℕ → SessionEndNow → DispatchedNow → DispatchedNow
+forget_session s end d = record d { requests = forget_request s d.requests; sessions = ended_by d.sessions s end (live_in d.sessions s) }
+
 -- the session becomes gone
 abbrev pub retire_now : ℕ → SessionEndNow → WorkNow → WorkNow
 retire_now s end w = record {
   transport = give_up_now (give_up_all (end_streams w.transport (remains_of w.dispatched.sessions s (live_in w.dispatched.sessions s)).streams)
       (remains_of w.dispatched.sessions s (live_in w.dispatched.sessions s)).waiting) s;
-  dispatched = record w.dispatched {
-    requests = forget_request s w.dispatched.requests;
-    sessions = ended_by w.dispatched.sessions s end (live_in w.dispatched.sessions s);
-  };
+  dispatched = forget_session s end w.dispatched;
 }
 
 -- the stream is finished, where this end may still send on it

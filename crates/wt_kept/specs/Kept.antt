@@ -1,6 +1,6 @@
 -- What the driver of a connection keeps, as data: the value of each of its parts.
 use Rattle.std.specs.Prelude.{Bool, List, Option, ℕ}
-use Rattle.wt_kept.specs.Readers.{BiReading, ControlReading, Slot, UniReading}
+use Rattle.wt_kept.specs.Readers.{BiReading, ControlReading, ResponseReading, Slot, UniReading}
 use Rattle.wt_sessions.specs.SessionReader.{SessionReader}
 use Rattle.wt_sessions.specs.StreamTable.{Waiting}
 use Rattle.wt_next_transport.specs.State.{TransportState}
@@ -88,4 +88,5 @@ pub record DriverNow : Type 0 where
   pub bis : ArrivingNow BiReading
   pub work : WorkNow
   pub datagrams : List (List ℕ)  -- those that came and weren't looked at
+  pub response : Option (Slot ResponseReading)  -- a client's request stream, once its response is asked for and until its session begins
   pub gave_settings : Bool  -- a call took the peer's SETTINGS

@@ -9,3 +9,4 @@ pub mod Looking
 pub mod Moment
 pub mod Pieces
 pub mod Calling
+pub mod Counting

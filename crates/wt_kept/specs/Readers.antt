@@ -5,9 +5,11 @@ use Rattle.wt_meaning.specs.SessionWalk.{is_over}
 use Rattle.wt_proto.specs.Bi.{bi_decides, bi_unfinished}
 use Rattle.wt_proto.specs.ControlWalk.{control_decides, control_unfinished}
 use Rattle.wt_proto.specs.Reading.{outcome_in}
+use Rattle.wt_proto.specs.ResponseWalk.{is_response_final, response_decides, response_unfinished}
 use Rattle.wt_proto.specs.Uni.{is_final, uni_decides, uni_unfinished}
 use Rattle.wt_proto.specs.WalkProgress.{Reading, at_item, fed_reading}
 use Rattle.wt_proto.specs.declared.control_walk.ControlWalk.{ControlWalk}
+use Rattle.wt_proto.specs.declared.response_walk.ResponseWalk.{ResponseWalk}
 use Rattle.wt_proto.specs.declared.session_walk.SessionWalk.{SessionWalk}
 use Rattle.wt_proto.specs.declared.verdict.Verdict.{Verdict}
 use Rattle.wt_proto.specs.declared.walk.Step.{Step}
@@ -58,6 +60,10 @@ BiReading = Reading ℕ Verdict
 abbrev pub ControlReading : Type 0
 ControlReading = Reading (Option Settings) ControlWalk
 
+-- how far the response on a client's request stream is read
+abbrev pub ResponseReading : Type 0
+ResponseReading = Reading ℕ ResponseWalk
+
 -- of a unidirectional stream's header
 abbrev pub uni_rules : ReaderRules UniReading Verdict
 uni_rules = walk_rules tt uni_decides uni_unfinished is_final
@@ -69,6 +75,10 @@ bi_rules = walk_rules 0 bi_decides bi_unfinished is_final
 -- of the peer's control stream after its type
 abbrev pub control_rules : ReaderRules ControlReading ControlWalk
 control_rules = walk_rules None control_decides control_unfinished (λ w. is_some w.fault)
+
+-- of a client's request stream from its first byte
+abbrev pub response_rules : ReaderRules ResponseReading ResponseWalk
+response_rules = walk_rules 0 response_decides response_unfinished is_response_final
 
 -- of a session's stream after the request or the response
 abbrev pub session_rules : ReaderRules SessionReader SessionWalk
