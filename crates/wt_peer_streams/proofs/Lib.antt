@@ -14,3 +14,7 @@ pub mod EndLaws
 pub mod LookLaws
 pub mod ScanSoFar
 pub mod SessionsLoop
+pub mod Losing
+pub mod Counts
+pub mod ReadCounts
+pub mod LookCounts

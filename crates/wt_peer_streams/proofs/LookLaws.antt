@@ -10,13 +10,13 @@ use Rattle.wt_peer_streams.specs.Scanning.{Looked, is_incomplete, looked_at, loo
 use Rattle.wt_proto.specs.declared.verdict.Verdict.{Verdict}
 use Rattle.wt_proto.specs.declared.verdict.Verdict.TheVariants as verdicts
 
-set-out : {X : Type 0} (xs : List X) (i : ℕ) (y : X) → remove (set xs i y) i ≡ remove xs i
+pub set-out : {X : Type 0} (xs : List X) (i : ℕ) (y : X) → remove (set xs i y) i ≡ remove xs i
 set-out [] zero y = refl
 set-out [] (suc i) y = refl
 set-out (x ∷ xs) zero y = refl
 set-out (x ∷ xs) (suc i) y = ap (λ ys. x ∷ ys) (set-out xs i y)
 
-set-there : {X : Type 0} (xs : List X) (i : ℕ) (y d : X) → i < length xs → get_or (set xs i y) i d ≡ y
+pub set-there : {X : Type 0} (xs : List X) (i : ℕ) (y d : X) → i < length xs → get_or (set xs i y) i d ≡ y
 set-there [] i y d l = absurd (omega arith)
 set-there (x ∷ xs) zero y d l = refl
 set-there (x ∷ xs) (suc i) y d l = set-there xs i y d (omega arith)

@@ -64,7 +64,7 @@ module _ {V : Type 0} (w : ReaderRules V Verdict) (kind count : ℕ) where
   scan_rest index a r = scan_reading w classify_now kind (4 - index) (count - a.next) a.next (drop index a.reading) r
 
   -- nothing is done after a fault
-  over : (n left next : ℕ) (xs : List (Slot V)) (r : WorkNow) (code : ErrorCode) → r.dispatched.fault ≡ Some code → scan_reading w classify_now kind n left next xs r ≡ record { reading = xs; next = next; work = r }
+  pub over : (n left next : ℕ) (xs : List (Slot V)) (r : WorkNow) (code : ErrorCode) → r.dispatched.fault ≡ Some code → scan_reading w classify_now kind n left next xs r ≡ record { reading = xs; next = next; work = r }
   over zero left next [] r code e = refl
   over (suc n) zero next [] r code e = refl
   over (suc n) (suc left) next [] r code e =

@@ -29,7 +29,7 @@ reads-some : {V : Type 0} (w : ReaderRules V Verdict) (b : Bool) (id : ℕ) (r :
 reads-some w true id r t = refl
 reads-some w false id r t = refl
 
-kind-same : (b : Bool) (s : Side) → kinds.peer_kind b s ≡ peer_kind s b
+pub kind-same : (b : Bool) (s : Side) → kinds.peer_kind b s ≡ peer_kind s b
 kind-same true s = refl
 kind-same false s = refl
 
@@ -39,7 +39,7 @@ below-min n total top l m = elim (cases_lt total top) [
   | inr le ↦ (let e : min total top ≡ top = min-eq_right le in omega arith)
 ]
 
-below-both : (n total top : ℕ) → (nat_lt n top && nat_lt n total) ≡ true → n < min total top
+pub below-both : (n total top : ℕ) → (nat_lt n top && nat_lt n total) ≡ true → n < min total top
 below-both n total top e = either (nat_lt n top) refl (nat_lt n total) refl e
   where
     either : (b : Bool) → nat_lt n top ≡ b → (c : Bool) → nat_lt n total ≡ c → (b && c) ≡ true → n < min total top

@@ -1,9 +1,10 @@
 -- The sessions, of which the one at an index is asked or changed.
-use Rattle.std.proofs.Common.{◌+◌, ◌≡◌, ◌≤◌, ◌∙◌, ◌∷◌, [], Bool, List, None, Option, Some, ap, arith, false, get_or, length, refl, set, suc, sym, true, zero, ℕ}
+use Rattle.std.proofs.Common.{◌+◌, ◌≡◌, ◌≤◌, ◌∙◌, ◌∷◌, [], Bool, List, None, Option, Some, ap, arith, false, get_or, length, refl, set, subst, suc, sym, true, zero, ℕ}
 use Rattle.std.proofs.lemmas.Bool.Decides.{nat_tests}
 use Rattle.std.proofs.lemmas.List.Quantifiers.{position-Some}
 use Rattle.std.specs.List.{insert, position, position_or_len}
 use Rattle.std.specs.Prelude.{◌==◌, Err, IfOk, Ok, OnOk, Result, if◌then◌else◌, nat_lt, not, option_map, slice_get, unwrap_or}
+use Rattle.wt_kept.specs.Counting.{CountsLive, CountsRead}
 use Rattle.wt_kept.specs.Kept.{LiveNow, SessionsNow, WindowNow, WorkNow}
 use Rattle.wt_kept.specs.Readers.{ReadOn, read_on, session_rules}
 use Rattle.wt_kept.specs.Windows.{Admits, Gone, Taken, admit_by, given_stream, is_gone_now, is_live, live_in, with_live, with_live_by_id}
@@ -147,9 +148,20 @@ module _ (s : ℕ) (d now : SessionsNow) (i : ℕ) (x : LiveNow) (view : d ≡ n
       ∙ (ap (λ (o : ReadOn SessionReader). news_by x.id o.reader w) e
       ∙ (ap (λ k. news_by k (read_on session_rules k x.reader t).reader w) id-at ∙ sym (ap (λ o. news_of_reader s o t w) found-at))))
 
+  -- its reader counts
+  pub counts-at : (t : TransportState) (y : SessionReader) (then_t : TransportState) (before after : ℕ) → ◌≡◌ {A = ReadOn SessionReader} (record { reader = y; transport = then_t }) (read_on session_rules x.id x.reader t)
+      → CountsRead session_rules.has_said x.id t (record { reader = y; transport = then_t }) before after → CountsLive s (live_in now s) t before after
+  counts-at t y then_t before after e counts =
+      subst (λ (o : Option LiveNow). CountsLive s o t before after) (sym found-at)
+      (subst (λ (k : ℕ). CountsRead session_rules.has_said k t (read_on session_rules k x.reader t) before after) id-at
+      (subst (λ (o : ReadOn SessionReader). CountsRead session_rules.has_said x.id t o before after) e counts))
+
 -- none lives of this id
 pub none-at : (s : ℕ) (d : SessionsNow) → None ≡ position (is_live s) d.living → live_in d s ≡ None
 none-at s d e = live-none s d (sym e)
+
+pub none-counts-at : (s : ℕ) (d : SessionsNow) (t : TransportState) (steps : ℕ) → None ≡ position (is_live s) d.living → CountsLive s (live_in d s) t steps steps
+none-counts-at s d t steps e = subst (λ (o : Option LiveNow). CountsLive s o t steps steps) (sym (none-at s d e)) (omega arith)
 
 pub unchanged-at : (f : LiveNow → LiveNow) (s : ℕ) (d : SessionsNow) → None ≡ position (is_live s) d.living → d ≡ with_live f s d
 unchanged-at f s d e = changed-none f s d (sym e)
@@ -176,6 +188,10 @@ if-ok (Err e) f p = p
 pub on-ok : {T E P Q : Type 0} (r : Result T E) → (P → Q) → OnOk r P → OnOk r Q
 on-ok (Ok a) f p = f p
 on-ok (Err e) f p = p
+
+pub on-both : {T E P Q R : Type 0} (r : Result T E) → (P → Q → R) → OnOk r P → OnOk r Q → OnOk r R
+on-both (Ok a) f p q = f p q
+on-both (Err e) f p q = p
 
 pub if-both : {T E Q : Type 0} {P R : T → Type 0} (r : Result T E) → ((a : T) → P a → Q → R a) → IfOk r P → OnOk r Q → IfOk r R
 if-both (Ok a) f p q = f a p q

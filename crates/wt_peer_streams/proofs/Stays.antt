@@ -107,7 +107,7 @@ row-lengths (x ∷ xs) zero row (suc kind) e = refl
 row-lengths (x ∷ xs) (suc i) row zero e = refl
 row-lengths (x ∷ xs) (suc i) row (suc kind) e = row-lengths xs i row kind e
 
-change-counts : (kind : ℕ) (t : TransportState) (id : ℕ) (f : Stream → Stream) → count_now (with_change t id f) kind ≡ count_now t kind
+pub change-counts : (kind : ℕ) (t : TransportState) (id : ℕ) (f : Stream → Stream) → count_now (with_change t id f) kind ≡ count_now t kind
 change-counts kind t id f =
     row-lengths t.streams (id % 4) (changed_in (row_at t.streams (id % 4)) (id / 4) f) kind
     (length-set (row_at t.streams (id % 4)) (id / 4) (f (stream_in (row_at t.streams (id % 4)) (id / 4))))

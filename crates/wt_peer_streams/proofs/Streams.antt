@@ -11,7 +11,7 @@ use Rattle.wt_next_transport.specs.State.{TransportState}
 use Rattle.wt_next_transport.specs.Step.{with_change, unread_now}
 
 -- past the end of a list there is the default
-past-end : {X : Type 0} (xs : List X) (i : ℕ) (d : X) → length xs ≤ i → get_or xs i d ≡ d
+pub past-end : {X : Type 0} (xs : List X) (i : ℕ) (d : X) → length xs ≤ i → get_or xs i d ≡ d
 past-end [] i d l = refl
 past-end (x ∷ xs) zero d l = absurd (omega arith)
 past-end (x ∷ xs) (suc i) d l = past-end xs i d (omega arith)

@@ -1,5 +1,5 @@
 -- The scan over the peer's streams that have no verdict, look by look.
-use Rattle.std.specs.Prelude.{[], ◌++◌, ◌∷◌, Bool, List, None, Option, Some, false, if◌then◌else◌, length, nat_lt, slice_index_or, slice_set, suc, true, ℕ}
+use Rattle.std.specs.Prelude.{[], ◌++◌, ◌∷◌, ◌≡◌, Bool, List, None, Option, Some, false, if◌then◌else◌, length, nat_lt, refl, slice_index_or, slice_set, suc, true, ℕ}
 use Rattle.std.specs.List.{remove}
 use Rattle.wt_kept.specs.Arriving.{ScannedNow, with_transport}
 use Rattle.wt_kept.specs.Classifying.{classify_now}
@@ -7,6 +7,7 @@ use Rattle.wt_kept.specs.Kept.{ArrivingNow, DispatchedNow, WorkNow}
 use Rattle.wt_kept.specs.Readers.{ReadOn, ReaderRules, Slot, read_on}
 use Rattle.wt_next_transport.specs.Running.{peer_stream_now}
 use Rattle.wt_next_transport.specs.State.{TransportState}
+use Rattle.wt_proto.specs.Uni.{is_final}
 use Rattle.wt_proto.specs.declared.verdict.Verdict.{Verdict}
 use Rattle.wt_proto.specs.declared.verdict.Verdict.TheVariants as verdicts
 use Rattle.wt_wire.specs.declared.side.StreamEnd.{StreamEnd}
@@ -40,6 +41,18 @@ pub record Looked (V : Type 0) : Type 0 where
 abbrev pub is_incomplete : Verdict → Bool
 is_incomplete verdicts.Incomplete = true
 is_incomplete _ = false
+
+-- a final verdict is one
+pub is_decided : (v : Verdict) → is_final v ≡ true → is_incomplete v ≡ false
+is_decided verdicts.Incomplete e = absurd (cc)
+is_decided (verdicts.Control offset) e = refl
+is_decided (verdicts.Encoder offset) e = refl
+is_decided (verdicts.Decoder offset) e = refl
+is_decided (verdicts.WebTransport session offset) e = refl
+is_decided (verdicts.Request fields offset) e = refl
+is_decided (verdicts.Refused code) e = refl
+is_decided verdicts.Dropped e = refl
+is_decided (verdicts.Fault code) e = refl
 
 -- it stays where it has no verdict
 abbrev pub looked_by : {V : Type 0} → Bool → ℕ → Slot V → Verdict → ArrivingNow V → WorkNow → Looked V

@@ -1,11 +1,12 @@
 //! The peer's streams of one kind whose header is read, and those that wait for that.
 ghost use Rattle.std.specs.List.{position};
-ghost use Rattle.std.specs.Prelude.{◌≡◌, ◌≤◌, ◌<◌, ◌==◌, IfOk, OnOk, length};
+ghost use Rattle.std.specs.Prelude.{◌≡◌, ◌≤◌, ◌<◌, ◌+◌, ◌==◌, IfOk, OnOk, false, length, true};
 ghost use Rattle.wt_kept.specs.Arriving.{none_arriving, scan_now};
 ghost use Rattle.wt_kept.specs.Classifying.{classify_now};
+ghost use Rattle.wt_kept.specs.Counting.{feed_steps, scan_left, scan_most};
 ghost use Rattle.wt_kept.specs.Pieces.{fed_at, fed_slots, slot_of};
 ghost use Rattle.wt_kept.specs.Readers.{nothing_read};
-ghost use Rattle.wt_peer_streams.specs.Scanning.{header_rules, looked_at, scanned, takes_next_now};
+ghost use Rattle.wt_peer_streams.specs.Scanning.{header_rules, is_decided, is_incomplete, looked_at, scanned, takes_next_now};
 
 use crate::dispatched::Dispatched;
 use crate::reading::{Fed, Reading};
@@ -31,10 +32,15 @@ pub trait HeaderReader: Reader<Outcome = Verdict> + Drop {
     /// One that took nothing.
     fn fresh(alloc: Global) -> Self
         ensures { result ≡ start };
+
+    // a final outcome is a verdict
+    ghost decides: { (r : Self) → Self.Reader.is_final r ≡ true → is_incomplete (Self.Reader.said r) ≡ false };
 }
 
 impl HeaderReader for UniReader {
     ghost start = { nothing_read tt };
+
+    ghost decides = { λ r. is_decided (Self.Reader.said r) };
 
     fn fresh(alloc: Global) -> Self {
         UniReader::new(alloc)
@@ -43,6 +49,8 @@ impl HeaderReader for UniReader {
 
 impl HeaderReader for BiReader {
     ghost start = { nothing_read 0 };
+
+    ghost decides = { λ r. is_decided (Self.Reader.said r) };
 
     fn fresh(alloc: Global) -> Self {
         BiReader::new(alloc)
@@ -110,6 +118,7 @@ impl<R: HeaderReader> Arriving<R> {
     ) -> Result<Option<Fed>, OutOfMemory>
         ensures fed { IfOk result (λ fed. fed ≡ fed_at (header_rules R.start R.Reader.fed R.Reader.ended R.Reader.said R.Reader.is_final) piece.now (slot_of id self.old.reading)) }
         ensures reading { OnOk result (self.new ≡ record self.old { reading = fed_slots (header_rules R.start R.Reader.fed R.Reader.ended R.Reader.said R.Reader.is_final) id piece.now self.old.reading }) }
+        ensures steps { IfOk result (λ fed. steps.new ≡ steps.old + feed_steps fed) }
     {
         match self.index_of(id) {
             Some(index) => {
@@ -149,6 +158,7 @@ impl<R: HeaderReader> Arriving<R> {
         ensures looked { IfOk result (λ stays. record { stays = stays; arriving = self.new; work = record { transport = t.new; dispatched = to.new } }
             ≡ looked_at (header_rules R.start R.Reader.fed R.Reader.ended R.Reader.said R.Reader.is_final) index self.old (record { transport = t.old; dispatched = to.old })) }
         ensures kind { self.new.bidirectional ≡ self.old.bidirectional }
+        ensures steps { OnOk result (steps.new + scan_left self.new (record { transport = t.new; dispatched = to.new }) ≤ steps.old + scan_most self.old t.old) }
     {
         let slot = &mut self.reading[index];
         slot.read(t, steps)?;
@@ -171,6 +181,7 @@ impl<R: HeaderReader> Arriving<R> {
         ensures scan { OnOk result (scanned self.new t.new to.new
             ≡ scan_now (header_rules R.start R.Reader.fed R.Reader.ended R.Reader.said R.Reader.is_final) classify_now self.old (record { transport = t.old; dispatched = to.old })) }
         ensures kind { self.new.bidirectional ≡ self.old.bidirectional }
+        ensures steps { OnOk result (steps.new + scan_left self.new (record { transport = t.new; dispatched = to.new }) ≤ steps.old + scan_left self.old (record { transport = t.old; dispatched = to.old })) }
     {
         let mut index = 0;
         while to.fault().is_none() && (index < self.readers() || self.takes_next(t)?) {

@@ -1,5 +1,6 @@
 //! The peer's streams on which the connection rests.
-ghost use Rattle.std.specs.Prelude.{◌≡◌, ◌||◌, IfOk, None, OnOk, is_none};
+ghost use Rattle.std.specs.Prelude.{◌≡◌, ◌+◌, ◌||◌, IfOk, None, OnOk, is_none};
+ghost use Rattle.wt_kept.specs.Counting.{CountsControl, feed_steps};
 ghost use Rattle.wt_kept.specs.Looking.{has_ended};
 ghost use Rattle.wt_peer_streams.specs.Critical.{control_count, control_fed, control_feed, control_settings, read_control_at, with_control_at, with_once};
 
@@ -126,6 +127,7 @@ impl CriticalStreams {
     ) -> Result<Option<Fed>, OutOfMemory>
         ensures fed { IfOk result (λ fed. fed ≡ control_feed id piece.now self.old.control) }
         ensures control { OnOk result (self.new ≡ record self.old { control = control_fed id piece.now self.old.control }) }
+        ensures steps { IfOk result (λ fed. steps.new ≡ steps.old + feed_steps fed) }
     {
         match &mut self.control {
             Some(control) if control.is(id) => Ok(Some(control.feed(piece, steps)?)),
@@ -139,7 +141,8 @@ impl CriticalStreams {
         t: &mut Transport,
         steps: &mut Steps<L>,
     ) -> Result<Option<ErrorCode>, OutOfMemory>
-        ensures { IfOk result (λ fault. record { critical = self.new; fault = fault; transport = t.new } ≡ read_control_at self.old.control self.old t.old) }
+        ensures read { IfOk result (λ fault. record { critical = self.new; fault = fault; transport = t.new } ≡ read_control_at self.old.control self.old t.old) }
+        ensures steps { OnOk result (CountsControl self.old.control t.old steps.old steps.new) }
     {
         match &mut self.control {
             Some(control) => {

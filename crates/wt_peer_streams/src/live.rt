@@ -1,5 +1,6 @@
 //! A session that lives.
-ghost use Rattle.std.specs.Prelude.{◌≡◌, [], IfOk, OnOk, nat_lt};
+ghost use Rattle.std.specs.Prelude.{◌≡◌, ◌+◌, [], IfOk, OnOk, nat_lt};
+ghost use Rattle.wt_kept.specs.Counting.{CountsRead};
 ghost use Rattle.wt_kept.specs.Kept.{WorkNow};
 ghost use Rattle.wt_kept.specs.Pieces.{fed_by};
 ghost use Rattle.wt_kept.specs.Readers.{fed_piece, read_on, session_rules};
@@ -121,6 +122,7 @@ impl LiveSession {
     ) -> Result<Fed, OutOfMemory>
         ensures fed { IfOk result (λ fed. fed ≡ fed_by session_rules self.old.reader piece.now) }
         ensures reader { OnOk result (self.new ≡ with_reader (fed_piece session_rules self.old.reader piece.now) self.old) }
+        ensures steps { steps.new ≡ steps.old + 1 }
     {
         self.reading.feed(piece, steps)
     }
@@ -152,6 +154,7 @@ impl LiveSession {
         ensures read { OnOk result (record { reader = self.new.reader; transport = t.new } ≡ read_on session_rules self.old.id self.old.reader t.old) }
         ensures live { self.new ≡ with_reader self.new.reader self.old }
         ensures news { (w : WorkNow) → IfOk result (λ news. after_news self.old.id news w ≡ news_by self.old.id self.new.reader w) }
+        ensures steps { OnOk result (CountsRead session_rules.has_said self.old.id t.old (record { reader = self.new.reader; transport = t.new }) steps.old steps.new) }
     {
         self.reading.read(t, steps)?;
         self.news(t.allocator())

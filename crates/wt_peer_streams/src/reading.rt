@@ -1,5 +1,6 @@
 //! Reading on: a reader is fed what is unread of its stream, piece after piece.
-ghost use Rattle.std.specs.Prelude.{◌≡◌, ◌<◌, ◌==◌, ◌&&◌, ◌++◌, ℕ, List, [], IfOk, OnOk, false, length, nat_lt, not};
+ghost use Rattle.std.specs.Prelude.{◌≡◌, ◌<◌, ◌+◌, ◌==◌, ◌&&◌, ◌++◌, ℕ, List, [], IfOk, OnOk, false, length, nat_lt, not};
+ghost use Rattle.wt_kept.specs.Counting.{CountsRead};
 ghost use Rattle.wt_kept.specs.Pieces.{feeds};
 ghost use Rattle.wt_kept.specs.Readers.{fed_piece_by, noted_if, reads_on};
 ghost use Rattle.wt_next_transport.specs.Step.{end_now, unread_now};
@@ -120,6 +121,7 @@ impl<R: Reader> Reading<R> {
         ensures fed { IfOk result (λ fed. fed ≡ feeds R.is_final R.fed self.old.reader piece.now) }
         ensures reader { OnOk result (self.new ≡ record self.old { reader = fed_piece_by R.is_final R.fed self.old.reader piece.now }) }
         ensures stream { self.new.id ≡ self.old.id }
+        ensures steps { steps.new ≡ steps.old + 1 }
     {
         let taken = self.reader.take(piece, steps)?;
         Ok(Fed {
@@ -155,6 +157,7 @@ impl<R: Reader> Reading<R> {
         requires none { R.fed self.old.reader [] ≡ self.old.reader }
         ensures took { OnOk result (Took R.is_final R.fed self.old.id self.old.reader t.old self.new.reader t.new) }
         ensures stream { self.new.id ≡ self.old.id }
+        ensures steps { OnOk result (CountsRead R.is_final self.old.id t.old (record { reader = self.new.reader; transport = t.new }) steps.old steps.new) }
     {
         let piece = t.peek(self.id);
         let taken = self.reader.take(piece, steps)?;
@@ -180,6 +183,7 @@ impl<R: Reader> Reading<R> {
     ) -> Result<(), OutOfMemory>
         ensures read { OnOk result (record { reader = self.new.reader; transport = t.new } ≡ reads_on R.is_final R.fed R.ended self.old.id self.old.reader t.old) }
         ensures stream { self.new.id ≡ self.old.id }
+        ensures steps { OnOk result (CountsRead R.is_final self.old.id t.old (record { reader = self.new.reader; transport = t.new }) steps.old steps.new) }
     {
         if self.is_final() {
             return Ok(());

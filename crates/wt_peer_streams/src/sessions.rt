@@ -1,7 +1,8 @@
 //! The sessions of a connection.
 ghost use Rattle.std.specs.List.{position};
-ghost use Rattle.std.specs.Prelude.{◌≡◌, ◌≤◌, ◌<◌, [], IfOk, OnOk, length, nat_lt, option_copied, option_map, slice_get};
+ghost use Rattle.std.specs.Prelude.{◌≡◌, ◌≤◌, ◌<◌, ◌+◌, [], IfOk, OnOk, length, nat_lt, option_copied, option_map, slice_get};
 ghost use Rattle.wt_kept.specs.Calling.{has_no_session_now};
+ghost use Rattle.wt_kept.specs.Counting.{CountsLive, feed_steps};
 ghost use Rattle.wt_kept.specs.Ending.{ended_by, remains_of};
 ghost use Rattle.wt_kept.specs.Kept.{LiveNow, WorkNow};
 ghost use Rattle.wt_kept.specs.Windows.{admit_datagram_now, admit_stream_now, empty_window, end_in, establish_now, first_datagram, first_stream_id, is_gone_now, is_live, live_in, lives_now};
@@ -229,6 +230,7 @@ impl Sessions {
     ) -> Result<Option<Fed>, OutOfMemory>
         ensures fed { IfOk result (λ fed. fed ≡ session_feed_at piece.now (live_in self.old id)) }
         ensures sessions { OnOk result (self.new ≡ session_fed_at id piece.now (live_in self.old id) self.old) }
+        ensures steps { IfOk result (λ fed. steps.new ≡ steps.old + feed_steps fed) }
     {
         match self.index_by_stream(id) {
             Some(index) => {
@@ -239,17 +241,19 @@ impl Sessions {
         }
     }
 
-    /// Reads on what came on the session's stream, and tells what it says, where that ends the session or the connection.
+    /// Reads on what came on the stream of a session that lives, and tells what it says, where that ends the session or the
+    /// connection.
     pub fn read<L: Ledger>(
         &mut self,
-        session: SessionId,
+        id: StreamId,
         t: &mut Transport,
         steps: &mut Steps<L>,
     ) -> Result<Option<News>, OutOfMemory>
-        ensures read { OnOk result (record { sessions = self.new; transport = t.new } ≡ live_read session (live_in self.old session) self.old t.old) }
-        ensures news { (w : WorkNow) → IfOk result (λ news. after_news session news w ≡ news_of_reader session (live_in self.old session) t.old w) }
+        ensures read { OnOk result (record { sessions = self.new; transport = t.new } ≡ live_read id (live_in self.old id) self.old t.old) }
+        ensures news { (w : WorkNow) → IfOk result (λ news. after_news id news w ≡ news_of_reader id (live_in self.old id) t.old w) }
+        ensures steps { OnOk result (CountsLive id (live_in self.old id) t.old steps.old steps.new) }
     {
-        match self.index_of(session) {
+        match self.index_by_stream(id) {
             Some(index) => {
                 let live = &mut self.living[index];
                 live.read(t, steps)

@@ -1,6 +1,6 @@
 //! The end of sessions.
 ghost use Rattle.std.specs.Prelude.{◌≡◌, OnOk};
-ghost use Rattle.wt_kept.specs.Ending.{end_streams, finish_and_retire, finish_running, give_up_all, give_up_now, reset_and_retire, retire_now};
+ghost use Rattle.wt_kept.specs.Ending.{end_streams, finish_and_retire, finish_running, forget_session, give_up_all, give_up_now, reset_and_retire, retire_now};
 ghost use Rattle.wt_peer_streams.specs.Gone.{end_now};
 
 use super::Dispatched;
@@ -56,6 +56,15 @@ impl Dispatched {
         let own = session.session_stream();
         give_up(t, own);
         self.requests.forget(own);
+        Ok(())
+    }
+
+    /// The session becomes gone after the connection's end: no stream of it ends any more.
+    pub fn forget(&mut self, session: SessionId, end: SessionEnd) -> Result<(), OutOfMemory>
+        ensures { OnOk result (self.new ≡ forget_session session (end_now end) self.old) }
+    {
+        self.sessions.end(session, end)?;
+        self.requests.forget(session.session_stream());
         Ok(())
     }
 

@@ -1,7 +1,9 @@
 //! What comes on the streams that went somewhere.
-ghost use Rattle.std.specs.Prelude.{◌≡◌, IfOk, OnOk};
+ghost use Rattle.std.specs.Prelude.{◌≡◌, ◌≤◌, ◌+◌, IfOk, OnOk};
+ghost use Rattle.wt_kept.specs.Counting.{feed_steps, reads_left};
 ghost use Rattle.wt_kept.specs.Looking.{check_qpack_now, read_control, read_session, read_sessions};
 ghost use Rattle.wt_kept.specs.Pieces.{body_fed, body_feed};
+ghost use Rattle.wt_next_transport.specs.StreamState.{piece_count};
 ghost use Rattle.wt_peer_streams.specs.Living.{after_news};
 
 use super::Dispatched;
@@ -25,6 +27,7 @@ impl Dispatched {
     ) -> Result<Option<Fed>, OutOfMemory>
         ensures fed { IfOk result (λ fed. fed ≡ body_feed id piece.now self.old) }
         ensures dispatched { OnOk result (self.new ≡ body_fed id piece.now self.old) }
+        ensures steps { IfOk result (λ fed. steps.new ≡ steps.old + feed_steps fed) }
     {
         match self.critical.feed(id, piece, steps)? {
             Some(fed) => Ok(Some(fed)),
@@ -38,7 +41,8 @@ impl Dispatched {
         t: &mut Transport,
         steps: &mut Steps<L>,
     ) -> Result<(), OutOfMemory>
-        ensures { OnOk result (record { transport = t.new; dispatched = self.new } ≡ read_sessions (record { transport = t.old; dispatched = self.old })) }
+        ensures read { OnOk result (record { transport = t.new; dispatched = self.new } ≡ read_sessions (record { transport = t.old; dispatched = self.old })) }
+        ensures steps { OnOk result (steps.new + reads_left (record { transport = t.new; dispatched = self.new }) ≤ steps.old + reads_left (record { transport = t.old; dispatched = self.old })) }
     {
         let living = self.sessions.living();
         for place in living {
@@ -61,9 +65,10 @@ impl Dispatched {
         session: SessionId,
         steps: &mut Steps<L>,
     ) -> Result<(), OutOfMemory>
-        ensures { OnOk result (record { transport = t.new; dispatched = self.new } ≡ read_session session (record { transport = t.old; dispatched = self.old })) }
+        ensures read { OnOk result (record { transport = t.new; dispatched = self.new } ≡ read_session session (record { transport = t.old; dispatched = self.old })) }
+        ensures steps { OnOk result (steps.new + reads_left (record { transport = t.new; dispatched = self.new }) ≤ steps.old + piece_count t.old.streams) }
     {
-        let news = self.sessions.read(session, t, steps)?;
+        let news = self.sessions.read(session.session_stream(), t, steps)?;
         self.follow(t, session, news)
     }
 
@@ -98,7 +103,8 @@ impl Dispatched {
         t: &mut Transport,
         steps: &mut Steps<L>,
     ) -> Result<(), OutOfMemory>
-        ensures { OnOk result (record { transport = t.new; dispatched = self.new } ≡ read_control (record { transport = t.old; dispatched = self.old })) }
+        ensures read { OnOk result (record { transport = t.new; dispatched = self.new } ≡ read_control (record { transport = t.old; dispatched = self.old })) }
+        ensures steps { OnOk result (steps.new + reads_left (record { transport = t.new; dispatched = self.new }) ≤ steps.old + reads_left (record { transport = t.old; dispatched = self.old })) }
     {
         if self.fault.is_none() {
             self.fault = self.critical.read(t, steps)?;

@@ -1,9 +1,11 @@
 use Rattle.std.proofs.Common.{refl, ◌<◌, ◌≡◌, ◌∙◌, arith, ap, false, length, nat_lt, subst, sym, ℕ}
 use Rattle.std.proofs.lemmas.Bool.Decides.{nat_tests}
 use Rattle.std.specs.Prelude.{◌&&◌, ◌==◌, not}
+use Rattle.wt_kept.specs.Counting.{CountsRead}
 use Rattle.wt_kept.specs.Readers.{Slot, noted_if, reads_on_if}
 use Rattle.wt_next_transport.specs.Step.{end_now, unread_now}
-use Rattle.wt_peer_streams.proofs.ReadLoop.{Joins, either-over, goes-on, read-whole, shorter}
+use Rattle.wt_peer_streams.proofs.Counts.{counts-more, counts-noted}
+use Rattle.wt_peer_streams.proofs.ReadLoop.{Joins, both-goes, either-over, goes-on, read-whole, shorter}
 use Rattle.wt_peer_streams.specs.Feeding.{Took}
 use Rattle.wt_seam_spec.specs.Reports.{is_running}
 use Rattle.wt_peer_streams.proofs.reading.Reading.read.Goals as goal
@@ -20,6 +22,9 @@ loop-self-preserved g c =
       so_far = goes-on g.R.Reader.is_final g.R.Reader.fed c.args.self.now.id c.args.self.now.reader c.args.t.now c.loop-self.self.reader c.loop-self.t c.take_piece.new.self.reader c.take_piece.new.t j c.loop-self.invariant.so_far
           (subst (λ (k : ℕ). Took g.R.Reader.is_final g.R.Reader.fed k c.loop-self.self.reader c.loop-self.t c.take_piece.new.self.reader c.take_piece.new.t) c.loop-self.invariant.stream c.in_ok-take_piece.ensures.took);
       stream = c.in_ok-take_piece.ensures.stream ∙ c.loop-self.invariant.stream;
+      steps = counts-more g.R.Reader.is_final c.args.self.now.id c.args.t.now c.loop-self.self.reader c.loop-self.t c.take_piece.new.self.reader c.take_piece.new.t c.args.steps.now c.loop-self.steps c.take_piece.new.steps c.loop-self.invariant.steps
+          (both-goes (g.R.Reader.is_final c.loop-self.self.reader) (nat_lt 0 (length (unread_now c.loop-self.t c.loop-self.self.id))) (sym c.goes_on.ensures ∙ c.loop-self-test.true)).0
+          (subst (λ (k : ℕ). CountsRead g.R.Reader.is_final k c.loop-self.t (record { reader = c.take_piece.new.self.reader; transport = c.take_piece.new.t }) c.loop-self.steps c.take_piece.new.steps) c.loop-self.invariant.stream c.in_ok-take_piece.ensures.steps);
     }
 
 pub returns-clause-read : goal.returns-clause-read
@@ -36,3 +41,10 @@ returns-clause-read g c =
     (λ some. either-over (g.R.Reader.is_final c.loop-self.self.reader) (nat_lt 0 (length (unread_now c.loop-self.t c.args.self.now.id))) over (grind (arith, nat_tests, some)))
     (not (is_running (end_now c.loop-self.t c.args.self.now.id)) && length (unread_now c.loop-self.t c.args.self.now.id) == 0) refl
     ∙ sym (ap (λ b. reads_on_if g.R.Reader.is_final g.R.Reader.fed g.R.Reader.ended b c.args.self.now.id c.args.self.now.reader c.args.t.now) (sym c.is_final.ensures.answer ∙ c.if-is_final.false)))
+
+pub returns-clause-steps : goal.returns-clause-steps
+returns-clause-steps g c =
+    subst (λ (v : g.row.R.Denot). CountsRead g.R.Reader.is_final c.args.self.now.id c.args.t.now (record { reader = v; transport = c.loop-self.t }) c.args.steps.now c.loop-self.steps)
+    (sym (ap (λ (s : Slot g.row.R.Denot). s.reader) c.note_end.ensures
+    ∙ ap (λ (k : ℕ). noted_if g.R.Reader.ended (not (is_running (end_now c.loop-self.t k)) && length (unread_now c.loop-self.t k) == 0) (end_now c.loop-self.t k) c.loop-self.self.reader) c.loop-self.invariant.stream))
+    (counts-noted g.R.Reader.is_final c.args.self.now.id g.R.Reader.ended (is_running (end_now c.loop-self.t c.args.self.now.id)) (end_now c.loop-self.t c.args.self.now.id) c.args.t.now c.loop-self.self.reader c.loop-self.t c.args.steps.now c.loop-self.steps c.loop-self.invariant.steps)
