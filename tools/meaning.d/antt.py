@@ -462,6 +462,11 @@ def length(x):
 
 
 @b(2)
+def range_with_len(a, n):
+    return from_list(list(range(a, a + n)))
+
+
+@b(2)
 def take(n, xs):
     if xs is None or n >= xs.len:
         return xs
@@ -782,6 +787,15 @@ class Module:
         return Fun(arity, run, (), name)
 
 
+class Uses(Module):
+    """The names that some lines `use ..` import."""
+
+    def __init__(self, name, lines):
+        self.name, self.aliases, self.imports, self.defs, self.cache = name, {}, {}, {}, {}
+        for line in lines:
+            self.use(line)
+
+
 def without_do(text):
     if not re.search(r'= do\s*\n', text):
         return text
@@ -794,6 +808,7 @@ def without_do(text):
     return head + '= ' + e
 
 
+EQUATIONS = None  # those of wt_promise/src, once sentences.py read them
 CLEAR = []
 CURRENT = ['']
 

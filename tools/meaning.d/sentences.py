@@ -5,6 +5,8 @@ wt_promise, as they stand, and of the crates below it; `for each` goes over what
 that were established, the findings. So a sentence that is false here is false; one that isn't may be false elsewhere.
 """
 from functools import cached_property
+from itertools import product
+import re
 
 SENTENCES = []
 
@@ -38,10 +40,10 @@ class Words:
 
 
 class At:
-    """A pair after a history: the turn, its answer, and the history with both."""
+    """A pair after a history: the turn, its answer, and the history with both; or a turn that isn't lawful there."""
 
-    def __init__(self, w, side, h, turn, answer):
-        self.w, self.side, self.h, self.turn, self.answer = w, side, h, turn, answer
+    def __init__(self, w, side, h, turn, answer, is_refused=False):
+        self.w, self.side, self.h, self.turn, self.answer, self.is_refused = w, side, h, turn, answer, is_refused
         self.later = w.m('Meaning.with_pair', h, turn, answer)
         self.reply, self.actions = answer.f['reply'], w.list(answer.f['actions'])
         self.call = turn.a[0] if turn.n == 'Call' else None
@@ -209,7 +211,7 @@ def established(at):
     if at.reply.n != 'Session':
         return True
     s = at.reply.a[0]
-    head = w.list(w.p('Owed.head_of', w.m('Handshakes.last_begun', at.later)))
+    head = w.list(w.p('Owed.head_of', w.p('Owed.begun_last', at.later)))
     return (w.m('Findings.settings_came', at.found) and w.p('Promise.is_asked_for', at.side, at.later, s) and at.out(s) == head and at.was_open
             and not w.m('Windows.is_established', h, s))
 
@@ -328,7 +330,7 @@ def heads(at):
     if not (w.m('Lawful.polls', at.turn) and at.reply.n == 'Pending' and w.p('Promise.head_may_go', at.side, at.h)):
         return True
     k = w.p('Owed.handshake_stream', at.h)
-    return at.out(k) == w.list(w.p('Owed.head_of', w.m('Handshakes.last_begun', at.later)))[:at.credit(k)]
+    return at.out(k) == w.list(w.p('Owed.head_of', w.p('Owed.begun_last', at.later)))[:at.credit(k)]
 
 
 @sentence('headers_go_out_as_far_as_credit')
@@ -389,7 +391,7 @@ def opened(at):
     for a in at.actions:
         if a.n == 'Opened':
             there.add(a.a[0])
-        elif a.n in ('Send', 'Finish', 'ResetOut') and a.a[0] % 4 in own and a.a[0] not in there and not w.m('History.exists', at.side, at.h, a.a[0]):
+        elif a.n in ('Send', 'Finish', 'ResetOut', 'StopOut') and a.a[0] % 4 in own and a.a[0] not in there and not w.m('History.exists', at.side, at.h, a.a[0]):
             return False
     return True
 
@@ -406,6 +408,33 @@ def waits_on(at):
                 if w.m('Meaning.next', at.side, at.later, call).f['reply'].n != 'Pending':
                     return False
     return True
+
+
+@sentence('calls_wait_on_under_the_transport')
+def waits_under_transport(at):
+    w, d = at.w, at.w.antt.D
+    if at.call or not (at.was_open and at.is_open) or at.actions or at.found != at.now or at.is_quiet():
+        return True
+    none, brings, about = d('None'), at.turn.n in ('Connected', 'MaxUni', 'MaxBi'), lambda k: w.p('Sides.is_about', k, at.turn)
+    calls = [d('Incoming'), d('AcceptUni', (none,)), d('AcceptBi', (none,)), d('ReceiveDatagram', (none,)), d('Closed')]
+    if not brings:
+        calls += [d('OpenUni', (none,)), d('OpenBi', (none,))]
+    if not about(w.p('Owed.handshake_stream', at.h)) and not (brings and at.side.n == 'Client'):
+        calls.append(d('Handshake'))
+    calls += [d('PollOpening', (k,)) for k in at.streams if w.m('Calls.being_opened', at.h, k).n == 'Some' and not about(k)]
+    replies = lambda h: [w.m('Meaning.next', at.side, h, d('Call', (call,))).f['reply'] for call in calls]
+    return replies(at.h) == replies(at.later)
+
+
+@sentence('bytes_that_complete_nothing_are_quiet')
+def quiet_byte(at):
+    w, k = at.w, at.turn.a[0] if at.turn.n == 'Bytes' else 0
+    if at.turn.n != 'Bytes' or at.found == at.now and not at.actions:
+        return True
+    control = w.m('Findings.first_of', w.m('Findings.control_in'), at.found)
+    ripe = w.m('Findings.is_dequeued', at.found, k) and not w.m('Findings.is_classified', at.found, k) and w.o('Uni.is_final', w.m('Moments.verdict', at.later, k))
+    runs = not w.m('Windows.lives', at.h, at.found, k) or w.p('Found.session_walk', at.later, at.found, k).n == 'Running'
+    return ripe or not runs or w.m('Moments.control_walk', at.later, control) != w.m('Moments.control_walk', at.h, control)
 
 
 # ---- lists
@@ -449,13 +478,146 @@ def cuts(w, side, h, turn, answer):
             and w.m('Meaning.history_after', side, h, turn) == w.m('Meaning.history_after', side, between, second) and answer.f['actions'] == joined)
 
 
+# ---- equations: the clauses `left ≡ right` of these files of wt_promise/src, as they stand there
+
+EQUATIONS = ('words', 'lawful', 'session_streams')
+
+# those that ask of a turn whether it may come
+LAWFUL = ('turns_of_the_transport_come_as_quic_lets_them', 'calls_come_in_their_order')
+
+
+def parts_of(text, sign):
+    """The text cut at this sign where no bracket is open."""
+    found, depth, begin, i = [], 0, 0, 0
+    while i < len(text):
+        depth += {'(': 1, '[': 1, '{': 1, ')': -1, ']': -1, '}': -1}.get(text[i], 0)
+        if not depth and text.startswith(f' {sign} ', i):
+            found.append(text[begin:i])
+            i = begin = i + len(sign) + 2
+        else:
+            i += 1
+    return found + [text[begin:]]
+
+
+class Equation:
+    """A clause of a function: its binders, its premises, and its two sides."""
+
+    def __init__(self, antt, module, function, text):
+        self.function, self.binders = function, []
+        while m := re.match(r'\s*\(([\w ]+) : ((?:[^()]|\([^()]*\))*)\)', text):
+            self.binders += [(name, m[2]) for name in m[1].split()]
+            text = text[m.end():]
+        *premises, claim = parts_of(re.sub(r'^\s*→ ', '', text), '→')
+        self.side = next((m[1] for p in premises if (m := re.match(r'\s*IsHistory (Client|Server) ', p))), None)
+        self.premises = [self.sides(antt, module, p) for p in premises if ' ≡ ' in p]
+        self.left = claim
+        self.claim = self.sides(antt, module, claim)
+        self.turn = re.search(r'\(turns\.(\w+) ?([\w ]*)', claim)
+
+    def sides(self, antt, module, text):
+        names = frozenset(name for name, _ in self.binders)
+        return [antt.comp(antt.Parser(antt.tokens(side), module).expr(), module, names) for side in parts_of(text, '≡')]
+
+    def holds(self, at):
+        if self.side and at.side.n != self.side:
+            return True
+        for env in self.environments(at):
+            if all(left(env) == right(env) for left, right in self.premises):
+                left, right = self.claim
+                if not left(env) == right(env):
+                    return False
+        return True
+
+    def environments(self, at):
+        """What there is for the binders: of a turn, or call, the one at hand after the history before it."""
+        names, h, given = dict(self.binders), at.h if at.is_refused else at.later, {'side': at.side}
+        if self.turn and self.turn[1] != 'Call' and at.turn.n != self.turn[1] and set(self.turn[2].split()) & set(names):
+            return
+        if {'turn', 'c'} & set(names) or self.turn and self.turn[1] != 'Call' and self.turn[1] == at.turn.n:
+            h = at.h
+            given.update(zip(self.turn[2].split(), at.turn.a) if self.turn else ())
+            if 'b' in names:
+                given['b'] = at.turn.a[1].h if at.turn.n == 'Bytes' and at.turn.a[1] else None
+        if 'p' in names:
+            if h is None:
+                return
+            given['p'], h = h.h, h.t
+        given['h'] = h
+        if {'capsules', 'b'} <= set(names):
+            yield from self.walks(at, given, names)
+            return
+        left = [name for name in names if name not in given]
+        for values in product(*(self.values(at, name, names[name]) for name in left)):
+            env = dict(given, **dict(zip(left, values)))
+            if env.get('b', 0) is not None:
+                yield env
+
+    def walks(self, at, given, names):
+        """A walk over capsules that took some last bytes of a session's stream but the newest, and that; and one that took none, and some last bytes."""
+        w, start = at.w, at.w.m('SessionWalk.session_start').f['capsules']
+        over = w.o('WalkProgress.progress_after', w.m('SessionWalk.capsule_decides'))
+        for some in (w.list(w.m('History.contents', at.later, s)) for s in at.sessions):
+            for i in range(len(some)):
+                for left in (0, 1) if 'left' in names else (0,):
+                    yield dict(given, left=left, capsules=w.antt.apply(over, [start, w.antt.from_list(some[i:-1])]), b=some[-1], bytes=None)
+                    yield dict(given, left=left, capsules=start, b=some[i], bytes=w.antt.from_list(some[i + 1:]))
+
+    def values(self, at, name, kind):
+        w, d = at.w, at.w.antt.D
+        if name in ('k', 'id'):
+            return [*at.streams[-6:], 0, 2, 3]
+        if name in ('s', 'other'):
+            return {*at.sessions[-4:], 0, 4}
+        if kind == 'ℕ':
+            return {'kind': range(4), 'left': (0, 1, 5), 'code': (0, 7), 'b': (0,)}.get(name, (0, 4))
+        if name == 'bytes':
+            streams = [w.list(w.m('History.contents', at.later, s)) for s in at.sessions]
+            return [w.antt.from_list(some[i:]) for some in streams for i in range(len(some))]
+        fixed = {
+            'Turn': [at.turn], 'Reply': [at.reply], 'Call': [at.call] if at.call else [], 'Action': at.actions, 'Answer': [at.answer], 'Option ℕ': [d('None'), w.antt.some(0), w.antt.some(4)],
+            'List Finding': [at.now], 'Finding': w.list(at.now)[-8:], 'StreamEnd': [d('Running'), d('Fin'), d('Reset', (0,))], 'Bool': [True, False],
+            'List Turn': [None], 'ResponseWalk': [w.o('ResponseWalk.response_walk_of', w.m('History.contents', at.later, 0), at.end_of(0))],
+            'SessionWalk': [d('Running'), d('Closed', (0, None)), d('Fault', (d('Message'),))],
+        }
+        if kind in fixed:
+            return fixed[kind]
+        if name == 'stream':
+            return [d('None'), control_of(at)]
+        start = w.m('SessionWalk.session_start')
+        if kind == 'SessionProgress':
+            return [start, w.antt.Rec({'data_left': 1, 'capsules': start.f['capsules']})]
+        raise Exception(f'no value for {name} : {kind}')
+
+
+def equations_of(antt):
+    """All equations of these files, read once."""
+    if antt.EQUATIONS is None:
+        antt.EQUATIONS = []
+        for file in EQUATIONS:
+            text = (antt.REPO / 'crates/wt_promise/src' / f'{file}.rt').read_text()
+            module = antt.Uses(file, re.findall(r'^ghost use (.*);$', text, re.M))
+            for function in re.finditer(r'^pub fn (\w+)\(\)\n((?: +.*\n)+)', text, re.M):
+                for clause in re.split(r'\n    ensures ', '\n' + function[2].rstrip())[1:]:
+                    antt.EQUATIONS.append(Equation(antt, module, function[1], clause[clause.index('{') + 1:clause.rindex('}')]))
+    return antt.EQUATIONS
+
+
+def false_equation(at, functions=None):
+    """The first function of which a clause is false at the pair, or ''."""
+    for equation in equations_of(at.w.antt):
+        if (functions is None or equation.function in functions) and not equation.holds(at):
+            return equation.function
+    return ''
+
+
 # ---- where
 
 def pairs(w, side, turns):
-    """Each turn of the list as far as it is lawful, its bytes one by one, with the number of the turn."""
+    """Each turn of the list as far as it is lawful, its bytes one by one, with the number of the turn; then the one that isn't, without an answer."""
     h = None
     for n, turn in enumerate(w.list(turns)):
         if not w.m('Lawful.is_lawful', side, h, turn):
+            yield n, h, turn, None
             return
         for one in [w.antt.D('Bytes', (turn.a[0], w.antt.Cons(b, None))) for b in w.list(turn.a[1])] if turn.n == 'Bytes' else [turn]:
             answer = w.m('Meaning.next', side, h, one)
@@ -468,19 +630,25 @@ def false_at(at):
     for name, holds in SENTENCES:
         if not holds(at):
             return name
-    return ''
+    return false_equation(at)
 
 
 def refuses(antt, side, turns, at_turn=None):
-    """(sentence, turn) that is false of this list, or ('', None): at the given turn first, then at every pair but quiet bytes, then of the list."""
+    """(sentence, turn) that is false of this list, or ('', None): at the given turn first, then at every pair but quiet bytes in the middle of a piece, then of the list."""
     w = Words(antt)
     every = list(pairs(w, side, turns))
+    stop = every.pop() if every and every[-1][3] is None else None
     order = [p for p in every if p[0] == at_turn] + [p for p in every if p[0] != at_turn]
-    last = {p[0]: p for p in every}
+    last, first = {p[0]: p for p in every}, {p[0]: p for p in reversed(every)}
     for p in order:
         at = At(w, side, *p[1:])
-        if at.is_quiet() and last[p[0]] is not p:
+        if at.is_quiet() and last[p[0]] is not p and first[p[0]] is not p:
             continue
         if said := false_at(at):
             return said, p[0]
+    if stop:
+        n, h, turn, _ = stop
+        at = At(w, side, h, turn, w.m('Meaning.next', side, h, turn), True)
+        if said := false_equation(at, LAWFUL):
+            return said, n
     return false_of_list(w, side, turns), None

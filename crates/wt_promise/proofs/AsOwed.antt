@@ -1,4 +1,5 @@
 -- What is proved of the answer that the rows give, said of what a call owes.
+use Rattle.wt_promise.proofs.Statements.{OpenExactly, ResultStays, SettingsGoOut}
 use Rattle.std.specs.Prelude.{◌&&◌, ◌||◌, ◌≡◌, Bool, List, is_none, not, true, ◌++◌, ◌==◌, ◌≤◌, None, Option, Some, if◌then◌else◌, length, take, ℕ, [], ◌∷◌, Contains, false, suc}
 use Rattle.std.specs.List.{list_any}
 use Rattle.std.proofs.Common.{◌∙◌, ap, subst, sym, refl, arith}
@@ -29,7 +30,7 @@ use Rattle.wt_promise.proofs.OwedAll.{met}
 use Rattle.wt_promise.proofs.OwedCalls.{turn-owed}
 use Rattle.wt_promise.proofs.ResultKept.{result-stays}
 use Rattle.wt_promise.proofs.SettingsOut.{settings-go-out}
-use Rattle.wt_promise.specs.Promise.{GoneIsTold, IsHistory, OpenExactly, ResultStays, SettingsGoOut, HeadGoesOut, HeaderGoesOut, SendsInOrder, accepted, begun_on}
+use Rattle.wt_promise.specs.Promise.{GoneIsTold, IsHistory, HeadGoesOut, HeaderGoesOut, SendsInOrder, accepted, begun_on}
 use Rattle.wt_turn.specs.Log.{closes}
 use Rattle.wt_turn.specs.declared.action.Action.{Action}
 use Rattle.wt_turn.specs.declared.turn.Turn.{Turn}

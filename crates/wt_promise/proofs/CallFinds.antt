@@ -1,4 +1,5 @@
 -- A call finds nothing, unless it establishes a session.
+use Rattle.wt_promise.proofs.Statements.{FindsNothing}
 use Rattle.std.specs.Prelude.{[], ◌&&◌, ◌*◌, ◌+◌, ◌<◌, ◌∷◌, ◌||◌, ◌≡◌, Bool, List, None, Option, Some, drop, false, if◌then◌else◌, is_some, length, not, nat_lt, true, unwrap_or, ℕ}
 use Rattle.std.specs.List.{list_any}
 use Rattle.std.specs.Option.{option_or}
@@ -18,7 +19,6 @@ use Rattle.wt_promise.proofs.Phases.{same-established}
 use Rattle.wt_promise.proofs.Settles.{SettledAt, open-ones}
 use Rattle.wt_promise.specs.Found.{can_set_up, datagrams_fault, early_fault, ended_fault, session_walk, sessions_fault, streams_fault, walk_fault}
 use Rattle.wt_promise.specs.Promise.{IsHistory}
-use Rattle.wt_promise.specs.Sides.{FindsNothing}
 use Rattle.wt_proto.specs.ControlWalk.{control_walk_of}
 use Rattle.wt_proto.specs.ResponseWalk.{response_walk_of}
 use Rattle.wt_proto.specs.Uni.{is_final}

@@ -1,4 +1,5 @@
 -- What a session received is a subsequence of what came for it; a reset is read once it came.
+use Rattle.wt_promise.proofs.Statements.{PayloadsCame, ResetsRightly}
 use Rattle.std.specs.Prelude.{[], ◌++◌, ◌==◌, ◌∷◌, ◌≡◌, Bool, List, None, Option, Some, drop, false, filter, filter_map, if◌then◌else◌, length, map, nat_le, not, suc, take, true, zero, ℕ}
 use Rattle.std.specs.List.{cons_option}
 use Rattle.std.proofs.Common.{◌∙◌, ap, refl, subst, sym}
@@ -16,7 +17,7 @@ use Rattle.wt_promise.proofs.Datagrams.{datagrams-in-order}
 use Rattle.wt_promise.proofs.Facts.{facts}
 use Rattle.wt_promise.specs.Promise.{IsHistory}
 use Rattle.wt_promise.specs.Found.{IsSubsequence, LeftOut, Nil, Taken}
-use Rattle.wt_promise.specs.Sides.{PayloadsCame, ResetsRightly, arrived}
+use Rattle.wt_promise.specs.Sides.{arrived}
 use Rattle.wt_seam_spec.specs.Reports.{datagrams_of, end_of}
 use Rattle.wt_wire.specs.declared.side.Side.{Side}
 use Rattle.wt_wire.specs.declared.side.StreamEnd.{StreamEnd}

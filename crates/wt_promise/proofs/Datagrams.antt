@@ -1,4 +1,5 @@
 -- The datagrams that a session received are the first of those that were admitted for it.
+use Rattle.wt_promise.proofs.Statements.{DatagramsInOrder}
 use Rattle.std.specs.Prelude.{[], ◌++◌, ◌<◌, ◌==◌, ◌∷◌, ◌≡◌, ◌≤◌, Bool, List, None, Option, Some, drop, false, filter, filter_map, if◌then◌else◌, length, map, suc, take, true, zero, ℕ}
 use Rattle.std.proofs.Common.{◌∙◌, ap, arith, length-append, refl, sym}
 use Rattle.std.proofs.lemmas.Bool.{eqb-true}
@@ -12,7 +13,7 @@ use Rattle.wt_meaning.specs.Moments.{findings}
 use Rattle.wt_meaning.specs.Windows.{admitted_datagram, is_gone, is_number, named, received_count, receives}
 use Rattle.wt_promise.proofs.Accepted.{datagram-received}
 use Rattle.wt_promise.proofs.Grows.{findings-add, news}
-use Rattle.wt_promise.specs.Promise.{DatagramsInOrder, IsHistory, payload_in, payloads}
+use Rattle.wt_promise.specs.Promise.{IsHistory, payload_in, payloads}
 use Rattle.wt_turn.specs.declared.reply.Reply.{Reply}
 use Rattle.wt_turn.specs.declared.turn.Turn.{Turn}
 use Rattle.wt_wire.specs.declared.side.Side.{Side}

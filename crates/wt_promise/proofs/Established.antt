@@ -1,4 +1,5 @@
 -- What a session rests on: SETTINGS came, it was asked for, its whole frame went out, the connection is open, and it is new.
+use Rattle.wt_promise.proofs.Statements.{EstablishedRightly}
 use Rattle.std.specs.Prelude.{[], ◌&&◌, ◌++◌, ◌==◌, ◌||◌, ◌∷◌, ◌≡◌, ◌≤◌, Bool, List, None, Option, Some, false, if◌then◌else◌, length, not, take, true, unwrap_or, ℕ}
 use Rattle.std.specs.List.{list_any}
 use Rattle.std.specs.Option.{option_or}
@@ -35,7 +36,7 @@ use Rattle.wt_promise.proofs.Shakes.{head_stream}
 use Rattle.wt_promise.proofs.Sessions.{AcceptGives, Accepted, ConnectGives, Connected, PollGives, accept-gives, is_connect, poll-gives}
 use Rattle.wt_promise.proofs.Tables.{fits-own}
 use Rattle.wt_promise.specs.Owed.{header_on}
-use Rattle.wt_promise.specs.Promise.{EstablishedFor, EstablishedRightly, IsHistory, accepted, begun_on, is_acceptance}
+use Rattle.wt_promise.specs.Promise.{EstablishedFor, IsHistory, accepted, begun_on, is_acceptance}
 use Rattle.wt_proto.specs.ResponseWalk.{response_walk_of}
 use Rattle.wt_seam_spec.specs.Reports.{end_of}
 use Rattle.wt_seam_spec.specs.Streams.{local_count, local_uni}

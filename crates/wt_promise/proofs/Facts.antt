@@ -1,4 +1,5 @@
 -- What holds of all that was found, after each history: it is what one pass over a moment finds.
+use Rattle.wt_promise.proofs.Statements.{ClassifiedRightly, DatagramsAsCame}
 use Rattle.std.specs.Prelude.{[], ◌&&◌, ◌++◌, ◌∷◌, ◌||◌, ◌≡◌, Bool, List, None, Option, Some, drop, false, if◌then◌else◌, is_none, is_some, length, nat_lt, suc, true, zero, ℕ}
 use Rattle.std.proofs.Common.{◌∙◌, ap, arith, refl, subst, sym}
 use Rattle.std.proofs.lemmas.List.{append-nil}
@@ -19,7 +20,7 @@ use Rattle.wt_promise.proofs.ReadPieces.{contents-add}
 use Rattle.wt_promise.proofs.Ready.{ready-stays}
 use Rattle.wt_promise.proofs.Settles.{KeptStreams}
 use Rattle.wt_promise.proofs.Shown.{opened-more, shown-stays}
-use Rattle.wt_promise.specs.Found.{ClassifiedRightly, DatagramsAsCame, FaultIsFirst, can_set_up, early_fault, first_fault, streams_fault}
+use Rattle.wt_promise.specs.Found.{FaultIsFirst, can_set_up, early_fault, first_fault, streams_fault}
 use Rattle.wt_promise.specs.Promise.{IsHistory}
 use Rattle.wt_proto.proofs.ControlLaws.{settings_stay}
 use Rattle.wt_proto.specs.ControlWalk.{control_walk_of}

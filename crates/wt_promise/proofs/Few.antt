@@ -1,4 +1,5 @@
 -- At most 4 sessions live: each is a request that is held, and no session is established twice.
+use Rattle.wt_promise.proofs.Statements.{FewLive}
 use Rattle.std.specs.Prelude.{[], ◌&&◌, ◌++◌, ◌+◌, ◌==◌, ◌∷◌, ◌||◌, ◌≡◌, ◌≤◌, Bool, List, None, Option, Some, false, filter, filter_map, if◌then◌else◌, length, nat_lt, not, suc, true, unwrap_or, ℕ}
 use Rattle.std.specs.List.{list_any}
 use Rattle.std.proofs.Common.{◌∙◌, ap, arith, length-append, refl, sym}
@@ -18,7 +19,7 @@ use Rattle.wt_promise.proofs.Asks.{Asks, Begins, Else, ForRequest, GoesOn, Respo
 use Rattle.wt_promise.proofs.Grows.{AClassified, AClosed, ADatagram, ADequeued, AFault, ASettings, Adds, Nothing, findings-add, findings-keep, news, of-stream-fault}
 use Rattle.wt_promise.proofs.Phases.{IsLast, client-waits, phase, poll-gives-last, requested, response-gives-last, server-begun}
 use Rattle.wt_promise.proofs.Tables.{fits}
-use Rattle.wt_promise.specs.Promise.{FewLive, IsHistory}
+use Rattle.wt_promise.specs.Promise.{IsHistory}
 use Rattle.wt_proto.specs.declared.verdict.Verdict.{Verdict}
 use Rattle.wt_turn.specs.declared.answer.Answer.{Answer}
 use Rattle.wt_turn.specs.declared.call.Call.{Call}
@@ -219,7 +220,7 @@ gone-later p h found s e = by (is_number s (gone_in h p.turn p.answer.reply)) (i
     by true b c q = refl
     by false b c q = q
 
-abbrev AtMostFour : History → List Finding → Type 0
+abbrev pub AtMostFour : History → List Finding → Type 0
 AtMostFour h found = held_requests h found ≤ 4
 
 held-add : (h : History) (found new : List Finding) → held_requests h (found ++ new) ≤ held_requests h found + length (filter_map queued_request new)
@@ -274,7 +275,7 @@ few-step side h found new (AClassified k (verdicts.WebTransport session offset) 
     by false = ap (filter_map queued_request) m
 few-step side h found new (AClassified k v more p d c w m) f = not-held h found new (ap (filter_map queued_request) m ∙ no-requests found v) f
 
-at-most-four : (side : Side) (h : History) → AtMostFour h (findings side h)
+pub at-most-four : (side : Side) (h : History) → AtMostFour h (findings side h)
 unfolding findings
 at-most-four side [] = omega arith
 at-most-four side (p ∷ h) =

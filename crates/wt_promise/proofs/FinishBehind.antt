@@ -1,4 +1,5 @@
 -- Nothing is sent on a stream behind its finish in the same answer.
+use Rattle.wt_promise.proofs.Statements.{SilentAfterFinish}
 use Rattle.std.specs.Prelude.{[], ◌++◌, ◌==◌, ◌∷◌, ◌||◌, ◌≡◌, Bool, List, Some, drop, false, if◌then◌else◌, is_some, length, not, true, ℕ}
 use Rattle.std.specs.List.{list_any}
 use Rattle.std.proofs.Common.{◌∙◌, ap, refl, subst, sym}
@@ -32,7 +33,6 @@ use Rattle.wt_promise.proofs.Silent.{established-begun}
 use Rattle.wt_promise.proofs.SilentBehind.{stream-known}
 use Rattle.wt_promise.proofs.OwnForms.{head_of}
 use Rattle.wt_promise.specs.Promise.{IsHistory, NoneBehind, sends_on}
-use Rattle.wt_promise.specs.Sides.{SilentAfterFinish}
 use Rattle.wt_seam_spec.specs.Joined.{join_all, join_one}
 use Rattle.wt_seam_spec.specs.Reports.{stop_of}
 use Rattle.wt_seam_spec.specs.Sent.{finishes}

@@ -1,4 +1,5 @@
 -- What replies give, by the bytes that came.
+use Rattle.wt_promise.proofs.Statements.{BiGiven, RequestCame, SessionCame, UniGiven}
 use Rattle.std.specs.Prelude.{[], ◌%◌, ◌++◌, ◌∷◌, ◌≡◌, Bool, List, None, Option, Some, false, filter_map, if◌then◌else◌, is_some, not, true, ℕ}
 use Rattle.std.specs.Option.{option_or}
 use Rattle.std.proofs.Common.{◌∙◌, ap, refl, subst, sym}
@@ -27,7 +28,7 @@ use Rattle.wt_promise.proofs.Tables.{fits, fits-own}
 use Rattle.wt_promise.proofs.Verdicts.{ARequest, AStream, IsRequest, IsStream, admitted-verdict, queued-verdict, queues-has}
 use Rattle.wt_promise.specs.Found.{AllFound, least_control, peer_opened}
 use Rattle.wt_promise.specs.Promise.{EstablishedFor, IsHistory, is_asked_for}
-use Rattle.wt_promise.specs.Sides.{AsksFor, BiGiven, RequestCame, RequestGiven, SessionCame, StreamGiven, UniGiven}
+use Rattle.wt_promise.specs.Sides.{AsksFor, RequestGiven, StreamGiven}
 use Rattle.wt_proto.specs.declared.verdict.Verdict.{Verdict}
 use Rattle.wt_seam_spec.specs.Streams.{peer_bi, peer_uni}
 use Rattle.wt_turn.specs.declared.call.Call.{Call}

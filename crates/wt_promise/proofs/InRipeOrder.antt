@@ -1,4 +1,5 @@
 -- The streams that a moment classifies come in order.
+use Rattle.wt_promise.proofs.Statements.{ClassifiedInOrder}
 use Rattle.std.specs.Prelude.{[], ◌&&◌, ◌*◌, ◌+◌, ◌++◌, ◌==◌, ◌∷◌, ◌≡◌, Bool, Err, List, None, Ok, Option, Result, Some, drop, false, filter, filter_map, if◌then◌else◌, is_some, length, map, not, suc, true, zero, ℕ}
 use Rattle.std.proofs.Common.{◌∙◌, ap, append_assoc, refl, subst, sym}
 use Rattle.std.proofs.Math.Seq.{drop-append_seam}
@@ -12,7 +13,7 @@ use Rattle.wt_meaning.specs.Windows.{lives, session_part}
 use Rattle.wt_message.specs.Datagram.{datagram_of}
 use Rattle.wt_promise.proofs.Facts.{ended-found, facts, open-found, open-pass}
 use Rattle.wt_promise.proofs.Grows.{checks-add, more, of-stream-fault}
-use Rattle.wt_promise.specs.Found.{ClassifiedInOrder, IsSubsequence, LeftOut, Nil, Taken, classified_id}
+use Rattle.wt_promise.specs.Found.{IsSubsequence, LeftOut, Nil, Taken, classified_id}
 use Rattle.wt_promise.specs.Promise.{IsHistory}
 use Rattle.wt_proto.specs.declared.session_walk.SessionWalk.{SessionWalk}
 use Rattle.wt_proto.specs.declared.verdict.Verdict.{Verdict}

@@ -1,4 +1,5 @@
 -- After the end, what a call is answered is the same of two histories of which answers ask the same.
+use Rattle.wt_promise.proofs.Statements.{OfTransport}
 use Rattle.std.specs.Prelude.{[], ◌%◌, ◌&&◌, ◌++◌, ◌+◌, ◌==◌, ◌∷◌, ◌||◌, ◌≡◌, Bool, Err, List, None, Ok, Option, Result, Some, drop, false, filter, filter_map, if◌then◌else◌, is_some, length, nat_lt, not, take, true, ℕ}
 use Rattle.std.specs.List.{list_any}
 use Rattle.std.proofs.Common.{◌∙◌, ap, refl, subst, sym}
@@ -15,7 +16,6 @@ use Rattle.wt_meaning.specs.Sends.{action_if, actions_for_all, close_if_open, co
 use Rattle.wt_meaning.specs.Targets.{Target, target_of}
 use Rattle.wt_meaning.specs.Windows.{admitted_datagram, admitted_stream, is_established, is_gone, makes_gone, named, queued_request, waiting_datagrams, waiting_streams}
 use Rattle.wt_promise.proofs.LateTurns.{Same, later, named-same, now, still-shut}
-use Rattle.wt_promise.specs.Lists.{OfTransport}
 use Rattle.wt_proto.specs.ResponseWalk.{response_walk_of}
 use Rattle.wt_proto.specs.declared.response_walk.ResponseWalk.{ResponseWalk}
 use Rattle.wt_seam_spec.specs.Joined.{join_all, send_of}
@@ -44,7 +44,7 @@ use Rattle.wt_turn.specs.declared.reply.Reply.TheVariants as replies
 use Rattle.wt_turn.specs.declared.stream_error.StreamWriteError.TheVariants as writes
 use Rattle.wt_turn.specs.declared.turn.Turn.TheVariants as turns
 
-filter-same : {T : Type 0} (f g : T → Bool) → ((x : T) → f x ≡ g x) → (xs : List T) → filter f xs ≡ filter g xs
+pub filter-same : {T : Type 0} (f g : T → Bool) → ((x : T) → f x ≡ g x) → (xs : List T) → filter f xs ≡ filter g xs
 filter-same f g e [] = refl
 filter-same {T = T} f g e (x ∷ xs) = by (f x) (g x) (e x) (filter-same f g e xs)
   where
@@ -54,7 +54,7 @@ filter-same {T = T} f g e (x ∷ xs) = by (f x) (g x) (e x) (filter-same f g e x
     by true false q r = absurd (cc q)
     by false true q r = absurd (cc q)
 
-first-same : {S T : Type 0} (f g : S → Option T) → ((x : S) → f x ≡ g x) → (xs : List S) → first_of f xs ≡ first_of g xs
+pub first-same : {S T : Type 0} (f g : S → Option T) → ((x : S) → f x ≡ g x) → (xs : List S) → first_of f xs ≡ first_of g xs
 first-same f g e [] = refl
 first-same f g e (x ∷ xs) = rw (e x, first-same f g e xs) refl
 

@@ -1,3 +1,4 @@
+pub mod Statements
 pub mod Joins
 pub mod Prefixes
 pub mod Lists
@@ -74,6 +75,9 @@ pub mod Finished
 pub mod FinishBehind
 pub mod OpensFirst
 pub mod InRipeOrder
+pub mod QuietBytes
+pub mod Unstirred
+pub mod StopsFirst
 pub mod Theorems
 pub mod HeadTests
 pub mod OwedShakes
@@ -89,3 +93,6 @@ pub mod HeaderOut
 pub mod Aims
 pub mod ReadLaws
 pub mod FailsAlone
+pub mod Turns
+pub mod Walks
+pub mod Clauses

@@ -1,4 +1,5 @@
 -- A stream of this end's is opened before anything goes out on it.
+use Rattle.wt_promise.proofs.Statements.{OpensFirst}
 use Rattle.std.specs.Prelude.{[], ◌%◌, ◌&&◌, ◌*◌, ◌++◌, ◌+◌, ◌/◌, ◌<◌, ◌==◌, ◌∷◌, ◌||◌, ◌≡◌, ◌≤◌, Bool, Err, List, None, Ok, Option, Result, Some, drop, false, if◌then◌else◌, is_some, length, nat_le, nat_lt, not, suc, take, true, zero, ℕ}
 use Rattle.std.specs.List.{list_any}
 use Rattle.std.proofs.Common.{◌∙◌, ap, arith, refl, subst, sym}
@@ -41,7 +42,7 @@ use Rattle.wt_promise.proofs.Verdicts.{ByAccept, ByOpening, HandedBy, admitted-p
 use Rattle.wt_promise.proofs.WasReset.{Admitted, Of, Opened, of-is, of-next, opened-first}
 use Rattle.wt_promise.proofs.OwnForms.{head_of}
 use Rattle.wt_promise.specs.Promise.{IsHistory, acts_on, sends_on}
-use Rattle.wt_promise.specs.Sides.{OpensFirst, opened_first, opens_of}
+use Rattle.wt_promise.specs.Sides.{opened_before, opens_of}
 use Rattle.wt_seam_spec.specs.Joined.{join_all, join_one, send_of}
 use Rattle.wt_seam_spec.specs.Reports.{unis_allowed}
 use Rattle.wt_seam_spec.specs.Streams.{local_bi, local_count, local_uni, one_more_if, opens, peer_bi, peer_uni}
@@ -58,53 +59,53 @@ use Rattle.wt_turn.specs.declared.turn.Turn.TheVariants as turns
 
 -- ---- lists
 
-apart-first : (k : ℕ) (xs ys : List Action) → list_any (acts_on k) xs ≡ false → opened_first k ys ≡ true → opened_first k (xs ++ ys) ≡ true
+apart-first : (k : ℕ) (xs ys : List Action) → list_any (acts_on k) xs ≡ false → opened_before (acts_on k) k ys ≡ true → opened_before (acts_on k) k (xs ++ ys) ≡ true
 apart-first k [] ys e f = f
 apart-first k (x ∷ xs) ys e f = by (is_number k (opens_of (k % 4) x)) (acts_on k x) refl e (apart-first k xs ys)
   where
-    by : (o a : Bool) → acts_on k x ≡ a → (a || list_any (acts_on k) xs) ≡ false → (list_any (acts_on k) xs ≡ false → opened_first k ys ≡ true → opened_first k (xs ++ ys) ≡ true)
-        → (o || (not (acts_on k x) && opened_first k (xs ++ ys))) ≡ true
+    by : (o a : Bool) → acts_on k x ≡ a → (a || list_any (acts_on k) xs) ≡ false → (list_any (acts_on k) xs ≡ false → opened_before (acts_on k) k ys ≡ true → opened_before (acts_on k) k (xs ++ ys) ≡ true)
+        → (o || (not (acts_on k x) && opened_before (acts_on k) k (xs ++ ys))) ≡ true
     by true a q r again = refl
     by false true q r again = absurd (cc r)
     by false false q r again = rw (q, again r f) refl
 
-none-first : (k : ℕ) (xs : List Action) → list_any (acts_on k) xs ≡ false → opened_first k xs ≡ true
-none-first k xs e = ap (opened_first k) (sym (append-nil xs)) ∙ apart-first k xs [] e refl
+none-first : (k : ℕ) (xs : List Action) → list_any (acts_on k) xs ≡ false → opened_before (acts_on k) k xs ≡ true
+none-first k xs e = ap (opened_before (acts_on k) k) (sym (append-nil xs)) ∙ apart-first k xs [] e refl
 
-first-two : (k : ℕ) (b a : Action) (later : List Action) → opened_first k (b ∷ a ∷ later) ≡ true → opened_first k (join_one (b ∷ []) a ++ later) ≡ true
+first-two : (k : ℕ) (b a : Action) (later : List Action) → opened_before (acts_on k) k (b ∷ a ∷ later) ≡ true → opened_before (acts_on k) k (join_one (b ∷ []) a ++ later) ≡ true
 first-two k (actions.Send i p) (actions.Send j s) later q = by (i == j) refl
   where
-    by : (c : Bool) → (i == j) ≡ c → opened_first k ((if c then actions.Send i (p ++ s) ∷ [] else actions.Send i p ∷ actions.Send j s ∷ []) ++ later) ≡ true
+    by : (c : Bool) → (i == j) ≡ c → opened_before (acts_on k) k ((if c then actions.Send i (p ++ s) ∷ [] else actions.Send i p ∷ actions.Send j s ∷ []) ++ later) ≡ true
     by false e = q
     by true e = of (i == k) (j == k) (ap (λ (n : ℕ). n == k) (eqb-true i j e)) q
       where
-        of : (x y : Bool) → x ≡ y → (not (x || false) && (not (y || false) && opened_first k later)) ≡ true → (not (x || false) && opened_first k later) ≡ true
+        of : (x y : Bool) → x ≡ y → (not (x || false) && (not (y || false) && opened_before (acts_on k) k later)) ≡ true → (not (x || false) && opened_before (acts_on k) k later) ≡ true
         of true y w z = absurd (cc z)
         of false false w z = z
         of false true w z = absurd (cc z)
 first-two k b a later q = q
 
-first-one : (k : ℕ) (before : List Action) (a : Action) (later : List Action) → opened_first k (before ++ a ∷ later) ≡ true → opened_first k (join_one before a ++ later) ≡ true
+first-one : (k : ℕ) (before : List Action) (a : Action) (later : List Action) → opened_before (acts_on k) k (before ++ a ∷ later) ≡ true → opened_before (acts_on k) k (join_one before a ++ later) ≡ true
 first-one k [] a later q = q
 first-one k (b ∷ []) a later q = first-two k b a later q
 first-one k (b ∷ c ∷ rest) a later q = by (is_number k (opens_of (k % 4) b)) (not (acts_on k b)) q (first-one k (c ∷ rest) a later)
   where
-    by : (x y : Bool) → (x || (y && opened_first k ((c ∷ rest) ++ a ∷ later))) ≡ true → (opened_first k ((c ∷ rest) ++ a ∷ later) ≡ true → opened_first k (join_one (c ∷ rest) a ++ later) ≡ true)
-        → (x || (y && opened_first k (join_one (c ∷ rest) a ++ later))) ≡ true
+    by : (x y : Bool) → (x || (y && opened_before (acts_on k) k ((c ∷ rest) ++ a ∷ later))) ≡ true → (opened_before (acts_on k) k ((c ∷ rest) ++ a ∷ later) ≡ true → opened_before (acts_on k) k (join_one (c ∷ rest) a ++ later) ≡ true)
+        → (x || (y && opened_before (acts_on k) k (join_one (c ∷ rest) a ++ later))) ≡ true
     by true y r again = refl
     by false true r again = again r
     by false false r again = absurd (cc r)
 
-first-join : (k : ℕ) (before later : List Action) → opened_first k (before ++ later) ≡ true → opened_first k (join_all before later) ≡ true
-first-join k before [] q = ap (opened_first k) (sym (append-nil before)) ∙ q
+first-join : (k : ℕ) (before later : List Action) → opened_before (acts_on k) k (before ++ later) ≡ true → opened_before (acts_on k) k (join_all before later) ≡ true
+first-join k before [] q = ap (opened_before (acts_on k) k) (sym (append-nil before)) ∙ q
 first-join k before (a ∷ later) q = first-join k (join_one before a) later (first-one k before a later q)
 
 -- ---- what is known of a stream of this end's
 
-abbrev IsOwn : Side → ℕ → Type 0
+abbrev pub IsOwn : Side → ℕ → Type 0
 IsOwn side k = ((local_uni side == k % 4) || (local_bi side == k % 4)) ≡ true
 
-own-not-peers : (side : Side) (k : ℕ) → IsOwn side k → is_peers side k ≡ false
+pub own-not-peers : (side : Side) (k : ℕ) → IsOwn side k → is_peers side k ≡ false
 own-not-peers side k o =
     let s = local-small side (k % 4) o in rw (swap (peer_uni side) (k % 4) s.1, swap (peer_bi side) (k % 4) s.2) refl
   where
@@ -122,7 +123,7 @@ opened-exists side h i k e = by (first_of (λ (p : Pair). opened_by k p.turn p.a
     by (Some name) q f = (was-opened side h i k name q).there
     by None q f = absurd (cc f)
 
-handed-exists : (side : Side) (h : History) → IsHistory side h → (k : ℕ) → IsOwn side k → is_handed_out h k ≡ true → exists side h k ≡ true
+pub handed-exists : (side : Side) (h : History) → IsHistory side h → (k : ℕ) → IsOwn side k → is_handed_out h k ≡ true → exists side h k ≡ true
 handed-exists side h i k o e = by (handed-by side h i k e)
   where
     by : HandedBy side h k → exists side h k ≡ true
@@ -147,15 +148,15 @@ uni-div Server = refl
 -- ---- a call's own actions
 
 -- they open it in front, or they don't touch it, and it isn't there after them either
-data OwnPart (side : Side) (h : History) (k : ℕ) (own : List Action) (q : Pair) : Type 0 where
+pub data OwnPart (side : Side) (h : History) (k : ℕ) (own : List Action) (q : Pair) : Type 0 where
   InFront : (later : List Action) → own ≡ actions.Opened k ∷ later → OwnPart side h k own q
   Untouched : list_any (acts_on k) own ≡ false → exists side (q ∷ h) k ≡ false → OwnPart side h k own q
 
 module _ (side : Side) (h : History) (turn : Turn) (i : IsHistory side h) (l : is_lawful side h turn ≡ true) (k : ℕ) (o : IsOwn side k) (n : exists side h k ≡ false) where
-  abbrev own : List Action
+  abbrev pub own : List Action
   own = (own_answer side h turn).actions
 
-  abbrev q : Pair
+  abbrev pub q : Pair
   q = record { turn = turn; answer = own_answer side h turn }
 
   abbrev p : Pair
@@ -267,7 +268,7 @@ module _ (side : Side) (h : History) (turn : Turn) (i : IsHistory side h) (l : i
       resets false e = refl
       resets true e = absurd (gone ((own-acts side h k turn i l).resets e))
 
-  own-part : OwnPart side h k own q
+  pub own-part : OwnPart side h k own q
   own-part = by (own-opens side h turn i l)
     where
       count : local_count (actions_out (q ∷ h)) (k % 4) ≡ opened (k % 4) own + local_count (actions_out h) (k % 4)
@@ -383,15 +384,15 @@ module _ (side : Side) (h : History) (turn : Turn) (i : IsHistory side h) (l : i
         resets false e = refl
         resets true e = absurd (gone (all-resets side (q ∷ h) k (findings side h) (drop (length (findings side h)) (findings side (q ∷ h))) e))
 
-    moment-first : opened_first k (moment_actions side (q ∷ h)) ≡ true
+    moment-first : opened_before (acts_on k) k (moment_actions side (q ∷ h)) ≡ true
     moment-first = by (is_open (q ∷ h)) (local_uni side == k) refl
       where
         control-first : (u : Bool) → local_uni side ≡ k
-            → opened_first k ((if u then action_if (local_count (actions_out (q ∷ h)) (local_uni side) == 0) (actions.Opened (local_uni side))
+            → opened_before (acts_on k) k ((if u then action_if (local_count (actions_out (q ∷ h)) (local_uni side) == 0) (actions.Opened (local_uni side))
             ++ send_of (local_uni side) (take (credit_left (q ∷ h) (local_uni side)) (drop (length (out (q ∷ h) (local_uni side))) local_control_bytes)) else []) ++ others) ≡ true
         control-first false e = none-first k others others-none
-        control-first true e = rw none (ap (λ (j : ℕ). is_number k (opens_of (k % 4) (actions.Opened j)) || (not (acts_on k (actions.Opened j)) && opened_first k (bytes ++ others))) e
-            ∙ ap (λ (b : Bool). is_number k (if b then Some k else None) || opened_first k (bytes ++ others)) (eq-eqb (k % 4) (k % 4) refl) ∙ ap (λ (b : Bool). b || opened_first k (bytes ++ others)) (eq-eqb k k refl))
+        control-first true e = rw none (ap (λ (j : ℕ). is_number k (opens_of (k % 4) (actions.Opened j)) || (not (acts_on k (actions.Opened j)) && opened_before (acts_on k) k (bytes ++ others))) e
+            ∙ ap (λ (b : Bool). is_number k (if b then Some k else None) || opened_before (acts_on k) k (bytes ++ others)) (eq-eqb (k % 4) (k % 4) refl) ∙ ap (λ (b : Bool). b || opened_before (acts_on k) k (bytes ++ others)) (eq-eqb k k refl))
           where
             bytes : List Action
             bytes = send_of (local_uni side) (take (credit_left (q ∷ h) (local_uni side)) (drop (length (out (q ∷ h) (local_uni side))) local_control_bytes))
@@ -402,19 +403,19 @@ module _ (side : Side) (h : History) (turn : Turn) (i : IsHistory side h) (l : i
                 (let a = ltb-false (k / 4) (stream_count side (q ∷ h) (k % 4)) absent-now in let m = ap (λ (j : ℕ). j % 4) (sym e) ∙ uni-mod side in let d = ap (λ (j : ℕ). j / 4) (sym e) ∙ uni-div side in
                 let c = ap (local_count (actions_out (q ∷ h))) m in omega (arith, a, d, c))
 
-        by : (b c : Bool) → (local_uni side == k) ≡ c → opened_first k (if b then control_actions side (q ∷ h) ++ others else []) ≡ true
+        by : (b c : Bool) → (local_uni side == k) ≡ c → opened_before (acts_on k) k (if b then control_actions side (q ∷ h) ++ others else []) ≡ true
         by false c e = refl
         by true true e = control-first (nat_le 1 (unis_allowed (events (q ∷ h)))) (eqb-true (local_uni side) k e)
         by true false e = apart-first k (control_actions side (q ∷ h)) others (none-control (acts_on k) side (q ∷ h) refl (λ x. ap (λ (c : Bool). c || false) e)) (none-first k others others-none)
 
-  pub first : opened_first k (next side h turn).actions ≡ true
+  pub first : opened_before (acts_on k) k (next side h turn).actions ≡ true
   first = first-join k [] (own ++ moment_actions side (q ∷ h)) (by own-part)
     where
-      by : OwnPart side h k own q → opened_first k (own ++ moment_actions side (q ∷ h)) ≡ true
+      by : OwnPart side h k own q → opened_before (acts_on k) k (own ++ moment_actions side (q ∷ h)) ≡ true
       by (Untouched a x) = apart-first k own (moment_actions side (q ∷ h)) a (moment-first x)
       by (InFront later e) =
-          ap (λ (l : List Action). opened_first k (l ++ moment_actions side (q ∷ h))) e
-          ∙ ap (λ (b : Bool). is_number k (if b then Some k else None) || opened_first k (later ++ moment_actions side (q ∷ h))) (eq-eqb (k % 4) (k % 4) refl) ∙ ap (λ (b : Bool). b || opened_first k (later ++ moment_actions side (q ∷ h))) (eq-eqb k k refl)
+          ap (λ (l : List Action). opened_before (acts_on k) k (l ++ moment_actions side (q ∷ h))) e
+          ∙ ap (λ (b : Bool). is_number k (if b then Some k else None) || opened_before (acts_on k) k (later ++ moment_actions side (q ∷ h))) (eq-eqb (k % 4) (k % 4) refl) ∙ ap (λ (b : Bool). b || opened_before (acts_on k) k (later ++ moment_actions side (q ∷ h))) (eq-eqb k k refl)
 
 pub opens_first : (side : Side) (h : History) (turn : Turn) → IsHistory side h → is_lawful side h turn ≡ true → OpensFirst side h (next side h turn)
 opens_first side h turn i l k o n = first side h turn i l k o n

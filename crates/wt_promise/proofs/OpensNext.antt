@@ -1,4 +1,5 @@
 -- The streams that an answer opens are the next ones of their kind.
+use Rattle.wt_promise.proofs.Statements.{OpensInOrder}
 use Rattle.std.specs.Prelude.{[], ◌%◌, ◌*◌, ◌++◌, ◌+◌, ◌<◌, ◌==◌, ◌∷◌, ◌||◌, ◌≡◌, Bool, List, None, Some, drop, false, filter_map, if◌then◌else◌, is_some, length, nat_le, not, suc, take, true, zero, ℕ}
 use Rattle.std.specs.List.{cons_option, list_any}
 use Rattle.std.proofs.Common.{◌∙◌, ap, append_assoc, arith, refl, subst, sym}
@@ -22,7 +23,7 @@ use Rattle.wt_promise.proofs.Shakes.{Finishes, Goes, GoesShuts, Rejects, Shake, 
 use Rattle.wt_promise.proofs.Shapes.{Alone, Ending, Finishing, Handshaking, Next, NextOpened, Nothing, Nought, Polling, Resetting, Shape, Writing, going, opens-some, shape}
 use Rattle.wt_promise.proofs.OwnForms.{head_of}
 use Rattle.wt_promise.specs.Promise.{IsHistory}
-use Rattle.wt_promise.specs.Sides.{OpensInOrder, opens_of}
+use Rattle.wt_promise.specs.Sides.{opens_of}
 use Rattle.wt_seam_spec.specs.Joined.{join_all, join_one, send_of}
 use Rattle.wt_seam_spec.specs.Reports.{stop_of, unis_allowed}
 use Rattle.wt_seam_spec.specs.Streams.{local_bi, local_count, local_uni, one_more_if, opens, peer_bi, peer_uni}

@@ -1,4 +1,5 @@
 -- An answer's actions are those that its call, the control stream and the findings owe, in this order.
+use Rattle.wt_promise.proofs.Statements.{AllOwedGoesOut}
 use Rattle.std.specs.Prelude.{[], ◌++◌, ◌==◌, ◌∷◌, ◌≡◌, Bool, List, drop, false, if◌then◌else◌, length, nat_le, true, ℕ}
 use Rattle.std.proofs.Common.{◌∙◌, ap, refl, sym}
 use Rattle.wt_meaning.specs.Findings.{Classified, Faulted, Finding, SessionClosed}
@@ -9,7 +10,7 @@ use Rattle.wt_meaning.specs.Sends.{actions_for, actions_for_all, control_actions
 use Rattle.wt_promise.proofs.HeadTests.{none-some, same-control}
 use Rattle.wt_promise.proofs.OpenStays.{same-findings}
 use Rattle.wt_promise.proofs.OwedCalls.{turn-owed}
-use Rattle.wt_promise.specs.Owed.{AllOwedGoesOut, as_called, owed_if, owed_by_control, owed_by_finding, owed_by_findings, owed_by_moment, owed_by_turn, rest_of}
+use Rattle.wt_promise.specs.Owed.{as_called, owed_if, owed_by_control, owed_by_finding, owed_by_findings, owed_by_moment, owed_by_turn, rest_of}
 use Rattle.wt_seam_spec.specs.Joined.{join_all}
 use Rattle.wt_seam_spec.specs.Reports.{stop_of, unis_allowed}
 use Rattle.wt_seam_spec.specs.Streams.{local_count, local_uni}

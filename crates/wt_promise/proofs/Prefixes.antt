@@ -1,11 +1,12 @@
 -- How far a list of any turns is answered, and that lawful turns lead to a history: pieces are their bytes, one after another.
+use Rattle.wt_promise.proofs.Statements.{LeadsToHistory}
 use Rattle.std.specs.Prelude.{[], ◌%◌, ◌&&◌, ◌++◌, ◌==◌, ◌∷◌, ◌≡◌, Bool, List, false, not, true, ℕ}
 use Rattle.std.proofs.Common.{◌∙◌, ap, refl, sym}
 use Rattle.wt_meaning.specs.History.{History, all_events, exists}
 use Rattle.wt_meaning.specs.Lawful.{is_lawful, is_lost}
 use Rattle.wt_meaning.specs.Meaning.{after_bytes, answer_to, history_after, meaning_from, next, run_from, step}
 use Rattle.wt_promise.proofs.Stays.{exists-stays}
-use Rattle.wt_promise.specs.Lists.{LeadsToHistory, LongestPrefix, StopsRightly, history_of}
+use Rattle.wt_promise.specs.Lists.{LongestPrefix, StopsRightly, history_of}
 use Rattle.wt_promise.specs.Promise.{AllLawful, IsHistory}
 use Rattle.wt_seam_spec.specs.Reports.{end_of, is_connected, is_running}
 use Rattle.wt_seam_spec.specs.Streams.{local_uni}

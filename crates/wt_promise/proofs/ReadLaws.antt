@@ -1,4 +1,5 @@
 -- What reads took and left, said of turns and replies.
+use Rattle.wt_promise.proofs.Statements.{ReadsInOrder}
 use Rattle.std.specs.Prelude.{[], ◌++◌, ◌+◌, ◌∷◌, ◌≡◌, List, None, Option, Some, drop, length, take, ℕ}
 use Rattle.std.proofs.Common.{◌∙◌, ap, refl, sym}
 use Rattle.std.proofs.lemmas.List.{drop-drop}
@@ -8,7 +9,7 @@ use Rattle.wt_meaning.specs.History.{History, contents}
 use Rattle.wt_meaning.specs.Moments.{findings}
 use Rattle.wt_promise.proofs.ReadPieces.{reads-in-order}
 use Rattle.wt_promise.specs.Causes.{header_length, left_of, piece_of, pieces}
-use Rattle.wt_promise.specs.Promise.{IsHistory, ReadsInOrder}
+use Rattle.wt_promise.specs.Promise.{IsHistory}
 use Rattle.wt_proto.specs.declared.verdict.Verdict.{Verdict}
 use Rattle.wt_turn.specs.declared.reply.Reply.{Reply}
 use Rattle.wt_turn.specs.declared.turn.Turn.{Turn}

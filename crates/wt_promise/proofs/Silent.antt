@@ -89,7 +89,7 @@ unreset-later side p h i k b f (Closed a g) = f a g
 unreset-later side p h i k b f (WithSession s (Admitted e) g) = begun-not-admitted side (p ∷ h) i k s b (admitted-later side p h s k e)
 unreset-later side p h i k b f (WithSession s (Opened name o n) g) = begun-not-opened side (p ∷ h) i k b name (opened-first side (p ∷ h) i k name (Later p h o))
 
-unreset-now : (side : Side) (h : History) → IsHistory side h → (k : ℕ) → BegunFor side h k → (is_established h k ≡ true → is_gone h (findings side h) k ≡ true → ⊥) → WasReset side h k → ⊥
+pub unreset-now : (side : Side) (h : History) → IsHistory side h → (k : ℕ) → BegunFor side h k → (is_established h k ≡ true → is_gone h (findings side h) k ≡ true → ⊥) → WasReset side h k → ⊥
 unreset-now side h i k b f (ByHand e) = clash (is_handed_out h k) e (begun-kept side h i k b)
 unreset-now side h i k b f (Closed a g) = f a g
 unreset-now side h i k b f (WithSession s (Admitted e) g) = begun-not-admitted side h i k s b e

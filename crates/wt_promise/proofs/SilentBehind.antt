@@ -1,4 +1,5 @@
 -- Nothing stands behind a reset in one answer.
+use Rattle.wt_promise.proofs.Statements.{SilentAfterReset}
 use Rattle.std.specs.Prelude.{[], ◌++◌, ◌||◌, ◌∷◌, ◌≡◌, Bool, List, Some, drop, false, if◌then◌else◌, is_some, length, not, true, ℕ}
 use Rattle.std.specs.List.{list_any}
 use Rattle.std.proofs.Common.{◌∙◌, ap, append_assoc, refl, subst, sym}
@@ -28,7 +29,7 @@ use Rattle.wt_promise.proofs.Silent.{client-zero, established-begun, silent-cont
 use Rattle.wt_promise.proofs.Stays.{any-newest}
 use Rattle.wt_promise.proofs.Verdicts.{admitted-once, admitted-peers, given-classified}
 use Rattle.wt_promise.proofs.WasReset.{Admitted, Of, Opened, WasReset, new-reset, of-is, of-later, of-next, opened-first}
-use Rattle.wt_promise.specs.Promise.{IsHistory, SilentAfterReset, acts_on, sends_on}
+use Rattle.wt_promise.specs.Promise.{IsHistory, acts_on, sends_on}
 use Rattle.wt_seam_spec.specs.Reports.{stop_of}
 use Rattle.wt_seam_spec.specs.Streams.{local_uni}
 use Rattle.wt_turn.specs.declared.action.Action.{Action}

@@ -1,4 +1,5 @@
 -- The lemmas that the contracts name.
+use Rattle.wt_promise.proofs.Statements.{AllOwedGoesOut, DatagramsInOrder, EstablishedRightly, FewLive, NothingAfterEnd, OpenExactly, ReadsInOrder, ResultStays, SettingsGoOut}
 use Rattle.std.specs.Prelude.{[], ◌≡◌, List, true, ℕ, false}
 use Rattle.wt_turn.specs.declared.turn.Turn.{Turn}
 use Rattle.wt_wire.specs.declared.side.Side.{Side}
@@ -9,8 +10,7 @@ use Rattle.wt_meaning.specs.Windows.{is_established}
 use Rattle.wt_turn.specs.declared.connecting_error.ConnectingError.{ConnectingError}
 use Rattle.wt_promise.proofs.FailsAlone.{fails-alone}
 use Rattle.wt_promise.specs.Causes.{reply_to}
-use Rattle.wt_promise.specs.Owed.{AllOwedGoesOut}
-use Rattle.wt_promise.specs.Promise.{AllLawful, CutsFreely, DatagramsInOrder, EstablishedRightly, FewLive, GoneIsTold, HeadGoesOut, HeaderGoesOut, IsHistory, NothingAfterEnd, OpenExactly, ReadsInOrder, ResultStays, SendsInOrder, SettingsGoOut, SilentAfterReset}
+use Rattle.wt_promise.specs.Promise.{AllLawful, CutsFreely, GoneIsTold, HeadGoesOut, HeaderGoesOut, IsHistory, SendsInOrder}
 use Rattle.wt_promise.proofs.Ended.{nothing-after-end}
 use Rattle.wt_promise.proofs.AsOwed.{gone-as-owed, headers-as-owed, heads-as-owed, open-as-owed, sends-as-owed, result-as-owed, settings-as-owed}
 use Rattle.wt_promise.proofs.CauseRows.{replies-caused}
@@ -20,7 +20,6 @@ use Rattle.wt_promise.proofs.Polls.{waits-while-open}
 use Rattle.wt_promise.proofs.Datagrams.{datagrams-in-order}
 use Rattle.wt_promise.proofs.ReadLaws.{pieces-in-order}
 use Rattle.wt_promise.proofs.Few.{few-live}
-use Rattle.wt_promise.proofs.SilentBehind.{silent-after-reset}
 use Rattle.wt_promise.proofs.Established.{established-rightly}
 use Rattle.wt_turn.specs.declared.call.Call.TheVariants as calls
 use Rattle.wt_turn.specs.declared.reply.Reply.TheVariants as replies
@@ -64,9 +63,6 @@ sends_theorem = sends-as-owed
 
 pub heads_theorem : (side : Side) (h : History) (turn : Turn) → IsHistory side h → is_lawful side h turn ≡ true → HeadGoesOut side h turn (next side h turn)
 heads_theorem = heads-as-owed
-
-pub silent_theorem : (side : Side) (h : History) (turn : Turn) → IsHistory side h → is_lawful side h turn ≡ true → (k : ℕ) → SilentAfterReset h (next side h turn) k
-silent_theorem = silent-after-reset
 
 pub established_theorem : (side : Side) (h : History) (turn : Turn) → IsHistory side h → is_lawful side h turn ≡ true → EstablishedRightly side h turn (next side h turn)
 established_theorem = established-rightly

@@ -41,13 +41,13 @@ use Rattle.wt_turn.specs.declared.turn.Turn.TheVariants as turns
 
 -- ---- what the turn says of the stream
 
-record EventsSame (k : ℕ) (now before : List Event) : Type 0 where
-  end : end_of now k ≡ end_of before k
-  stop : stop_of now k ≡ stop_of before k
-  acknowledged : is_acknowledged now k ≡ is_acknowledged before k
-  credits : credit now k ≡ credit before k
+pub record EventsSame (k : ℕ) (now before : List Event) : Type 0 where
+  pub end : end_of now k ≡ end_of before k
+  pub stop : stop_of now k ≡ stop_of before k
+  pub acknowledged : is_acknowledged now k ≡ is_acknowledged before k
+  pub credits : credit now k ≡ credit before k
 
-events-turn : (k : ℕ) (turn : Turn) (es : List Event) → is_about k turn ≡ false → EventsSame k (with_event (event_of turn) es) es
+pub events-turn : (k : ℕ) (turn : Turn) (es : List Event) → is_about k turn ≡ false → EventsSame k (with_event (event_of turn) es) es
 events-turn k (turns.Connected u b t f) es e = absurd (cc e)
 events-turn k (turns.End id) es e = record { end = rw e refl; stop = refl; acknowledged = refl; credits = refl }
 events-turn k (turns.Reset id code) es e = record { end = rw e refl; stop = refl; acknowledged = refl; credits = refl }
@@ -56,7 +56,7 @@ events-turn k (turns.Acked id) es e = record { end = refl; stop = refl; acknowle
 events-turn k (turns.MaxData id total) es e = record { end = refl; stop = refl; acknowledged = refl; credits = rw e refl }
 events-turn k turn es e = record { end = refl; stop = refl; acknowledged = refl; credits = refl }
 
-bytes-turn : (k : ℕ) (turn : Turn) (bytes : List ℕ) → is_about k turn ≡ false → with_bytes k turn bytes ≡ bytes
+pub bytes-turn : (k : ℕ) (turn : Turn) (bytes : List ℕ) → is_about k turn ≡ false → with_bytes k turn bytes ≡ bytes
 bytes-turn k (turns.Bytes id piece) bytes e = rw e refl
 bytes-turn k turn bytes e = refl
 

@@ -1,7 +1,7 @@
 -- What the findings of a history are, said by the bytes, datagrams and events that came, and by counts.
-use Rattle.std.specs.Prelude.{[], ◌%◌, ◌&&◌, ◌*◌, ◌++◌, ◌/◌, ◌∷◌, ◌||◌, ◌≡◌, Bool, Err, List, None, Ok, Option, Result, Some, filter_map, if◌then◌else◌, is_none, is_some, length, map, nat_le, nat_lt, not, take, true, ℕ}
+use Rattle.std.specs.Prelude.{[], ◌%◌, ◌&&◌, ◌*◌, ◌++◌, ◌/◌, ◌∷◌, ◌||◌, ◌≡◌, Bool, Err, List, None, Ok, Option, Result, Some, filter_map, if◌then◌else◌, is_none, is_some, length, nat_le, nat_lt, not, true, ℕ}
 use Rattle.std.specs.Option.{option_or}
-use Rattle.wt_meaning.specs.Findings.{Classified, DatagramRead, Finding, SessionClosed, control_in, decoder_in, encoder_in, fault_of, first_of, is_classified, is_dequeued, settings_came, verdict_of}
+use Rattle.wt_meaning.specs.Findings.{Classified, DatagramRead, Finding, SessionClosed, control_in, decoder_in, encoder_in, fault_of, first_of, is_classified, is_dequeued, settings_came}
 use Rattle.wt_meaning.specs.History.{History, Pair, events, stream_count}
 use Rattle.wt_meaning.specs.Moments.{control_walk, findings, ids_from, unclassified_before, verdict}
 use Rattle.wt_meaning.specs.SessionWalk.{is_over, session_walk_of}
@@ -11,7 +11,7 @@ use Rattle.wt_proto.specs.Uni.{is_final}
 use Rattle.wt_proto.specs.declared.session_walk.SessionWalk.{SessionWalk}
 use Rattle.wt_proto.specs.declared.verdict.Verdict.{Verdict}
 use Rattle.wt_seam_spec.specs.Reports.{credit, datagrams_of, end_of, is_connected, is_running, stop_of, unis_allowed}
-use Rattle.wt_seam_spec.specs.Streams.{local_uni, peer_bi, peer_count, peer_uni}
+use Rattle.wt_seam_spec.specs.Streams.{local_uni, peer_count, peer_uni}
 use Rattle.wt_wire.specs.declared.error.ErrorCode.{ErrorCode}
 use Rattle.wt_wire.specs.declared.side.Side.{Side}
 use Rattle.wt_proto.specs.declared.session_walk.SessionWalk.TheVariants as walks
@@ -30,10 +30,6 @@ pub record ShownBy (side : Side) (h : History) (k : ℕ) (v : Verdict) : Type 0 
   pub opened : peer_opened side h k ≡ true
   pub shown : verdict h k ≡ v
   pub final : is_final v ≡ true
-
--- each stream that was classified is shown to be that
-abbrev pub ClassifiedRightly : Side → History → Type 0
-ClassifiedRightly side h = (k : ℕ) (v : Verdict) → verdict_of (findings side h) k ≡ Some v → ShownBy side h k v
 
 -- this end's SETTINGS can go out whole: the peer allows a unidirectional stream and 25 bytes on it
 abbrev pub can_set_up : Side → History → Bool
@@ -60,12 +56,6 @@ read_in _ = None
 -- the datagrams that were read, in order
 abbrev pub datagrams_read : Side → History → List (ℕ × List ℕ)
 datagrams_read side h = filter_map read_in (findings side h)
-
--- the n-th datagram that was read is the n-th that came
-abbrev pub DatagramsAsCame : Side → History → Type 0
-DatagramsAsCame side h =
-    map (λ (d : ℕ × List ℕ). Some d) (datagrams_read side h)
-    ≡ map (λ (piece : List ℕ). said_by (datagram_of piece)) (take (length (datagrams_read side h)) (datagrams_of (events h)))
 
 -- ---- sessions
 
@@ -184,10 +174,3 @@ pub data IsSubsequence {T : Type 0} : List T → List T → Type 0 where
   Nil : (ys : List T) → IsSubsequence [] ys
   LeftOut : (xs : List T) (y : T) (ys : List T) → IsSubsequence xs ys → IsSubsequence xs (y ∷ ys)
   Taken : (xs : List T) (y : T) (ys : List T) → IsSubsequence xs ys → IsSubsequence (y ∷ xs) (y ∷ ys)
-
--- the streams that a moment classifies come in order: the unidirectional ones by id, then the bidirectional ones by id
-abbrev pub ClassifiedInOrder : Side → Pair → History → Type 0
-ClassifiedInOrder side p h =
-    (new : List Finding) → findings side (p ∷ h) ≡ findings side h ++ new
-    → IsSubsequence (filter_map classified_id new)
-    (ids_from (peer_uni side) 0 (peer_count side (events (p ∷ h)) (peer_uni side)) ++ ids_from (peer_bi side) 0 (peer_count side (events (p ∷ h)) (peer_bi side)))

@@ -1,9 +1,9 @@
 -- What goes out with an answer: what the call owes by itself, as its reply says, then this end's control stream, then what is found.
-use Rattle.std.specs.Prelude.{[], ◌&&◌, ◌++◌, ◌+◌, ◌/◌, ◌==◌, ◌∷◌, ◌||◌, ◌≡◌, Bool, List, None, Option, Some, codes, drop, false, filter, filter_map, flat_map, if◌then◌else◌, is_none, is_some, length, nat_le, nat_lt, not, take, unwrap_or, ℕ}
+use Rattle.std.specs.Prelude.{[], ◌&&◌, ◌++◌, ◌+◌, ◌/◌, ◌==◌, ◌∷◌, ◌||◌, Bool, List, None, Option, Some, codes, drop, false, filter, filter_map, flat_map, if◌then◌else◌, is_none, is_some, length, nat_le, nat_lt, not, take, unwrap_or, ℕ}
 use Rattle.url.specs.Parser.{parse_url}
 use Rattle.url.specs.Parts.{Parts, host_or_empty}
 use Rattle.wt_message.specs.FixedBytes.{headers_frame_bytes, response_bytes}
-use Rattle.wt_seam_spec.specs.Joined.{join_all, send_of}
+use Rattle.wt_seam_spec.specs.Joined.{send_of}
 use Rattle.wt_seam_spec.specs.Reports.{end_of, is_connected, is_running, stop_of, unis_allowed}
 use Rattle.wt_seam_spec.specs.Streams.{local_count, local_uni}
 use Rattle.wt_turn.specs.declared.action.Action.{Action}
@@ -211,7 +211,3 @@ as_called side h turn a = with_pair h turn (record { reply = a.reply; actions = 
 abbrev pub owed_by_moment : Side → History → Turn → Answer → List Action
 owed_by_moment side h turn a = if is_open (as_called side h turn a) then owed_by_control side (as_called side h turn a)
     ++ owed_by_findings side (as_called side h turn a) (findings side h) (drop (length (findings side h)) (findings side (with_pair h turn a))) else []
-
--- an answer's actions are these, each once and in this order; bytes for one stream with no other action between them are one send
-abbrev pub AllOwedGoesOut : Side → History → Turn → Answer → Type 0
-AllOwedGoesOut side h turn a = a.actions ≡ join_all [] (owed_by_turn side h turn a.reply ++ owed_by_moment side h turn a)

@@ -1,35 +1,33 @@
 -- What is promised of every history of lawful turns and their answers, as sentences over its pairs.
-use Rattle.std.specs.Prelude.{[], ◌&&◌, ◌++◌, ◌==◌, ◌∷◌, ◌||◌, ◌≡◌, ◌≤◌, Bool, List, None, Option, Some, false, filter, filter_map, if◌then◌else◌, is_none, length, map, nat_le, not, take, true, ℕ, Contains}
 use Rattle.std.specs.List.{list_any}
 use Rattle.std.specs.Option.{option_or}
-use Rattle.wt_proto.specs.ResponseWalk.{response_walk_of}
-use Rattle.wt_seam_spec.specs.Joined.{join_all}
-use Rattle.wt_seam_spec.specs.Reports.{bis_allowed, credit, end_of, is_connected, is_running, unis_allowed}
-use Rattle.wt_seam_spec.specs.Streams.{local_count, local_uni}
-use Rattle.wt_turn.specs.Log.{closes}
-use Rattle.wt_turn.specs.declared.action.Action.{Action}
-use Rattle.wt_turn.specs.declared.answer.Answer.{Answer}
-use Rattle.wt_turn.specs.declared.call.Call.{Call}
-use Rattle.wt_turn.specs.declared.reply.Reply.{Reply}
-use Rattle.wt_turn.specs.declared.turn.Turn.{Turn}
-use Rattle.wt_wire.specs.declared.side.Side.{Side}
-use Rattle.wt_wire.specs.declared.side.Side.TheVariants.{Client, Server}
+use Rattle.std.specs.Prelude.{Bool, Contains, List, None, Option, Some, [], false, if◌then◌else◌, length, nat_le, not, take, true, ℕ, ◌&&◌, ◌++◌, ◌==◌, ◌||◌, ◌∷◌, ◌≡◌, ◌≤◌}
 use Rattle.wt_meaning.specs.Calls.{opened_by}
-use Rattle.wt_meaning.specs.Findings.{Finding, fault_of, first_of, settings_came}
-use Rattle.wt_meaning.specs.Handshakes.{begun_by, is_success, last_begun}
-use Rattle.wt_meaning.specs.History.{History, Pair, actions_out, can_receive, can_send, contents, events, is_given_up, is_open, is_reset, is_reset_of, hands_out, loses, out, was_finished}
+use Rattle.wt_meaning.specs.Findings.{Finding, first_of, settings_came}
+use Rattle.wt_meaning.specs.Handshakes.{is_success}
+use Rattle.wt_meaning.specs.History.{History, Pair, actions_out, can_receive, can_send, contents, events, hands_out, is_given_up, is_open, is_reset, is_reset_of, out, was_finished}
 use Rattle.wt_meaning.specs.Lawful.{is_lawful, is_pending, polls}
 use Rattle.wt_meaning.specs.Meaning.{answer_to, history_after, next, with_pair}
 use Rattle.wt_meaning.specs.Moments.{findings}
 use Rattle.wt_meaning.specs.Sends.{is_of_session}
-use Rattle.wt_meaning.specs.Windows.{admitted_datagram, gone_in, is_established, is_gone, is_number, last_request, makes_gone, received_count, receives, session_in}
+use Rattle.wt_meaning.specs.Windows.{gone_in, is_established, is_gone, is_number, last_request, makes_gone, receives}
+use Rattle.wt_promise.specs.Owed.{as_called, begun_in, begun_last, control_bytes, handshake_stream, head_of, header_on, owed_by_turn}
+use Rattle.wt_proto.specs.ResponseWalk.{response_walk_of}
+use Rattle.wt_seam_spec.specs.Joined.{join_all}
+use Rattle.wt_seam_spec.specs.Reports.{bis_allowed, credit, end_of, is_connected, is_running}
 use Rattle.wt_seam_spec.specs.Sent.{finishes}
-use Rattle.wt_promise.specs.Causes.{body, is_over, pieces, session_answer}
-use Rattle.wt_promise.specs.Owed.{as_called, control_bytes, handshake_stream, head_of, header_on, living, owed_by_turn}
+use Rattle.wt_seam_spec.specs.Streams.{local_count, local_uni}
 use Rattle.wt_turn.specs.declared.action.Action.TheVariants as actions
+use Rattle.wt_turn.specs.declared.action.Action.{Action}
+use Rattle.wt_turn.specs.declared.answer.Answer.{Answer}
 use Rattle.wt_turn.specs.declared.call.Call.TheVariants as calls
+use Rattle.wt_turn.specs.declared.call.Call.{Call}
 use Rattle.wt_turn.specs.declared.reply.Reply.TheVariants as replies
+use Rattle.wt_turn.specs.declared.reply.Reply.{Reply}
 use Rattle.wt_turn.specs.declared.turn.Turn.TheVariants as turns
+use Rattle.wt_turn.specs.declared.turn.Turn.{Turn}
+use Rattle.wt_wire.specs.declared.side.Side.TheVariants.{Client, Server}
+use Rattle.wt_wire.specs.declared.side.Side.{Side}
 
 -- ---- lists of turns
 
@@ -54,30 +52,18 @@ is_acceptance _ = false
 -- a server's session is that of the request that was given last, and the response that was begun last accepts; a
 -- client's is on the stream that its connect opened, and a 2xx came
 abbrev pub is_asked_for : Side → History → ℕ → Bool
-is_asked_for Server h s = is_number s (last_request h) && is_acceptance (last_begun h)
+is_asked_for Server h s = is_number s (last_request h) && is_acceptance (begun_last h)
 is_asked_for Client h s = s == 0 && not (local_count (actions_out h) 0 == 0) && is_success (response_walk_of (contents h 0) (end_of (events h) 0))
 
 -- what a session rests on: SETTINGS came, it was asked for, the whole frame went out, the connection is open, and it is new
 pub record EstablishedFor (side : Side) (h later : History) (s : ℕ) : Type 0 where
   pub settings : settings_came (findings side h) ≡ true
   pub asked : is_asked_for side later s ≡ true
-  pub frame : out later s ≡ head_of (last_begun later)
+  pub frame : out later s ≡ head_of (begun_last later)
   pub open_before : is_open h ≡ true
   pub new : is_established h s ≡ false
 
--- each session that a reply gives rests on that
-abbrev pub EstablishedRightly : Side → History → Turn → Answer → Type 0
-EstablishedRightly side h turn a = (s : ℕ) → session_in a.reply ≡ Some s → EstablishedFor side h (with_pair h turn a) s
-
--- at most 4 sessions live
-abbrev pub FewLive : Side → History → Type 0
-FewLive side h = length (living side h) ≤ 4
-
 -- ---- reads
-
--- what was read of a stream is a prefix of what follows its header
-abbrev pub ReadsInOrder : Side → History → Type 0
-ReadsInOrder side h = (k : ℕ) → take (length (pieces h k)) (body side h k) ≡ pieces h k
 
 -- ---- datagrams
 
@@ -91,27 +77,7 @@ abbrev pub payloads : History → ℕ → List (List ℕ)
 payloads [] s = []
 payloads (p ∷ h) s = payloads h s ++ (if receives h s p.turn p.answer.reply then payload_in p.answer.reply else [])
 
--- the payloads that a session received are the first of those that were admitted for it
-abbrev pub DatagramsInOrder : Side → History → Type 0
-DatagramsInOrder side h = (s : ℕ) → payloads h s
-    ≡ take (received_count h s) (map (λ (d : ℕ × List ℕ). d.1) (filter (λ (d : ℕ × List ℕ). d.0 == s) (filter_map admitted_datagram (findings side h))))
-
 -- ---- the end of the connection
-
--- the connection stays open exactly where no loss came, the call owes no close, and there is no fault
-abbrev pub OpenExactly : Side → History → Turn → Answer → Type 0
-OpenExactly side h turn a = is_open (with_pair h turn a)
-    ≡ (is_open h && not (loses turn) && not (list_any closes (owed_by_turn side h turn a.reply)) && is_none (fault_of (findings side (with_pair h turn a))))
-
--- nothing goes out once the connection has ended
-abbrev pub NothingAfterEnd : History → Answer → Type 0
-NothingAfterEnd h a = is_open h ≡ false → a.actions ≡ []
-
--- how a session ended stays so, from its own end or the connection's on (so does what `Closed` and an opening say of the
--- connection's end: no later event counts)
-abbrev pub ResultStays : Side → History → Turn → Answer → Type 0
-ResultStays side h turn a = (s : ℕ) → is_established h s ≡ true → is_over side h s ≡ true
-    → session_answer side (with_pair h turn a) s ≡ session_answer side h s
 
 -- ---- streams of a session that is gone
 
@@ -145,11 +111,6 @@ pub record SettingsOut (side : Side) (h : History) : Type 0 where
   pub stream : (local_count (actions_out h) (local_uni side) == 0) ≡ false
   pub sent : out h (local_uni side) ≡ take (credit (events h) (local_uni side)) control_bytes
 
--- so it is after each turn that leaves the connection open but for what is found, where the peer allows a unidirectional stream
-abbrev pub SettingsGoOut : Side → History → Turn → Answer → Type 0
-SettingsGoOut side h turn a =
-    leaves_open side h turn a ≡ true → nat_le 1 (unis_allowed (events (with_pair h turn a))) ≡ true → SettingsOut side (with_pair h turn a)
-
 -- the bytes that a reply to a write of the stream accepts
 abbrev pub accepted_by : ℕ → Turn → Reply → List ℕ
 accepted_by k (turns.Call (calls.Write id bytes)) (replies.Written n) = if id == k then take n bytes else []
@@ -165,7 +126,7 @@ accepted (p ∷ h) k = accepted h k ++ accepted_by k p.turn p.answer.reply
 -- the connect or response that was begun for the stream: a connect's is stream 0, a response's that of the request that was given last
 abbrev pub begun_on : History → ℕ → Option Call
 begun_on [] k = None
-begun_on (p ∷ h) k = option_or (begun_on h k) (if handshake_stream h == k then begun_by p.turn else None)
+begun_on (p ∷ h) k = option_or (begun_on h k) (if handshake_stream h == k then begun_in p.turn else None)
 
 -- the frame of a connect or response, else this header
 abbrev pub frame_or : Option Call → List ℕ → List ℕ
@@ -193,7 +154,7 @@ head_may_go Client h = is_connected (events h) && settings_came (findings Client
 -- stream of the request that was given last, or a connect's on stream 0
 abbrev pub HeadGoesOut : Side → History → Turn → Answer → Type 0
 HeadGoesOut side h turn a = (polls turn && is_pending a.reply && head_may_go side h) ≡ true
-    → out (with_pair h turn a) (handshake_stream h) ≡ take (credit (events (with_pair h turn a)) (handshake_stream h)) (head_of (last_begun (with_pair h turn a)))
+    → out (with_pair h turn a) (handshake_stream h) ≡ take (credit (events (with_pair h turn a)) (handshake_stream h)) (head_of (begun_last (with_pair h turn a)))
 
 -- so has an opening, which goes on or is through, of its header
 abbrev pub HeaderGoesOut : Side → History → ℕ → Answer → Type 0
@@ -214,11 +175,6 @@ acts_on k a = sends_on k a || is_reset_of k a
 abbrev pub NoneBehind : {T : Type 0} → (T → Bool) → (T → Bool) → List T → Type 0
 NoneBehind first later [] = Unit {0}
 NoneBehind first later (x ∷ xs) = (first x ≡ true → list_any later xs ≡ false) × NoneBehind first later xs
-
--- nothing goes out on a stream after its reset, in a later answer or behind it in the same one, nor a second reset
-pub record SilentAfterReset (h : History) (a : Answer) (k : ℕ) : Type 0 where
-  pub later : list_any (is_reset_of k) (actions_out h) ≡ true → list_any (acts_on k) a.actions ≡ false
-  pub behind : NoneBehind (is_reset_of k) (acts_on k) a.actions
 
 -- ---- cutting
 

@@ -1,12 +1,13 @@
 //! What goes out with each answer.
 #![tactic(auto)]
 
-ghost use Rattle.std.specs.Prelude.{◌≡◌, false, true, ℕ};
+ghost use Rattle.wt_seam_spec.specs.Joined.{join_all};
+ghost use Rattle.wt_promise.specs.Owed.{owed_by_moment, owed_by_turn};
+ghost use Rattle.std.specs.Prelude.{◌≡◌, false, true, ℕ, [], ◌++◌};
 ghost use Rattle.wt_meaning.specs.History.{History};
 ghost use Rattle.wt_meaning.specs.Lawful.{is_lawful};
 ghost use Rattle.wt_meaning.specs.Meaning.{next};
 ghost use Rattle.wt_meaning.specs.Windows.{is_established};
-ghost use Rattle.wt_promise.specs.Owed.{AllOwedGoesOut};
 ghost use Rattle.wt_promise.specs.Promise.{HeaderGoesOut, IsHistory};
 ghost use Rattle.wt_turn.specs.declared.call.Call.TheVariants as calls;
 ghost use Rattle.wt_turn.specs.declared.connecting_error.ConnectingError.{ConnectingError};
@@ -18,7 +19,7 @@ ghost use Rattle.wt_wire.specs.declared.side.Side.{Side};
 /// What a call, this end's control stream and each finding of the moment owe goes out in this order, each once, and nothing else does.
 #[tactic(auto, using(crate::proofs::Theorems::owed_theorem))]
 pub fn what_is_owed_goes_out()
-    ensures owed { (side : Side) (h : History) (turn : Turn) → AllOwedGoesOut side h turn (next side h turn) }
+    ensures owed { (side : Side) (h : History) (turn : Turn) → (next side h turn).actions ≡ join_all [] (owed_by_turn side h turn (next side h turn).reply ++ owed_by_moment side h turn (next side h turn)) }
 {}
 
 /// An opening that is polled and goes on, or is through, has sent as much of its header as credit allows.

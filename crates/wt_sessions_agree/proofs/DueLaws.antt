@@ -126,7 +126,7 @@ pub record GivenRequest (side : Side) (h : History) (s : ℕ) : Type 0 where
   pub verdict : verdict_of (findings side h) s ≡ Some (verdicts.Request headers offset)
   pub stays : list_any (makes_gone s) (findings side h) ≡ false
 
-given-request : (side : Side) (h : History) → IsHistory side h → (s : ℕ) → was_given h s ≡ true → is_established h s ≡ false → GivenRequest side h s
+pub given-request : (side : Side) (h : History) → IsHistory side h → (s : ℕ) → was_given h s ≡ true → is_established h s ≡ false → GivenRequest side h s
 given-request side h i s g u = by (marks side h s u)
   where
     queued : list_any (queues s) (findings side h) ≡ true

@@ -119,7 +119,7 @@ module _ (side : Side) (each : EachTurnAgrees side) where
   plain : (h : History) (log : Log) (turn : Turn) → answer_to side h turn ≡ next side h turn → history_after side h turn ≡ step side h turn → TurnAgrees side h log turn → AnyAgrees h log turn
   plain h log turn a b t = record { same = a ∙ sym t.same; after = subst (λ (g : History). Agree side g (log_after side log turn)) (sym b) t.after }
 
-  any-agrees : (h : History) (log : Log) (turn : Turn) → Agree side h log → is_lawful side h turn ≡ true → AnyAgrees h log turn
+  pub any-agrees : (h : History) (log : Log) (turn : Turn) → Agree side h log → is_lawful side h turn ≡ true → AnyAgrees h log turn
   any-agrees h log (turns.Bytes id piece) x l =
       let p = piece-agrees piece h log id x l in
       record { same = ap (answer replies.Done) (sym p.same); after = p.after }

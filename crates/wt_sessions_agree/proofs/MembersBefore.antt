@@ -38,7 +38,7 @@ use Rattle.wt_turn.specs.declared.turn.Turn.TheVariants as turns
 -- ---- whose verdict is known before the moment
 
 -- a session that a call made gone was established, or its request was given
-ended-why : (h : History) (k : ℕ) → is_gone_by_call h k ≡ true → (was_given h k || is_established h k) ≡ true
+pub ended-why : (h : History) (k : ℕ) → is_gone_by_call h k ≡ true → (was_given h k || is_established h k) ≡ true
 ended-why [] k e = absurd (cc e)
 ended-why (p ∷ h) k e = by (is_number k (gone_in h p.turn p.answer.reply)) refl e (ended-why h k)
   where
@@ -65,7 +65,7 @@ stream-known Server p h i s e q = given-classified Server p h i s ((phase (p ∷
 abbrev Closes : History → List Finding → Type 0
 Closes h found = (k : ℕ) → list_any (closes_session k) found ≡ true → is_established h k ≡ true
 
-closed-established : (side : Side) (h : History) (k : ℕ) → list_any (closes_session k) (findings side h) ≡ true → is_established h k ≡ true
+pub closed-established : (side : Side) (h : History) (k : ℕ) → list_any (closes_session k) (findings side h) ≡ true → is_established h k ≡ true
 unfolding findings
 closed-established side [] k e = absurd (cc e)
 closed-established side (p ∷ h) k e =

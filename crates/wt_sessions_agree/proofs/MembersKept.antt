@@ -142,7 +142,7 @@ gone-itself k j (verdicts.Request headers offset) false e = e
 gone-itself k j v b e = absurd (cc e)
 
 -- what is found gone has a verdict, or was closed
-gone-why : (k : ℕ) (found : List Finding) → list_any (makes_gone k) found ≡ true → (is_classified found k || list_any (closes_session k) found) ≡ true
+pub gone-why : (k : ℕ) (found : List Finding) → list_any (makes_gone k) found ≡ true → (is_classified found k || list_any (closes_session k) found) ≡ true
 gone-why k [] e = absurd (cc e)
 gone-why k (Classified j v b ∷ found) e = by (j == k) (makes_gone k (Classified j v b)) refl refl e (gone-why k found)
   where

@@ -149,7 +149,7 @@ abbrev pub queues : ℕ → Finding → Bool
 queues k (Classified id (verdicts.Request headers offset) true) = id == k
 queues k _ = false
 
-abbrev Queued : ℕ → List Finding → Type 0
+abbrev pub Queued : ℕ → List Finding → Type 0
 Queued k found = list_any (queues k) found ≡ true → RequestOf found k
 
 -- where nothing new is queued, what was stays
@@ -205,7 +205,7 @@ queued-step side h k found new (AClassified j (verdicts.Request headers offset) 
         rw i (queued-now h k found more headers offset true (ap (is_dequeued found) (sym i) ∙ d) (ap (is_classified found) (sym i) ∙ c) (ap (verdict h) (sym i) ∙ w))
 queued-step side h k found new (AClassified j v more p d c w m) g = queued-with k found new (ap (list_any (queues k)) m ∙ none-queued k found v) g
 
-queued-verdict : (side : Side) (h : History) (k : ℕ) → Queued k (findings side h)
+pub queued-verdict : (side : Side) (h : History) (k : ℕ) → Queued k (findings side h)
 unfolding findings
 queued-verdict side [] k = λ e. absurd (cc e)
 queued-verdict side (p ∷ h) k = findings-keep side p h (Queued k) (λ found new a n g. queued-step side (p ∷ h) k found new a g) (queued-verdict side h k)
@@ -221,7 +221,7 @@ queues-has k (Classified id (verdicts.Request headers offset) true ∷ found) e 
 queues-has k (x ∷ found) e = queues-has k found e
 
 -- a request that was given
-given-request : (side : Side) (h : History) → IsHistory side h → (k : ℕ) → was_given h k ≡ true → RequestOf (findings side h) k
+pub given-request : (side : Side) (h : History) → IsHistory side h → (k : ℕ) → was_given h k ≡ true → RequestOf (findings side h) k
 given-request side h i k e = queued-verdict side h k (queues-has k (findings side h) (given-queued side h i k e))
 
 -- ---- where a session's part begins

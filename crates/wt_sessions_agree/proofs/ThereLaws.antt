@@ -145,7 +145,7 @@ module _ (side : Side) (h : History) where
   moments-there r found there = after-there (checks side h) found checks-there there
 
 -- a stream that was dequeued is there
-dequeued-there : (side : Side) (h : History) (k : ℕ) → is_dequeued (findings side h) k ≡ true → exists side h k ≡ true
+pub dequeued-there : (side : Side) (h : History) (k : ℕ) → is_dequeued (findings side h) k ≡ true → exists side h k ≡ true
 unfolding findings
 dequeued-there side [] k e = absurd (cc e)
 dequeued-there side (p ∷ h) k e = by (is_open h) (λ j d. exists-stays side p h j (dequeued-there side h j d)) k e
@@ -164,7 +164,7 @@ pub record IsFirstKind (side : Side) (h : History) (k : ℕ) : Type 0 where
 by-exists : (side : Side) (h : History) (k : ℕ) → k % 4 ≡ 0 → exists side h k ≡ true → IsFirstKind side h k
 by-exists side h k z e = record { kind = z; there = ltb-true (k / 4) (stream_count side h 0) (ap (λ (n : ℕ). nat_lt (k / 4) (stream_count side h n)) (sym z) ∙ e) }
 
-server-kind : (k : ℕ) → ((k % 4 == 2) || (k % 4 == 0)) ≡ true → is_bidirectional k ≡ true → k % 4 ≡ 0
+pub server-kind : (k : ℕ) → ((k % 4 == 2) || (k % 4 == 0)) ≡ true → is_bidirectional k ≡ true → k % 4 ≡ 0
 server-kind k p b = by (k % 4 == 2) (k % 4 == 0) refl refl p
   where
     by : (x y : Bool) → (k % 4 == 2) ≡ x → (k % 4 == 0) ≡ y → (x || y) ≡ true → k % 4 ≡ 0

@@ -77,12 +77,12 @@ window-agrees h calls found table s c t =
 -- ---- requests
 
 module _ (g g2 : ℕ → Bool) (gone : (s : ℕ) → g2 s ≡ g s) where
-  abbrev Held : List Finding → Type 0
+  abbrev pub Held : List Finding → Type 0
   Held found =
       length (filter (λ (k : ℕ). not (g2 k)) (filter_map queued_id (filter_map classified_in found)))
       ≡ length (filter (λ (q : ℕ × List (List ℕ × List ℕ)). not (g q.0)) (filter_map queued_request found))
 
-  held-count : (found : List Finding) → Held found
+  pub held-count : (found : List Finding) → Held found
   held-count [] = refl
   held-count (finds.Classified id (verdicts.Request f o) true ∷ found) = by (g id) refl (held-count found)
     where
