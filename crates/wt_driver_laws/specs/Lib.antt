@@ -1,0 +1,15 @@
+pub mod Answering
+pub mod Calling
+pub mod Driving
+pub mod Ends
+pub mod Given
+pub mod Giving
+pub mod Handing
+pub mod Having
+pub mod LogLaws
+pub mod Opening
+pub mod Passing
+pub mod Records
+pub mod Replies
+pub mod Sessions
+pub mod Writing
