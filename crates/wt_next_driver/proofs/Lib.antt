@@ -1,0 +1,5 @@
+pub mod Beginning
+pub mod Openings
+pub mod Parts
+pub mod Steps
+pub mod Counted
