@@ -1,0 +1,17 @@
+pub mod Acceptances
+pub mod AuthorityLaws
+pub mod Connects
+pub mod Fields
+pub mod Middle
+pub mod Rejections
+pub mod RequestLaws
+pub mod Pieces
+pub mod Requests
+pub mod Elsewhere
+pub mod Sessions
+pub mod TargetLaws
+pub mod Asks
+pub mod AtRest
+pub mod ConnectsOn
+pub mod Heads
+pub mod Dials
