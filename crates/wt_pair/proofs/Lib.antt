@@ -1,0 +1,17 @@
+pub mod Carried
+pub mod Counts
+pub mod Formed
+pub mod Held
+pub mod Keeps
+pub mod Marks
+pub mod Means
+pub mod Plain
+pub mod Receives
+pub mod Row
+pub mod Sends
+pub mod Sessions
+pub mod Taking
+pub mod Verdicts
+pub mod Views
+pub mod WasRead
+pub mod Whole

@@ -1,0 +1,4 @@
+pub mod Claims
+pub mod Events
+pub mod Link
+pub mod Pair
