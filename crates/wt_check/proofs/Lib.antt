@@ -1,0 +1,14 @@
+pub mod Alike
+pub mod Along
+pub mod OfDatagrams
+pub mod OfAccepts
+pub mod OfSends
+pub mod OfReads
+pub mod OfTurns
+pub mod CutActions
+pub mod Begins
+pub mod Asked
+pub mod OfSessions
+pub mod Accepted
+pub mod Exact
+pub mod Refused

@@ -1,0 +1,10 @@
+pub mod Records
+pub mod Turns
+pub mod Sessions
+pub mod Accepts
+pub mod Reads
+pub mod Datagrams
+pub mod Sends
+pub mod Verdict
+pub mod Exact
+pub mod Rows
