@@ -1,4 +1,4 @@
--- A worked row, computed: a connect, both SETTINGS, a session, and a stream of which one byte is delivered and read.
+-- A worked example, computed: a connect, both SETTINGS, a session, and a stream of which one byte is delivered and read.
 use Rattle.std.specs.Prelude.{[], ◌∷◌, ◌≡◌, List, None, Some, codes, false, true}
 use Rattle.std.proofs.Common.{refl}
 use Rattle.wt_meaning.proofs.Recorded.{computed, parsed}
