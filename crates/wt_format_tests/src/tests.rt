@@ -4,6 +4,7 @@ mod copies;
 mod fields;
 mod messages;
 mod readers;
+mod sessions;
 mod shown;
 mod table;
 mod texts;

@@ -14,7 +14,8 @@ use Rattle.wt_wire.specs.Varint.{varint_bytes}
 abbrev pub alpn : List ℕ
 alpn = codes "h3"
 
--- the settings that this side sends
+-- the settings that this end sends (RFC 9204, section 5; RFC 9220, section 5; RFC 9297, section 2.1.1; draft-ietf-webtrans-http3, section 8.2):
+-- no QPACK table, extended CONNECT, datagrams, and WebTransport with at most 4 sessions at a time
 abbrev pub local_settings : Settings
 local_settings = record {
   qpack_max_table_capacity = Some 0;
@@ -23,10 +24,10 @@ local_settings = record {
   enable_connect_protocol = Some 1;
   h3_datagram = Some 1;
   enable_webtransport = Some 1;
-  webtransport_max_sessions = Some 1;
+  webtransport_max_sessions = Some 4;
 }
 
--- what this side's control stream begins with: its type, and the frame of these settings
+-- what this end's control stream begins with (RFC 9114, section 6.2.1): its type, and the frame of these settings, 25 bytes
 abbrev pub local_control_bytes : List ℕ
 local_control_bytes = varint_bytes control_type ++ frame_bytes (record { kind = kinds.Settings; payload = settings_bytes local_settings; session = None })
 

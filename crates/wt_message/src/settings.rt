@@ -125,8 +125,8 @@ impl Settings {
         }
     }
 
-    /// The settings that this side sends: no dynamic table of QPACK and no blocked streams, extended
-    /// CONNECT, HTTP/3 datagrams, WebTransport, and one session.
+    /// The settings that this end sends: no dynamic table of QPACK and no blocked streams, extended
+    /// CONNECT, HTTP/3 datagrams, WebTransport, and at most 4 sessions at a time.
     pub fn local() -> Settings
         ensures { result ≡ local_settings }
     {
@@ -136,7 +136,7 @@ impl Settings {
             .enable_connect_protocol()
             .enable_webtransport()
             .enable_h3_datagrams()
-            .webtransport_max_sessions(VarInt::from_u32(1))
+            .webtransport_max_sessions(VarInt::from_u32(4))
             .build()
     }
 

@@ -15,12 +15,10 @@ use Rattle.wt_wire.specs.Varint.{varint_at}
 use Rattle.wt_proto.specs.Bi.{bi_decides, bi_effect, bi_unfinished, bi_verdict_of, headers_verdict, parsed_verdict}
 use Rattle.wt_proto.specs.FrameSteps.{step_of_item}
 use Rattle.wt_message.specs.Requests.{request_of}
-use Rattle.wt_proto.specs.Reading.{ReadsAlike}
 use Rattle.wt_proto.specs.Steady.{IsAwaited, IsLawful}
 use Rattle.wt_proto.specs.Uni.{is_final, session_verdict}
 use Rattle.wt_proto.specs.Walk.{outcome_at, whole_walk}
 use Rattle.wt_proto.specs.Wanted.{frame_wants}
-use Rattle.wt_proto.proofs.ReadingLaws.{reads-alike}
 use Rattle.wt_proto.proofs.BiLaws.{bi-effect, bi-steady}
 use Rattle.wt_proto.proofs.WantedLaws.{varint-awaited, item-awaited}
 
@@ -61,6 +59,3 @@ bi-final offset bytes w n e = effect-final offset (frames.frame_at varint_at byt
 
 pub bi_lawful : IsLawful 0 bi_decides (frame_wants true) bi_unfinished is_final bi_verdict_of
 bi_lawful = record { steady = bi-steady; awaited = bi-awaited; reaches = bi-reaches; stops = bi-final; by_end = λ end s t b c. refl }
-
-pub bi_reads_alike : ReadsAlike 0 bi_decides bi_unfinished bi_verdict_of
-bi_reads_alike = reads-alike 0 bi_decides bi-steady bi_unfinished bi_verdict_of bi-reaches

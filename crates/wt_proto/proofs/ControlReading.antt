@@ -11,11 +11,9 @@ use Rattle.wt_wire.specs.Frames as frames
 use Rattle.wt_proto.specs.ControlWalk.{control_decides, control_effect, control_unfinished, control_walk_of, control_fault, settings_step}
 use Rattle.wt_proto.specs.FrameSteps.{step_of_item}
 use Rattle.wt_message.specs.Settings.{settings_of}
-use Rattle.wt_proto.specs.Reading.{ReadsAlike}
 use Rattle.wt_proto.specs.Steady.{IsAwaited, IsLawful}
 use Rattle.wt_proto.specs.Walk.{outcome_at, whole_walk}
 use Rattle.wt_proto.specs.Wanted.{frame_wants}
-use Rattle.wt_proto.proofs.ReadingLaws.{reads-alike}
 use Rattle.wt_proto.proofs.ControlLaws.{control-effect, control-steady}
 use Rattle.wt_proto.proofs.WantedLaws.{ignored-awaited, item-awaited}
 
@@ -54,6 +52,3 @@ control-final_by_end (Reset code) s t b c = refl
 
 pub control_lawful : IsLawful None control_decides (frame_wants false) control_unfinished (λ w. is_some w.fault) control_walk_of
 control_lawful = record { steady = control-steady; awaited = control-awaited; reaches = control-reaches; stops = control-final; by_end = control-final_by_end }
-
-pub control_reads_alike : ReadsAlike None control_decides control_unfinished control_walk_of
-control_reads_alike = reads-alike None control_decides control-steady control_unfinished control_walk_of control-reaches

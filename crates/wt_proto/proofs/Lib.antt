@@ -4,7 +4,6 @@ pub mod TypedHeaders
 pub mod UniLaws
 pub mod HeaderAgain
 pub mod ControlLaws
-pub mod SessionLaws
 pub mod BiLaws
 pub mod ResponseWalkLaws
 pub mod ProgressLaws
@@ -12,7 +11,13 @@ pub mod AdvanceLaws
 pub mod ReadingLaws
 pub mod WantedLaws
 pub mod ControlReading
-pub mod SessionReading
 pub mod ResponseReading
 pub mod BiReading
 pub mod UniReading
+pub mod FeedLaws
+pub mod TypedItems
+pub mod SessionItems
+pub mod SessionSteady
+pub mod SessionReaderLaws
+pub mod SessionPieces
+pub mod SessionFeedLaws

@@ -1,6 +1,5 @@
 -- What a reader's value says of all bytes that it took.
-use Rattle.std.proofs.Common.{◌≡◌, ℕ, zero, suc, ◌-◌, ◌<◌, ◌≤◌, true, false, Bool, List, [], ◌∷◌, ◌++◌, length, take, drop, Option, Some, None, IfSome, refl, sym, ap, ◌∙◌, arith, fold, append_assoc, IsSome, is_some, inl, inr, ◌&&◌, ◌==◌, Result, Ok, Err, IfOk, OnErr}
-use Rattle.std.specs.List.{concat}
+use Rattle.std.proofs.Common.{◌≡◌, ℕ, zero, suc, ◌-◌, ◌<◌, ◌≤◌, true, false, Bool, List, [], ◌∷◌, ◌++◌, length, take, drop, Option, Some, None, IfSome, refl, sym, ap, ◌∙◌, arith, IsSome, is_some, inl, inr, ◌&&◌, ◌==◌, Result, Ok, Err, IfOk, OnErr}
 use Rattle.std.proofs.lemmas.List.{append-nil, length-drop, length-take, take-append-drop}
 use Rattle.std.proofs.lemmas.Bool.{cases_lt, eq-eqb, ne_eqb}
 use Rattle.std.proofs.Math.ListN.{drop_of_length-le}
@@ -12,7 +11,7 @@ use Rattle.wt_proto.specs.declared.walk.Step.TheVariants.{Cut, Goes, Stops}
 use Rattle.wt_proto.specs.declared.cursor.PassedItems.{PassedItems}
 use Rattle.wt_proto.specs.Cursor.{passed_outcome, progress_passed}
 use Rattle.wt_proto.specs.WalkProgress.{WalkProgress, Reading, HasRead, Advances, AdvancesSome, progress_over, progress_after, fed_reading, reached_in, reached_at, at_item, IsProper}
-use Rattle.wt_proto.specs.Reading.{ReadsAlike, outcome_in}
+use Rattle.wt_proto.specs.Reading.{outcome_in}
 use Rattle.wt_proto.specs.Steady.{IsSteady}
 use Rattle.wt_proto.specs.Walk.{Reached, step_on, outcome_at, whole_walk}
 use Rattle.wt_proto.proofs.ProgressLaws.{walk-progress, fed-append, fed-nothing}
@@ -163,23 +162,3 @@ passed-outcome {S = S} {O = O} decide steady unfinished end start s p bytes a pr
     ∙ (ap (λ (x : WalkProgress S O). progress_after decide x (drop p.consumed bytes)) (sym a.fed) ∙ stays)) in
     passed-by unfinished end s p.stop p.skip p.rest p.consumed (drop p.rest (take p.consumed bytes)) proper.idle le (omega (arith, a.within, length-drop p.rest (take p.consumed bytes), length-take p.consumed bytes))
     ∙ (ap (λ (x : WalkProgress S O). outcome_at unfinished end (reached_in x)) (sym is) ∙ ap (λ (r : Reached S O). outcome_at unfinished end r) (sym (walk-progress decide bytes start None 0)))
-
--- pieces one after the other
-module _ {S O : Type 0} (start : S) (decide : S → List ℕ → Step S O) (steady : IsSteady decide) where
-  fold-read : (pieces : List (List ℕ)) (r : Reading S O) (bytes : List ℕ) (end : StreamEnd) → HasRead decide start r bytes end → HasRead decide start (fold (fed_reading decide) r pieces) (bytes ++ concat pieces) end
-  fold-read [] r bytes end has = has ∙ ap (λ (xs : List ℕ). record { progress = progress_over decide start None 0 xs; end = end }) (sym (append-nil bytes))
-  fold-read (piece ∷ pieces) r bytes end has =
-      let more : HasRead decide start (fed_reading decide r piece) (bytes ++ piece) end =
-      ap (λ (x : Reading S O). fed_reading decide x piece) has ∙ ap (λ (p : WalkProgress S O). record { progress = p; end = end }) (fed-append decide steady bytes piece start None 0) in
-      fold-read pieces (fed_reading decide r piece) (bytes ++ piece) end more
-      ∙ ap (λ (xs : List ℕ). record { progress = progress_over decide start None 0 xs; end = end }) (append_assoc bytes piece (concat pieces))
-
-  pub reads-alike : (unfinished : StreamEnd → S → Bool → O) (outcome_of : List ℕ → StreamEnd → O) → ((bytes : List ℕ) (end : StreamEnd) → outcome_of bytes end ≡ outcome_at unfinished end (whole_walk decide start bytes)) →
-      ReadsAlike start decide unfinished outcome_of
-  reads-alike unfinished outcome_of reaches = record {
-    same = λ r bytes end pieces others has same.
-        fold-read pieces r bytes end has
-        ∙ (ap (λ (xs : List ℕ). record { progress = progress_over decide start None 0 (bytes ++ xs); end = end }) same ∙ sym (fold-read others r bytes end has));
-    outcome = λ r bytes end pieces has.
-        read-outcome decide start unfinished outcome_of reaches (fold (fed_reading decide) r pieces) (bytes ++ concat pieces) end (fold-read pieces r bytes end has);
-  }

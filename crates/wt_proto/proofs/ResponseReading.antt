@@ -12,11 +12,9 @@ use Rattle.wt_wire.specs.HeaderList.{Fields}
 use Rattle.wt_proto.specs.FrameSteps.{step_of_item}
 use Rattle.wt_proto.specs.ResponseWalk.{headers_response, is_response_final, parsed_response, response_decides, response_effect, response_unfinished, response_walk_of}
 use Rattle.wt_message.specs.Responses.{response_of}
-use Rattle.wt_proto.specs.Reading.{ReadsAlike}
 use Rattle.wt_proto.specs.Steady.{IsAwaited, IsLawful}
 use Rattle.wt_proto.specs.Walk.{outcome_at, whole_walk}
 use Rattle.wt_proto.specs.Wanted.{frame_wants}
-use Rattle.wt_proto.proofs.ReadingLaws.{reads-alike}
 use Rattle.wt_proto.proofs.ResponseWalkLaws.{response-effect, response-steady}
 use Rattle.wt_proto.proofs.WantedLaws.{ignored-awaited, item-awaited}
 
@@ -53,6 +51,3 @@ response-by_end (Reset code) s t b c = refl
 
 pub response_lawful : IsLawful 0 response_decides (frame_wants false) response_unfinished is_response_final response_walk_of
 response_lawful = record { steady = response-steady; awaited = response-awaited; reaches = response-reaches; stops = response-final; by_end = response-by_end }
-
-pub response_reads_alike : ReadsAlike 0 response_decides response_unfinished response_walk_of
-response_reads_alike = reads-alike 0 response_decides response-steady response_unfinished response_walk_of response-reaches

@@ -6,12 +6,10 @@ use Rattle.wt_proto.specs.declared.verdict.Verdict.{Verdict}
 use Rattle.wt_proto.specs.declared.walk.Step.TheVariants.{Stops}
 use Rattle.wt_wire.specs.Varint.{varint_at}
 use Rattle.wt_proto.specs.FrameSteps.{step_of_item}
-use Rattle.wt_proto.specs.Reading.{ReadsAlike}
 use Rattle.wt_proto.specs.Steady.{IsAwaited, IsLawful}
 use Rattle.wt_proto.specs.Uni.{header_by_type, is_final, session_header_at, typed_header_at, uni_decides, uni_effect, uni_header_at, uni_unfinished, uni_verdict_of}
 use Rattle.wt_proto.specs.Wanted.{header_wants, uni_wants, varint_wants}
 use Rattle.wt_wire.proofs.VarintLaws.{varint_at-more, varint_at-within}
-use Rattle.wt_proto.proofs.ReadingLaws.{reads-alike}
 use Rattle.wt_proto.proofs.BiReading.{session-final}
 use Rattle.wt_proto.proofs.FrameLaws.{chosen_by}
 use Rattle.wt_proto.proofs.UniLaws.{uni-effect, uni-reaches, uni-steady}
@@ -88,6 +86,3 @@ uni-final s bytes w n e = effect-final (uni_header_at bytes) w n (λ p f. typed-
 
 pub uni_lawful : IsLawful tt uni_decides uni_wants uni_unfinished is_final uni_verdict_of
 uni_lawful = record { steady = uni-steady; awaited = uni-awaited; reaches = uni-reaches; stops = uni-final; by_end = λ end s t b c. refl }
-
-pub uni_reads_alike : ReadsAlike tt uni_decides uni_unfinished uni_verdict_of
-uni_reads_alike = reads-alike tt uni_decides uni-steady uni_unfinished uni_verdict_of uni-reaches

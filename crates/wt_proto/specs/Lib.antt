@@ -3,7 +3,6 @@ pub mod Walk
 pub mod FrameSteps
 pub mod StreamHeader
 pub mod ControlWalk
-pub mod SessionWalk
 pub mod Bi
 pub mod ResponseWalk
 pub mod WalkProgress
@@ -11,3 +10,7 @@ pub mod Steady
 pub mod Cursor
 pub mod Reading
 pub mod Wanted
+pub mod SessionWalk
+pub mod SessionReader
+pub mod SessionWords
+pub mod SessionReading

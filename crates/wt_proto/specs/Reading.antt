@@ -1,25 +1,16 @@
 -- What holds of a reader.
-use Rattle.std.specs.Prelude.{◌≡◌, ℕ, List, ◌++◌, fold, IfSome, Bool, true}
-use Rattle.std.specs.List.{concat}
+use Rattle.std.specs.Prelude.{◌≡◌, ℕ, List, IfSome, Bool, true}
 use Rattle.wt_proto.specs.declared.cursor.Cursor.{Cursor}
 use Rattle.wt_wire.specs.declared.side.StreamEnd.{StreamEnd}
 use Rattle.wt_proto.specs.declared.walk.Step.{Step}
 use Rattle.wt_proto.specs.Cursor.{IsPlaced, progress_of}
-use Rattle.wt_proto.specs.WalkProgress.{HasRead, Reading, fed_reading, reached_in}
+use Rattle.wt_proto.specs.WalkProgress.{Reading, reached_in}
 use Rattle.wt_proto.specs.Steady.{IsLawful}
 use Rattle.wt_proto.specs.Walk.{outcome_at}
 
 -- the outcome
 abbrev pub outcome_in : {S O : Type 0} → (StreamEnd → S → Bool → O) → Reading S O → O
 outcome_in unfinished r = outcome_at unfinished r.end (reached_in r.progress)
-
--- whatever the pieces are in which the same bytes come, a reader stands alike after them, and its outcome is that of all bytes and the end
-pub record ReadsAlike {S O : Type 0} (start : S) (decide : S → List ℕ → Step S O) (unfinished : StreamEnd → S → Bool → O) (outcome_of : List ℕ → StreamEnd → O) : Type 0 where
-  pub same : (r : Reading S O) (bytes : List ℕ) (end : StreamEnd) (pieces others : List (List ℕ)) → HasRead decide start r bytes end
-      → concat pieces ≡ concat others →
-      fold (fed_reading decide) r pieces ≡ fold (fed_reading decide) r others
-  pub outcome : (r : Reading S O) (bytes : List ℕ) (end : StreamEnd) (pieces : List (List ℕ)) → HasRead decide start r bytes end →
-      outcome_in unfinished (fold (fed_reading decide) r pieces) ≡ outcome_of (bytes ++ concat pieces) end
 
 -- the walk is lawful, what a reader keeps of it is placed, what stops it is final, and what the reader keeps as outcome is that of a walk that nothing stopped
 pub record IsReading {S O : Type 0} (start : S) (decide : S → List ℕ → Step S O) (wants : List ℕ → ℕ) (unfinished : StreamEnd → S → Bool

@@ -137,6 +137,20 @@ pub(crate) struct Cursor<S, O> {
 }
 
 impl<S, O> Cursor<S, O> {
+    /// In front of an item.
+    pub(crate) fn at_item(alloc: Global, state: S) -> Cursor<S, O>
+        ensures progress { progress_of result ≡ at_item state }
+        ensures wanted { result.wanted ≡ 0 }
+    {
+        Cursor {
+            state,
+            stop: None,
+            skip: 0,
+            kept: Vec::new(alloc),
+            wanted: 0,
+        }
+    }
+
     /// Whether the walk stopped.
     pub(crate) fn is_over(&self) -> bool
         ensures { result ≡ (is_some self.now.stop && self.now.skip == 0) }
@@ -257,6 +271,7 @@ fn pass_items<W: Walk>(
     ensures all { IfOk result (λ n. n < length piece.now → (cursor.new.skip ≡ 0) × IsSome cursor.new.stop) }
     ensures lost { OnErr result (AdvancesSome W.decides (progress_of cursor.old) (progress_of cursor.new) piece.now) }
     ensures still { OnErr result (IsPlaced W.decides cursor.new) }
+    ensures moved { OnErr result (progress_of cursor.new ≡ record (progress_of cursor.old) { state = cursor.new.state }) }
 {
     let alloc = *cursor.kept.allocator();
     let passed = go_over::<W>(alloc, &mut cursor.state, piece)?;
@@ -268,8 +283,8 @@ fn pass_items<W: Walk>(
     Ok(passed.consumed)
 }
 
-/// Takes some bytes of a piece, of which there are some, in a walk that didn't stop.
-fn advance<W: Walk>(
+/// Takes some bytes of a piece, of which there are some, in a walk that didn't stop. Where memory is short, nothing but the state changed.
+pub(crate) fn advance<W: Walk>(
     cursor: &mut Cursor<W::State, W::Outcome>,
     piece: &[u8],
 ) -> Result<usize, OutOfMemory>
@@ -282,6 +297,7 @@ fn advance<W: Walk>(
     ensures placed { IsPlaced W.decides cursor.new }
     ensures some { IfOk result (λ n. 1 ≤ n) }
     ensures lost { OnErr result (AdvancesSome W.decides (progress_of cursor.old) (progress_of cursor.new) piece.now) }
+    ensures moved { OnErr result (progress_of cursor.new ≡ record (progress_of cursor.old) { state = cursor.new.state }) }
 {
     if cursor.skip > 0 {
         Ok(skip_some::<W>(cursor, piece))

@@ -3,7 +3,6 @@ ghost use Rattle.std.specs.Prelude.{◌≡◌, ◌≤◌, ◌<◌, ◌+◌, ℕ,
 ghost use Rattle.wt_proto.specs.Bi.{bi_decides};
 ghost use Rattle.wt_proto.specs.ControlWalk.{control_decides};
 ghost use Rattle.wt_proto.specs.ResponseWalk.{response_decides};
-ghost use Rattle.wt_proto.specs.SessionWalk.{session_decides};
 ghost use Rattle.wt_proto.specs.Uni.{uni_decides};
 ghost use Rattle.wt_proto.specs.WalkProgress.{Advances, AdvancesSome, HasRead, Reading, fed_reading};
 ghost use Rattle.wt_proto.specs.Reading.{outcome_in};
@@ -15,6 +14,7 @@ use crate::bi::BiHeader;
 use crate::control_walk::ControlWalk;
 use crate::cursor::{Cursor, take_in};
 use crate::response_walk::ResponseWalk;
+use crate::session_reader::SessionReader;
 use crate::session_walk::SessionWalk;
 use crate::steps::Steps;
 use crate::verdict::UniHeader;
@@ -34,9 +34,22 @@ pub type BiReader = StreamReader<BiHeader>;
 /// A reader of the peer's control stream after its type.
 pub type ControlReader = StreamReader<ControlWalk>;
 
+/// A walk over a stream of a session, and the reader that goes over it.
+pub trait FrameWalk {
+    type Reader;
+}
+
+impl FrameWalk for SessionWalk {
+    type Reader = SessionReader;
+}
+
+impl FrameWalk for ResponseWalk {
+    type Reader = StreamReader<ResponseWalk>;
+}
+
 /// A reader of frames: of a session's stream after the frame that established the session
 /// (`SessionWalk`), or of a client's session stream from its first byte (`ResponseWalk`).
-pub type FrameReader<W> = StreamReader<W>;
+pub type FrameReader<W> = <W as FrameWalk>::Reader;
 
 /// A reader of a stream that is fed its bytes in pieces. It keeps no more of them than the front of
 /// an item that isn't decided, which is at most 4,112 bytes: a type and a length of 8 bytes each, and
@@ -69,13 +82,7 @@ impl<W: Walk> StreamReader<W> {
         let state = W::start();
         let unfinished = W::unfinished(alloc, StreamEnd::Running, &state, true);
         StreamReader {
-            cursor: Cursor {
-                state,
-                stop: None,
-                skip: 0,
-                kept: Vec::new(alloc),
-                wanted: 0,
-            },
+            cursor: Cursor::at_item(alloc, state),
             end: StreamEnd::Running,
             unfinished,
         }
@@ -148,7 +155,11 @@ impl<W: Walk> StreamReader<W> {
             IfOk result (λ n. k < n → W.is_final_outcome (W.outcome_of (bytes ++ take k piece.now) end) ≡ false) }
         ensures stopped { (bytes : List ℕ) (end : StreamEnd) → HasRead W.decides W.start_state self.old bytes end →
             IfOk result (λ n. n < length piece.now → W.is_final_outcome (W.outcome_of (bytes ++ take n piece.now) end) ≡ true) }
+        ensures open { (k : ℕ) → IfOk result (λ n. k < n → W.is_final_outcome (outcome_in W.unfinished_at (fed_reading W.decides self.old (take k piece.now))) ≡ false) }
         ensures stops_short { IfOk result (λ n. n < length piece.now → W.is_final_outcome (outcome_in W.unfinished_at self.new) ≡ true) }
+        ensures idle { W.is_final_outcome (outcome_in W.unfinished_at self.old) ≡ true → IfOk result (λ n. n ≡ 0) }
+        ensures joins { (xs ys : List ℕ) → fed_reading W.decides (fed_reading W.decides self.old xs) ys ≡ fed_reading W.decides self.old (xs ++ ys) }
+        ensures none { fed_reading W.decides self.old [] ≡ self.old }
         ensures steps { steps.new ≡ steps.old + 1 }
         ensures lost { OnErr result ((k : ℕ) × (k ≤ length piece.now) × (self.new ≡ fed_reading W.decides self.old (take k piece.now))) }
     {
@@ -168,6 +179,17 @@ impl<W: Walk> StreamReader<W> {
         let between = self.cursor.is_between();
         self.end = end;
         self.unfinished = W::unfinished(alloc, self.end, &self.cursor.state, between);
+    }
+
+    /// Whether the outcome is final.
+    pub fn is_over(&self) -> bool
+        ensures answer { result ≡ W.is_final_outcome (outcome_in W.unfinished_at self.now) }
+        ensures joins { (xs ys : List ℕ) → fed_reading W.decides (fed_reading W.decides self.now xs) ys ≡ fed_reading W.decides self.now (xs ++ ys) }
+        ensures none { fed_reading W.decides self.now [] ≡ self.now }
+    {
+        // Read for the proof alone, which takes the reader's invariant from here.
+        let _ = &self.end;
+        W::is_final(self.current())
     }
 
     /// The outcome of all bytes that were taken and the end.
@@ -224,16 +246,6 @@ impl StreamReader<ControlWalk> {
     #[tactic(auto, using(crate::proofs::ControlReading::control_lawful))]
     pub fn new(alloc: Global) -> Self
         ensures { HasRead control_decides None result [] Running }
-    {
-        StreamReader::empty(alloc)
-    }
-}
-
-impl StreamReader<SessionWalk> {
-    /// A reader that took no bytes.
-    #[tactic(auto, using(crate::proofs::SessionReading::session_lawful))]
-    pub fn for_session(alloc: Global) -> Self
-        ensures { HasRead session_decides tt result [] Running }
     {
         StreamReader::empty(alloc)
     }

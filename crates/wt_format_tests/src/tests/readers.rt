@@ -1,17 +1,16 @@
 //! Tests of the readers on bytes that come from outside, in pieces.
 ghost use Rattle.std.specs.Prelude.{◌≡◌, ◌<◌};
 
-use crate::tests::shown::{CLOSE_SHOWN, REQUEST, REQUEST_SHOWN, RESPONSE, RESPONSE_SHOWN, shows};
+use crate::tests::shown::{REQUEST, REQUEST_SHOWN, RESPONSE, RESPONSE_SHOWN, shows};
 use std::alloc::Global;
 use std::fmt::Debug;
 use std::marker::Brand;
 use std::process::Abort;
 use std::sync::ledger::{Blank, Ledger};
-use wt_proto::reader::{BiReader, ControlReader, FrameReader, StreamReader, UniReader};
 use wt_proto::response_walk::ResponseWalk;
-use wt_proto::session_walk::SessionWalk;
 use wt_proto::steps::Steps;
 use wt_proto::walk::Walk;
+use wt_proto::{BiReader, ControlReader, FrameReader, StreamReader, UniReader};
 use wt_wire::side::StreamEnd;
 
 fn feed_counting<W: Walk, L: Ledger>(
@@ -136,20 +135,9 @@ fn a_header_is_read_in_twos(rt: HostRuntime) {
     );
 }
 
-/// A frame with a capsule that closes a session, cut after the capsule's length, and a byte after it.
-const CLOSE: [Piece; 2] = [
-    (b"\x00\x0a\x68\x43\x07", 5, 5),
-    (b"\x00\x00\x00\x07byeb", 7, 0),
-];
-
 #[test]
-fn sessions_and_responses_are_read_in_pieces(rt: HostRuntime) {
+fn a_response_is_read(rt: HostRuntime) {
     let alloc = rt.alloc();
-    let reader = FrameReader::<SessionWalk>::for_session(alloc);
-    reads(&rt, alloc, reader, &CLOSE, StreamEnd::Running, CLOSE_SHOWN);
-    let reader = FrameReader::<SessionWalk>::for_session(alloc);
-    let clean = "Closed(VarInt { value: 0 }, Text { text: \"\" })";
-    reads(&rt, alloc, reader, &[], StreamEnd::Fin, clean);
     let reader = FrameReader::<ResponseWalk>::for_response(alloc);
     let whole = [(RESPONSE, 17, 0)];
     reads(

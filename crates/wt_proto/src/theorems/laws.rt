@@ -1,8 +1,10 @@
 //! What holds of the grammar, each a function whose contract is the law.
-ghost use Rattle.std.specs.Prelude.{◌≡◌, ℕ, List, ◌++◌, IsSome, Some, true};
+ghost use Rattle.std.specs.Prelude.{◌≡◌, ◌≤◌, ◌+◌, ℕ, List, ◌++◌, fold, length, IsSome, Some, true};
+ghost use Rattle.std.specs.List.{concat};
 ghost use Rattle.wt_proto.specs.Bi.{bi_verdict_of};
 ghost use Rattle.wt_proto.specs.ControlWalk.{control_walk_of};
 ghost use Rattle.wt_proto.specs.ResponseWalk.{is_answered, response_walk_of};
+ghost use Rattle.wt_proto.specs.SessionReader.{HasReadSession, SessionReader, session_fed, session_said};
 ghost use Rattle.wt_proto.specs.SessionWalk.{is_over, session_walk_of};
 ghost use Rattle.wt_proto.specs.Uni.{is_final, uni_verdict_of};
 ghost use Rattle.wt_message.specs.declared.settings.Settings.{Settings};
@@ -41,10 +43,18 @@ pub fn settings_stay()
 {}
 
 /// A session's close or fault stays under more bytes and under an end.
-#[tactic(auto, using(crate::proofs::SessionLaws::session_walk_stays))]
+#[tactic(auto, using(crate::proofs::SessionSteady::session_walk_stays))]
 pub fn session_walk_stays()
     ensures { (bytes more : List ℕ) (end : StreamEnd) → is_over (session_walk_of bytes Running) ≡ true →
         session_walk_of (bytes ++ more) end ≡ session_walk_of bytes Running }
+{}
+
+/// The reader of a session's stream says what the walk over all of its bytes says, stands alike however they are cut, and keeps at
+/// most 1,058 of them.
+pub fn session_readers_say_the_walk()
+    ensures says { (r : SessionReader) (bytes : List ℕ) (end : StreamEnd) → HasReadSession r bytes end → session_said r ≡ session_walk_of bytes end }
+    ensures cutting { (r : SessionReader) (pieces others : List (List ℕ)) → concat pieces ≡ concat others → fold session_fed r pieces ≡ fold session_fed r others }
+    ensures few { (r : SessionReader) (bytes : List ℕ) (end : StreamEnd) → HasReadSession r bytes end → length r.headers.kept + length r.capsules.kept ≤ 1058 }
 {}
 
 /// A response or its fault stays under more bytes and under an end.

@@ -1,6 +1,6 @@
 //! What the definitions say of bytes that come from outside: worked rows, each a function whose
 //! contract is the answers.
-#![tactic(auto, unfolding(wt_wire::specs::Varint::varint_at, wt_wire::specs::Varint::varint_bytes, crate::specs::Uni::uni_verdict_of, wt_wire::specs::Frames::frame_at, crate::specs::Bi::bi_decides, crate::specs::Bi::bi_verdict_of, crate::specs::ControlWalk::control_decides, crate::specs::ControlWalk::control_walk_of, crate::specs::SessionWalk::session_decides, crate::specs::SessionWalk::session_walk_of, crate::specs::ResponseWalk::response_decides, crate::specs::ResponseWalk::response_walk_of, wt_message::specs::Settings::pairs_from, wt_message::specs::SettingPair::pair_at, wt_message::specs::Settings::with_pair, wt_message::specs::Capsule::close_value_at, wt_wire::specs::PrefixedInteger::prefixed_at, wt_wire::specs::PrefixedInteger::prefixed_bytes, wt_wire::specs::PrefixedInteger::continuation_at, wt_wire::specs::FieldSection::string_at, wt_wire::specs::FieldSection::line_at, wt_wire::specs::FieldSection::field_lines_from, wt_wire::specs::Utf8::is_text_from, wt_message::specs::Requests::request_of, wt_message::specs::Responses::response_of))]
+#![tactic(auto, unfolding(wt_wire::specs::Varint::varint_at, wt_wire::specs::Varint::varint_bytes, crate::specs::Uni::uni_verdict_of, wt_wire::specs::Frames::frame_at, crate::specs::Bi::bi_decides, crate::specs::Bi::bi_verdict_of, crate::specs::ControlWalk::control_decides, crate::specs::ControlWalk::control_walk_of, crate::specs::SessionWalk::capsule_decides, crate::specs::SessionWalk::session_decides, crate::specs::SessionWalk::session_walk_of, crate::specs::ResponseWalk::response_decides, crate::specs::ResponseWalk::response_walk_of, wt_message::specs::Settings::pairs_from, wt_message::specs::SettingPair::pair_at, wt_message::specs::Settings::with_pair, wt_wire::specs::PrefixedInteger::prefixed_at, wt_wire::specs::PrefixedInteger::prefixed_bytes, wt_wire::specs::PrefixedInteger::continuation_at, wt_wire::specs::FieldSection::string_at, wt_wire::specs::FieldSection::line_at, wt_wire::specs::FieldSection::field_lines_from, wt_wire::specs::Utf8::is_text_from, wt_message::specs::Requests::request_of, wt_message::specs::Responses::response_of))]
 
 ghost use Rattle.std.specs.Prelude.{◌≡◌, ◌∷◌, [], Some, None, codes};
 ghost use Rattle.wt_proto.specs.Bi.{bi_verdict_of};
@@ -50,6 +50,19 @@ pub fn session_rows()
     ensures closed { session_walk_of (0x00 ∷ 0x0a ∷ 0x68 ∷ 0x43 ∷ 0x07 ∷ 0x00 ∷ 0x00 ∷ 0x00 ∷ 0x07 ∷ 0x62 ∷ 0x79 ∷ 0x65 ∷ []) Running ≡ sessions.Closed 7 (codes "bye") }
     ensures ended { session_walk_of (0x21 ∷ 0x00 ∷ []) Fin ≡ sessions.Closed 0 [] }
     ensures incomplete { session_walk_of (0x21 ∷ []) Fin ≡ sessions.Fault errors.ClosedCriticalStream }
+{}
+
+/// Capsules over the payloads of DATA frames.
+pub fn capsules_stand_over_data()
+    ensures cut_anywhere { session_walk_of (0x00 ∷ 0x03 ∷ 0x68 ∷ 0x43 ∷ 0x07 ∷ 0x00 ∷ 0x07 ∷ 0x00 ∷ 0x00 ∷ 0x00 ∷ 0x07 ∷ 0x62 ∷ 0x79 ∷ 0x65 ∷ []) Running ≡ sessions.Closed 7 (codes "bye") }
+    ensures after_another { session_walk_of (0x00 ∷ 0x0c ∷ 0x00 ∷ 0x00 ∷ 0x68 ∷ 0x43 ∷ 0x07 ∷ 0x00 ∷ 0x00 ∷ 0x00 ∷ 0x07 ∷ 0x62 ∷ 0x79 ∷ 0x65 ∷ []) Running ≡ sessions.Closed 7 (codes "bye") }
+    ensures not_whole { session_walk_of (0x00 ∷ 0x03 ∷ 0x68 ∷ 0x43 ∷ 0x07 ∷ []) Running ≡ sessions.Running }
+    ensures end_inside { session_walk_of (0x00 ∷ 0x03 ∷ 0x68 ∷ 0x43 ∷ 0x07 ∷ []) Fin ≡ sessions.Fault errors.Message }
+    ensures end_inside_a_frame { session_walk_of (0x00 ∷ 0x04 ∷ 0x68 ∷ 0x43 ∷ []) Fin ≡ sessions.Fault errors.ClosedCriticalStream }
+    ensures end_between { session_walk_of [] Fin ≡ sessions.Closed 0 [] }
+    ensures of_any_length { session_walk_of (0x00 ∷ 0x50 ∷ 0x01 ∷ []) Running ≡ sessions.Running }
+    ensures too_short { session_walk_of (0x00 ∷ 0x03 ∷ 0x68 ∷ 0x43 ∷ 0x03 ∷ []) Running ≡ sessions.Fault errors.Message }
+    ensures settings { session_walk_of (0x04 ∷ 0x00 ∷ []) Running ≡ sessions.Fault errors.FrameUnexpected }
 {}
 
 /// Walks up to a response.
