@@ -24,10 +24,10 @@ use Rattle.wt_kept.specs.Arriving.{peer_kind}
 use Rattle.wt_kept.specs.Calling.{on_sessions}
 use Rattle.wt_kept.specs.Kept.{DriverNow}
 use Rattle.wt_kept.specs.Windows.{given_stream, with_live}
-use Rattle.wt_next_seam.specs.Typed.{StreamPair, Typed}
-use Rattle.wt_next_seam.specs.declared.stream.BiRemoteWT.{BiRemoteWT}
-use Rattle.wt_next_seam.specs.declared.stream.UniRemoteWT.{UniRemoteWT}
-use Rattle.wt_next_transport.specs.declared.halves.QuicRecvStream.{QuicRecvStream}
+use Rattle.wt_seam.specs.Typed.{StreamPair, Typed}
+use Rattle.wt_seam.specs.declared.stream.BiRemoteWT.{BiRemoteWT}
+use Rattle.wt_seam.specs.declared.stream.UniRemoteWT.{UniRemoteWT}
+use Rattle.wt_transport.specs.declared.halves.QuicRecvStream.{QuicRecvStream}
 use Rattle.wt_peer_streams.specs.Living.{stream_given}
 use Rattle.wt_seam_spec.specs.Streams.{peer_bi, peer_uni}
 use Rattle.wt_sessions.proofs.Indexed.{all-found}

@@ -13,10 +13,10 @@ use Rattle.wt_kept.specs.Looking.{after_walk, is_closed_by_capsule, read_control
 use Rattle.wt_kept.specs.Moment.{head_sent, is_ready_now, own_flushed, own_opened, own_sent}
 use Rattle.wt_kept.specs.Readers.{ControlReading, ReadOn, ReaderRules, Slot, control_rules, read_on, session_rules}
 use Rattle.wt_kept.specs.Windows.{live_in}
-use Rattle.wt_meaning.specs.ControlBytes.{local_control_bytes}
-use Rattle.wt_next_transport.specs.State.{TransportState}
-use Rattle.wt_next_transport.specs.Step.{after_opening, after_send, covered_now, may_open_now, may_send_now, next_id_now, pieces_now, with_action, with_new_stream, with_send}
-use Rattle.wt_next_transport.specs.StreamState.{Stream, fresh, has_stream, row_at, stream_at, stream_in, with_pushed, with_sent}
+use Rattle.wt_message.specs.FixedBytes.{local_control_bytes}
+use Rattle.wt_transport.specs.State.{TransportState}
+use Rattle.wt_transport.specs.Step.{after_opening, after_send, covered_now, may_open_now, may_send_now, next_id_now, pieces_now, with_action, with_new_stream, with_send}
+use Rattle.wt_transport.specs.StreamState.{Stream, fresh, has_stream, row_at, stream_at, stream_in, with_pushed, with_sent}
 use Rattle.wt_peer_streams.proofs.Losing.{Loses, change-loses, classify-loses, finish-retire-loses, loses-both, loses-none, read-loses, reset-retire-loses, set-beyond}
 use Rattle.wt_peer_streams.proofs.Streams.{past-end}
 use Rattle.wt_proto.specs.declared.session_walk.SessionWalk.{SessionWalk}

@@ -14,8 +14,8 @@ use Rattle.wt_kept.specs.Readers.{ControlReading, ReaderRules, Slot, bi_rules, f
 use Rattle.wt_kept.specs.Windows.{live_in}
 use Rattle.wt_message.specs.Datagram.{datagram_of}
 use Rattle.wt_kept.specs.Moment.{with_work}
-use Rattle.wt_next_transport.specs.State.{TransportState}
-use Rattle.wt_next_transport.specs.StreamState.{piece_count}
+use Rattle.wt_transport.specs.State.{TransportState}
+use Rattle.wt_transport.specs.StreamState.{piece_count}
 use Rattle.wt_peer_streams.proofs.Counts.{header-loses}
 use Rattle.wt_peer_streams.proofs.Losing.{Loses}
 use Rattle.wt_peer_streams.proofs.ScanLoop.{over}

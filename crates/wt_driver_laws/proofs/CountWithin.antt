@@ -15,10 +15,10 @@ use Rattle.wt_kept.specs.Calling.{with_datagram_queued, with_turn}
 use Rattle.wt_kept.specs.Counting.{header_pieces, slot_pieces, steps_left, unless_failed, unread_pieces, waiting_pieces}
 use Rattle.wt_kept.specs.Kept.{ArrivingNow, DriverNow}
 use Rattle.wt_kept.specs.Readers.{ReaderRules, Slot, bi_rules, uni_rules}
-use Rattle.wt_next_transport.proofs.Refining.{refined_open}
-use Rattle.wt_next_transport.specs.State.{TransportState}
-use Rattle.wt_next_transport.specs.Step.{after_give_up, fits_now}
-use Rattle.wt_next_transport.specs.StreamState.{Stream, give_up, has_stream, piece_count, stream_at}
+use Rattle.wt_transport.proofs.Refining.{refined_open}
+use Rattle.wt_transport.specs.State.{TransportState}
+use Rattle.wt_transport.specs.Step.{after_give_up, fits_now}
+use Rattle.wt_transport.specs.StreamState.{Stream, give_up, has_stream, piece_count, stream_at}
 use Rattle.wt_peer_streams.proofs.Losing.{change-loses, changed-count, not-changed, other}
 use Rattle.wt_sessions.specs.DriverState.{DriverState, state_of}
 use Rattle.wt_seam_spec.specs.Unread.{ReadPosition}

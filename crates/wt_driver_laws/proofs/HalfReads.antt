@@ -18,12 +18,12 @@ use Rattle.wt_driver_laws.specs.Replies.{done_reply, exact_into, read_exact_repl
 use Rattle.wt_follows.proofs.ReadCalls.{bytes-read-follow}
 use Rattle.wt_follows.proofs.StopCall.{safe-if, stop-follows}
 use Rattle.wt_kept.specs.Kept.{DriverNow}
-use Rattle.wt_next_transport.proofs.HalfLaws.{read_exact_within, read_within}
-use Rattle.wt_next_transport.proofs.Refining.{consume_refines, refined_can_receive, refined_end, refined_open, refined_unread, stop_refines}
-use Rattle.wt_next_transport.specs.HalfRules.{ReceivingHalf, count_of_few, nothing_unread, read_answer, read_count, read_exact_answer, read_exact_count, too_few}
-use Rattle.wt_next_transport.specs.Rules.{receiving_half_now}
-use Rattle.wt_next_transport.specs.State.{Refines, TransportState}
-use Rattle.wt_next_transport.specs.Step.{after_consume, after_give_up, after_stop, can_receive_now, unread_now}
+use Rattle.wt_transport.proofs.HalfLaws.{read_exact_within, read_within}
+use Rattle.wt_transport.proofs.Refining.{consume_refines, refined_can_receive, refined_end, refined_open, refined_unread, stop_refines}
+use Rattle.wt_transport.specs.HalfRules.{ReceivingHalf, count_of_few, nothing_unread, read_answer, read_count, read_exact_answer, read_exact_count, too_few}
+use Rattle.wt_transport.specs.Rules.{receiving_half_now}
+use Rattle.wt_transport.specs.State.{Refines, TransportState}
+use Rattle.wt_transport.specs.Step.{after_consume, after_give_up, after_stop, can_receive_now, unread_now}
 use Rattle.wt_seam_spec.specs.Outgoing.{if_open}
 use Rattle.wt_seam_spec.specs.Reports.{end_of}
 use Rattle.wt_seam_spec.specs.Streams.{contents}

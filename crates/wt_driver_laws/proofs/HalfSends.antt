@@ -18,12 +18,12 @@ use Rattle.wt_follows.proofs.Logs.{same-id}
 use Rattle.wt_follows.proofs.SentFollows.{Harmless}
 use Rattle.wt_follows.specs.Roles.{is_living}
 use Rattle.wt_kept.specs.Kept.{DriverNow}
-use Rattle.wt_next_transport.proofs.HalfLaws.{finishing_refines, sending_answer, sending_kept, write_refines}
-use Rattle.wt_next_transport.proofs.Refining.{refined_can_send, reset_refines}
-use Rattle.wt_next_transport.specs.HalfRules.{SendingHalf, all_unless, all_written, finish_answer, is_closed, priority_answer, reset_answer, stopped_answer, stopped_unless, finish_unless, write_all_answer, write_answer, written_count, written_unless}
-use Rattle.wt_next_transport.specs.Rules.{actions_of_finish, actions_of_write, after_finishing, after_priority_unless_closed, after_reset_unless_closed, after_write, sending_half, sending_half_now}
-use Rattle.wt_next_transport.specs.State.{Refines, TransportState}
-use Rattle.wt_next_transport.specs.Step.{after_priority, after_reset, can_send_now}
+use Rattle.wt_transport.proofs.HalfLaws.{finishing_refines, sending_answer, sending_kept, write_refines}
+use Rattle.wt_transport.proofs.Refining.{refined_can_send, reset_refines}
+use Rattle.wt_transport.specs.HalfRules.{SendingHalf, all_unless, all_written, finish_answer, is_closed, priority_answer, reset_answer, stopped_answer, stopped_unless, finish_unless, write_all_answer, write_answer, written_count, written_unless}
+use Rattle.wt_transport.specs.Rules.{actions_of_finish, actions_of_write, after_finishing, after_priority_unless_closed, after_reset_unless_closed, after_write, sending_half, sending_half_now}
+use Rattle.wt_transport.specs.State.{Refines, TransportState}
+use Rattle.wt_transport.specs.Step.{after_priority, after_reset, can_send_now}
 use Rattle.wt_seam_spec.specs.Joined.{newest_first}
 use Rattle.wt_seam_spec.specs.Outgoing.{actions_to_send, bytes_within_credit, credit_left, may_send}
 use Rattle.wt_seam_spec.specs.Reports.{stop_of}

@@ -15,10 +15,10 @@ use Rattle.wt_follows.specs.Tie as tie
 use Rattle.wt_kept.specs.Calling.{on_sessions}
 use Rattle.wt_kept.specs.Kept.{DriverNow}
 use Rattle.wt_kept.specs.Windows.{joined_by, with_live}
-use Rattle.wt_next_transport.proofs.Refining.{bi_refines, uni_refines}
-use Rattle.wt_next_transport.specs.Kind.{local_kind}
-use Rattle.wt_next_transport.specs.State.{Refines, TransportState}
-use Rattle.wt_next_transport.specs.Step.{after_opening}
+use Rattle.wt_transport.proofs.Refining.{bi_refines, uni_refines}
+use Rattle.wt_transport.specs.Kind.{local_kind}
+use Rattle.wt_transport.specs.State.{Refines, TransportState}
+use Rattle.wt_transport.specs.Step.{after_opening}
 use Rattle.wt_seam_spec.specs.Joined.{newest_first}
 use Rattle.wt_seam_spec.specs.Outgoing.{actions_to_open, may_open, next_id}
 use Rattle.wt_sessions.specs.DriverState.{DriverState, state_of}

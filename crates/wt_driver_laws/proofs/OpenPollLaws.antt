@@ -28,9 +28,9 @@ use Rattle.wt_follows.specs.Tie as tie
 use Rattle.wt_kept.specs.Kept.{DriverNow}
 use Rattle.wt_kept.specs.Windows.{lives_now}
 use Rattle.wt_meaning.specs.Handshakes.{is_nothing}
-use Rattle.wt_next_transport.proofs.HalfLaws.{write_refines}
-use Rattle.wt_next_transport.specs.Rules.{actions_of_write, after_write}
-use Rattle.wt_next_transport.specs.State.{TransportState}
+use Rattle.wt_transport.proofs.HalfLaws.{write_refines}
+use Rattle.wt_transport.specs.Rules.{actions_of_write, after_write}
+use Rattle.wt_transport.specs.State.{TransportState}
 use Rattle.wt_seam_spec.specs.Joined.{newest_first, send_of}
 use Rattle.wt_seam_spec.specs.Outgoing.{actions_to_send, bytes_within_credit, credit_left, may_send}
 use Rattle.wt_sessions.proofs.Turns.{Holds}

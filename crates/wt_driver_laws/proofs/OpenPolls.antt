@@ -12,13 +12,13 @@ use Rattle.wt_follows.proofs.Lists.{not-true}
 use Rattle.wt_kept.specs.Kept.{DriverNow}
 use Rattle.wt_meaning.specs.Handshakes.{is_nothing}
 use Rattle.wt_kept.specs.Windows.{lives_now}
-use Rattle.wt_next_transport.proofs.Bools.{first, second}
-use Rattle.wt_next_transport.proofs.HalfLaws.{sending_answer}
-use Rattle.wt_next_transport.proofs.Refining.{refined_can_send, refined_may_send}
-use Rattle.wt_next_transport.specs.HalfRules.{write_answer, written_count, written_unless}
-use Rattle.wt_next_transport.specs.Rules.{after_write, sending_half, sending_half_now}
-use Rattle.wt_next_transport.specs.State.{TransportState}
-use Rattle.wt_next_transport.specs.Step.{after_send, can_send_now}
+use Rattle.wt_transport.proofs.Bools.{first, second}
+use Rattle.wt_transport.proofs.HalfLaws.{sending_answer}
+use Rattle.wt_transport.proofs.Refining.{refined_can_send, refined_may_send}
+use Rattle.wt_transport.specs.HalfRules.{write_answer, written_count, written_unless}
+use Rattle.wt_transport.specs.Rules.{after_write, sending_half, sending_half_now}
+use Rattle.wt_transport.specs.State.{TransportState}
+use Rattle.wt_transport.specs.Step.{after_send, can_send_now}
 use Rattle.wt_seam_spec.specs.Joined.{send_of}
 use Rattle.wt_seam_spec.specs.Outgoing.{bytes_within_credit, credit_left, may_send}
 use Rattle.wt_seam_spec.specs.Reports.{stop_of}

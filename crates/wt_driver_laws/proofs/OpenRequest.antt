@@ -10,9 +10,9 @@ use Rattle.wt_driver_laws.specs.Opening.{OpensBy, SessionOpened, session_opened_
 use Rattle.wt_driver_laws.specs.Passing.{on_transport}
 use Rattle.wt_kept.specs.Kept.{DriverNow}
 use Rattle.wt_meaning.specs.Lawful.{is_client}
-use Rattle.wt_next_transport.proofs.Refining.{refined_bi, refined_open}
-use Rattle.wt_next_transport.specs.State.{TransportState}
-use Rattle.wt_next_transport.specs.Step.{after_opening, opened_id_now}
+use Rattle.wt_transport.proofs.Refining.{refined_bi, refined_open}
+use Rattle.wt_transport.specs.State.{TransportState}
+use Rattle.wt_transport.specs.Step.{after_opening, opened_id_now}
 use Rattle.wt_seam_spec.specs.Outgoing.{may_open, next_id, opened_id}
 use Rattle.wt_seam_spec.specs.Streams.{local_bi, stream_count}
 use Rattle.wt_sessions.specs.Moment.{Fits}

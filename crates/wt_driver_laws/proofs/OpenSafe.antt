@@ -16,9 +16,9 @@ use Rattle.wt_follows.specs.Roles.{is_arriving, is_critical, is_held, is_living,
 use Rattle.wt_follows.specs.Tie.{Amid, Follows, goes_on_at, header_verdict}
 use Rattle.wt_kept.specs.Kept.{DriverNow}
 use Rattle.wt_meaning.specs.Sends.{action_if}
-use Rattle.wt_next_transport.proofs.Asking.{open_events}
-use Rattle.wt_next_transport.proofs.Bools.{first, second}
-use Rattle.wt_next_transport.specs.Kind.{local_kind}
+use Rattle.wt_transport.proofs.Asking.{open_events}
+use Rattle.wt_transport.proofs.Bools.{first, second}
+use Rattle.wt_transport.specs.Kind.{local_kind}
 use Rattle.wt_seam_spec.specs.Outgoing.{may_open, next_id, streams_allowed}
 use Rattle.wt_seam_spec.specs.Reports.{bis_allowed, credit, unis_allowed}
 use Rattle.wt_seam_spec.specs.Sent.{is_finished, is_reset, sent_on}

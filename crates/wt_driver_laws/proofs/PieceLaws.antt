@@ -10,9 +10,9 @@ use Rattle.wt_kept.specs.Classifying.{with_dispatched}
 use Rattle.wt_kept.specs.Kept.{DispatchedNow, DriverNow, SessionsNow}
 use Rattle.wt_kept.specs.Moment.{with_work}
 use Rattle.wt_message.specs.declared.settings.Settings.{Settings}
-use Rattle.wt_next_transport.specs.HalfRules.{read_count, read_exact_count}
-use Rattle.wt_next_transport.specs.Rules.{after_finishing, after_priority_unless_closed, after_reset_unless_closed, after_write, receiving_half_now}
-use Rattle.wt_next_transport.specs.Step.{after_consume, after_give_up, after_stop, can_receive_now, can_send_now}
+use Rattle.wt_transport.specs.HalfRules.{read_count, read_exact_count}
+use Rattle.wt_transport.specs.Rules.{after_finishing, after_priority_unless_closed, after_reset_unless_closed, after_write, receiving_half_now}
+use Rattle.wt_transport.specs.Step.{after_consume, after_give_up, after_stop, can_receive_now, can_send_now}
 use Rattle.wt_peer_streams.specs.Critical.{control_settings}
 use Rattle.wt_turn.specs.declared.turn.Turn.{Turn}
 use Rattle.wt_wire.specs.declared.addr.Addr.{Addr}

@@ -13,10 +13,10 @@ use Rattle.wt_kept.specs.Moment.{arrivals_step, bis_step, close_step, closed_wit
 use Rattle.wt_kept.specs.Pieces.{FedNow, body_feed, body_fed, body_part, body_part_if, bytes_fit_now, fed_slots, header_fed, header_feed, header_part, moment_if, rest_part, take_piece_now, with_bytes_if, work_after}
 use Rattle.wt_kept.specs.Readers.{ControlReading, ReadOn, ReaderRules, Slot, bi_rules, consumed, control_rules, read_on, reads_on_if, response_rules, session_rules, uni_rules}
 use Rattle.wt_kept.specs.Windows.{AdmissionNow, Admitted, Full, Gone, admit_stream_now, establish_now, live_in}
-use Rattle.wt_meaning.specs.ControlBytes.{local_control_bytes}
-use Rattle.wt_next_transport.specs.Running.{reset_running_now, stop_running_now}
-use Rattle.wt_next_transport.specs.State.{TransportState}
-use Rattle.wt_next_transport.specs.Step.{after_finish, after_give_up, after_stop, can_receive_now, fits_now, may_send_now}
+use Rattle.wt_message.specs.FixedBytes.{local_control_bytes}
+use Rattle.wt_transport.specs.Running.{reset_running_now, stop_running_now}
+use Rattle.wt_transport.specs.State.{TransportState}
+use Rattle.wt_transport.specs.Step.{after_finish, after_give_up, after_stop, can_receive_now, fits_now, may_send_now}
 use Rattle.wt_proto.specs.declared.session_walk.SessionWalk.{SessionWalk}
 use Rattle.wt_proto.specs.declared.session_walk.SessionWalk.TheVariants as walks
 use Rattle.wt_proto.specs.declared.verdict.Verdict.{Verdict}

@@ -10,9 +10,9 @@ use Rattle.wt_driver_laws.specs.Having.{HasSession}
 use Rattle.wt_follows.specs.Tie.{Amid, have_settings_come}
 use Rattle.wt_kept.specs.Kept.{DriverNow, LiveNow}
 use Rattle.wt_kept.specs.Readers.{ControlReading, Slot}
-use Rattle.wt_next_transport.proofs.Asking.{open_connected}
-use Rattle.wt_next_transport.proofs.Refining.{refined_datagram_fact, refined_fits, refined_loss, refined_open}
-use Rattle.wt_next_transport.specs.Step.{fits_now}
+use Rattle.wt_transport.proofs.Asking.{open_connected}
+use Rattle.wt_transport.proofs.Refining.{refined_datagram_fact, refined_fits, refined_loss, refined_open}
+use Rattle.wt_transport.specs.Step.{fits_now}
 use Rattle.wt_peer_streams.specs.Critical.{control_settings}
 use Rattle.wt_seam_spec.specs.Arrivals.{fits}
 use Rattle.wt_seam_spec.specs.Reports.{datagram_fact, is_connected, loss_of}

@@ -29,7 +29,7 @@ use Rattle.wt_kept.specs.Calling.{close_now, refuse_session_now, refused_by}
 use Rattle.wt_kept.specs.Ending.{retire_now}
 use Rattle.wt_kept.specs.Kept.{DriverNow, Refused}
 use Rattle.wt_kept.specs.Moment.{with_work}
-use Rattle.wt_next_transport.specs.Step.{after_close}
+use Rattle.wt_transport.specs.Step.{after_close}
 use Rattle.wt_seam_spec.specs.Joined.{newest_first}
 use Rattle.wt_seam_spec.specs.Streams.{local_count, peer_bi, peer_uni}
 use Rattle.wt_sessions.proofs.LogFollows.{sent-fits}

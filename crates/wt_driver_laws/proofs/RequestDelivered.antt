@@ -21,8 +21,8 @@ use Rattle.wt_kept.specs.Classifying.{with_dispatched}
 use Rattle.wt_kept.specs.Kept.{DispatchedNow, DriverNow, QueuedRequest, RequestsNow}
 use Rattle.wt_kept.specs.Moment.{with_work}
 use Rattle.wt_meaning.specs.Lawful.{is_client}
-use Rattle.wt_next_seam.specs.Typed.{StreamPair, Typed, both}
-use Rattle.wt_next_seam.specs.declared.stream.Session.{Session}
+use Rattle.wt_seam.specs.Typed.{StreamPair, Typed, both}
+use Rattle.wt_seam.specs.declared.stream.Session.{Session}
 use Rattle.wt_peer_streams.specs.Dispatched.{request_given_so}
 use Rattle.wt_proto.specs.declared.verdict.Verdict.{Verdict}
 use Rattle.wt_proto.specs.declared.verdict.Verdict.TheVariants as verdicts

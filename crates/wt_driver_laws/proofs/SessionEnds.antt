@@ -11,7 +11,7 @@ use Rattle.wt_follows.specs.Tie as tie
 use Rattle.wt_follows.specs.Tie.{closed_by}
 use Rattle.wt_kept.specs.Kept.{Closed, DriverNow, Ended, Refused, SessionEndNow}
 use Rattle.wt_kept.specs.Windows.{end_in}
-use Rattle.wt_next_transport.proofs.Refining.{refined_open}
+use Rattle.wt_transport.proofs.Refining.{refined_open}
 use Rattle.wt_sessions.specs.Driver.{call_view, dispatched, is_session_gone, stream_table}
 use Rattle.wt_sessions.specs.DriverState.{state_of}
 use Rattle.wt_sessions.specs.StreamTable.{Dispatched, is_closed, was_established}

@@ -14,7 +14,7 @@ use Rattle.wt_follows.specs.Tie as tie
 use Rattle.wt_kept.specs.Calling.{close_now, driver_at_first, turn_now}
 use Rattle.wt_kept.specs.Kept.{DriverNow}
 use Rattle.wt_meaning.specs.Lawful.{is_client}
-use Rattle.wt_next_transport.proofs.Refining.{refined_actions}
+use Rattle.wt_transport.proofs.Refining.{refined_actions}
 use Rattle.wt_seam_spec.specs.Arrivals.{fits}
 use Rattle.wt_seam_spec.specs.Joined.{joined_actions}
 use Rattle.wt_seam_spec.specs.Outgoing.{if_open}

@@ -12,13 +12,13 @@ use Rattle.wt_driver_laws.specs.Passing.{on_transport, then_finish}
 use Rattle.wt_driver_laws.specs.Writing.{finished_said}
 use Rattle.wt_follows.proofs.SentFollows.{sent-follows}
 use Rattle.wt_kept.specs.Kept.{DriverNow}
-use Rattle.wt_next_seam.specs.Typed.{ready_at_all}
-use Rattle.wt_next_transport.proofs.HalfLaws.{finishing_refines, sending_answer}
-use Rattle.wt_next_transport.proofs.Refining.{refined_can_send}
-use Rattle.wt_next_transport.specs.HalfRules.{finish_answer, finish_unless}
-use Rattle.wt_next_transport.specs.Rules.{actions_of_finish, after_finishing, sending_half_now}
-use Rattle.wt_next_transport.specs.State.{TransportState}
-use Rattle.wt_next_transport.specs.Step.{can_send_now}
+use Rattle.wt_seam.specs.Typed.{ready_at_all}
+use Rattle.wt_transport.proofs.HalfLaws.{finishing_refines, sending_answer}
+use Rattle.wt_transport.proofs.Refining.{refined_can_send}
+use Rattle.wt_transport.specs.HalfRules.{finish_answer, finish_unless}
+use Rattle.wt_transport.specs.Rules.{actions_of_finish, after_finishing, sending_half_now}
+use Rattle.wt_transport.specs.State.{TransportState}
+use Rattle.wt_transport.specs.Step.{can_send_now}
 use Rattle.wt_seam_spec.specs.Reports.{stop_of}
 use Rattle.wt_seam_spec.specs.Sent.{is_finished, is_reset}
 use Rattle.wt_seam_spec.specs.Streams.{can_send, local_uni}

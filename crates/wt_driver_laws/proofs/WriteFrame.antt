@@ -14,15 +14,15 @@ use Rattle.wt_driver_laws.specs.Passing.{on_transport}
 use Rattle.wt_driver_laws.specs.Writing.{FrameWritten, frame_goes_on, frame_written_now}
 use Rattle.wt_follows.proofs.SentFollows.{sent-follows}
 use Rattle.wt_kept.specs.Kept.{DriverNow}
-use Rattle.wt_next_seam.specs.Typed.{can_write_now}
-use Rattle.wt_next_seam.specs.Writing as writing
-use Rattle.wt_next_seam.specs.Writing.{after_pending, pending_answer, write_of}
-use Rattle.wt_next_transport.proofs.HalfLaws.{sending_answer, write_refines}
-use Rattle.wt_next_transport.proofs.Refining.{refined_can_send}
-use Rattle.wt_next_transport.specs.HalfRules.{SendingHalf}
-use Rattle.wt_next_transport.specs.Rules.{actions_of_write, after_write, is_writable, sending_half, sending_half_now}
-use Rattle.wt_next_transport.specs.State.{TransportState}
-use Rattle.wt_next_transport.specs.Step.{can_send_now}
+use Rattle.wt_seam.specs.Typed.{can_write_now}
+use Rattle.wt_seam.specs.Writing as writing
+use Rattle.wt_seam.specs.Writing.{after_pending, pending_answer, write_of}
+use Rattle.wt_transport.proofs.HalfLaws.{sending_answer, write_refines}
+use Rattle.wt_transport.proofs.Refining.{refined_can_send}
+use Rattle.wt_transport.specs.HalfRules.{SendingHalf}
+use Rattle.wt_transport.specs.Rules.{actions_of_write, after_write, is_writable, sending_half, sending_half_now}
+use Rattle.wt_transport.specs.State.{TransportState}
+use Rattle.wt_transport.specs.Step.{can_send_now}
 use Rattle.wt_seam_spec.specs.Joined.{send_of}
 use Rattle.wt_seam_spec.specs.Outgoing.{actions_to_send, bytes_within_credit, credit_left}
 use Rattle.wt_seam_spec.specs.Reports.{stop_of}

@@ -9,7 +9,7 @@ use Rattle.wt_follows.specs.Roles.{is_living}
 use Rattle.wt_follows.specs.Tie.{Follows}
 use Rattle.wt_kept.specs.Kept.{DriverNow}
 use Rattle.wt_meaning.specs.Handshakes.{is_nothing}
-use Rattle.wt_next_transport.specs.Rules.{actions_of_finish, actions_of_write}
+use Rattle.wt_transport.specs.Rules.{actions_of_finish, actions_of_write}
 use Rattle.wt_seam_spec.specs.Joined.{send_of}
 use Rattle.wt_seam_spec.specs.Outgoing.{actions_to_send, bytes_within_credit, may_send}
 use Rattle.wt_seam_spec.specs.Sent.{is_finished, is_reset, sent_on}

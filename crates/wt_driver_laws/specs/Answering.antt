@@ -5,7 +5,7 @@ use Rattle.wt_kept.specs.Kept.{Closed, DispatchedNow, DriverNow, Ended, Refused,
 use Rattle.wt_kept.specs.Moment.{with_work}
 use Rattle.wt_kept.specs.Windows.{end_in}
 use Rattle.wt_message.specs.declared.settings.Settings.{Settings}
-use Rattle.wt_next_transport.specs.Step.{after_dial}
+use Rattle.wt_transport.specs.Step.{after_dial}
 use Rattle.wt_peer_streams.specs.Critical.{control_settings}
 use Rattle.wt_peer_streams.specs.Dispatched.{RequestGiven, request_taken}
 use Rattle.wt_turn.specs.declared.driver_error.DriverError.{DriverError}

@@ -2,7 +2,7 @@
 use Rattle.std.specs.Prelude.{[], ◌-◌, ◌^◌, ◌≡◌, ◌≤◌, List, length, min, take, true, ℕ}
 use Rattle.wt_follows.specs.Tie as tie
 use Rattle.wt_kept.specs.Kept.{DriverNow}
-use Rattle.wt_next_transport.specs.StreamState.{piece_count}
+use Rattle.wt_transport.specs.StreamState.{piece_count}
 use Rattle.wt_sessions.specs.Answers.{is_lawful, log_after}
 use Rattle.wt_turn.specs.Log.{Log, actions_of, with_actions}
 use Rattle.wt_turn.specs.declared.action.Action.{Action}

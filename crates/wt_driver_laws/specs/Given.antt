@@ -4,13 +4,13 @@ use Rattle.wt_kept.specs.Calling.{on_sessions}
 use Rattle.wt_kept.specs.Kept.{DriverNow, WaitingDatagram}
 use Rattle.wt_kept.specs.Windows.{first_datagram, first_stream_id, live_in}
 use Rattle.wt_driver_laws.specs.Answering.{polled_by}
-use Rattle.wt_next_seam.specs.Typed.{StreamPair, Typed, both}
-use Rattle.wt_next_seam.specs.Writing.{nothing_begun}
-use Rattle.wt_next_seam.specs.declared.next_frame.FrameSource.TheVariants as sources
-use Rattle.wt_next_seam.specs.declared.stream.Session.{Session}
-use Rattle.wt_next_seam.specs.declared.stream.BiRemoteWT.{BiRemoteWT}
-use Rattle.wt_next_seam.specs.declared.stream.UniRemoteWT.{UniRemoteWT}
-use Rattle.wt_next_transport.specs.declared.halves.QuicRecvStream.{QuicRecvStream}
+use Rattle.wt_seam.specs.Typed.{StreamPair, Typed, both}
+use Rattle.wt_seam.specs.Writing.{nothing_begun}
+use Rattle.wt_seam.specs.declared.next_frame.FrameSource.TheVariants as sources
+use Rattle.wt_seam.specs.declared.stream.Session.{Session}
+use Rattle.wt_seam.specs.declared.stream.BiRemoteWT.{BiRemoteWT}
+use Rattle.wt_seam.specs.declared.stream.UniRemoteWT.{UniRemoteWT}
+use Rattle.wt_transport.specs.declared.halves.QuicRecvStream.{QuicRecvStream}
 use Rattle.wt_proto.specs.WalkProgress.{at_item}
 use Rattle.wt_wire.specs.HeaderList.{Fields}
 use Rattle.wt_peer_streams.specs.Living.{datagrams_of, stream_given, streams_of_live}

@@ -26,9 +26,9 @@ use Rattle.wt_turn.specs.declared.poll.Poll.{Poll}
 use Rattle.wt_turn.specs.declared.poll.Poll.TheVariants.{Pending, Ready}
 use Rattle.wt_turn.specs.declared.proto_error.ProtoWriteError.{ProtoWriteError}
 use Rattle.wt_turn.specs.declared.proto_error.ProtoWriteError.TheVariants as writes
-use Rattle.wt_next_seam.specs.Typed.{StreamPair, Typed, both}
-use Rattle.wt_next_seam.specs.Writing.{nothing_begun}
-use Rattle.wt_next_seam.specs.declared.stream.Session.{Session}
+use Rattle.wt_seam.specs.Typed.{StreamPair, Typed, both}
+use Rattle.wt_seam.specs.Writing.{nothing_begun}
+use Rattle.wt_seam.specs.declared.stream.Session.{Session}
 use Rattle.wt_wire.specs.HeaderList.{Fields}
 use Rattle.wt_wire.specs.declared.side.Side.{Side}
 

@@ -9,10 +9,10 @@ use Rattle.wt_kept.specs.Calling.{on_sessions}
 use Rattle.wt_kept.specs.Kept.{DriverNow}
 use Rattle.wt_kept.specs.Windows.{joined_by, lives_now, with_live}
 use Rattle.wt_meaning.specs.Lawful.{is_client}
-use Rattle.wt_next_seam.specs.Typed.{StreamPair, Typed}
-use Rattle.wt_next_seam.specs.declared.stream.Session.{Session}
-use Rattle.wt_next_transport.specs.Kind.{local_kind}
-use Rattle.wt_next_transport.specs.Step.{after_opening, opened_id_now}
+use Rattle.wt_seam.specs.Typed.{StreamPair, Typed}
+use Rattle.wt_seam.specs.declared.stream.Session.{Session}
+use Rattle.wt_transport.specs.Kind.{local_kind}
+use Rattle.wt_transport.specs.Step.{after_opening, opened_id_now}
 use Rattle.wt_seam_spec.specs.Streams.{local_bi}
 use Rattle.wt_sessions.specs.Connection.{stream_header}
 use Rattle.wt_turn.specs.Log.{Log}

@@ -3,10 +3,10 @@
 use Rattle.std.specs.Prelude.{◌++◌, Err, List, Option, Result, drop, if◌then◌else◌, length, take, ℕ, ℤ}
 use Rattle.wt_kept.specs.Kept.{DriverNow}
 use Rattle.wt_kept.specs.Moment.{with_work}
-use Rattle.wt_next_transport.specs.HalfRules.{finish_answer, priority_answer, read_answer, read_count, read_exact_answer, read_exact_count, reset_answer, stopped_answer, write_all_answer, write_answer}
-use Rattle.wt_next_transport.specs.Rules.{after_finishing, after_priority_unless_closed, after_reset_unless_closed, after_write, receiving_half_now, sending_half_now}
-use Rattle.wt_next_transport.specs.State.{TransportState}
-use Rattle.wt_next_transport.specs.Step.{after_consume, after_give_up, after_stop, can_receive_now, can_send_now, unread_now}
+use Rattle.wt_transport.specs.HalfRules.{finish_answer, priority_answer, read_answer, read_count, read_exact_answer, read_exact_count, reset_answer, stopped_answer, write_all_answer, write_answer}
+use Rattle.wt_transport.specs.Rules.{after_finishing, after_priority_unless_closed, after_reset_unless_closed, after_write, receiving_half_now, sending_half_now}
+use Rattle.wt_transport.specs.State.{TransportState}
+use Rattle.wt_transport.specs.Step.{after_consume, after_give_up, after_stop, can_receive_now, can_send_now, unread_now}
 use Rattle.wt_turn.specs.declared.poll.Poll.{Poll}
 use Rattle.wt_turn.specs.declared.poll.Poll.TheVariants.{Ready}
 use Rattle.wt_turn.specs.declared.stream_error.ClosedStream.{ClosedStream}

@@ -4,12 +4,12 @@ use Rattle.wt_driver_laws.specs.Passing.{on_transport}
 use Rattle.wt_kept.specs.Kept.{DriverNow}
 use Rattle.wt_kept.specs.Windows.{lives_now}
 use Rattle.wt_message.specs.Datagram.{datagram_bytes}
-use Rattle.wt_next_seam.specs.Typed.{can_write_now, ready_at_all}
-use Rattle.wt_next_seam.specs.Writing as writing
-use Rattle.wt_next_transport.specs.HalfRules.{finish_answer}
-use Rattle.wt_next_transport.specs.Rules.{after_write, sending_half_now}
-use Rattle.wt_next_transport.specs.State.{TransportState}
-use Rattle.wt_next_transport.specs.Step.{can_send_now, with_action}
+use Rattle.wt_seam.specs.Typed.{can_write_now, ready_at_all}
+use Rattle.wt_seam.specs.Writing as writing
+use Rattle.wt_transport.specs.HalfRules.{finish_answer}
+use Rattle.wt_transport.specs.Rules.{after_write, sending_half_now}
+use Rattle.wt_transport.specs.State.{TransportState}
+use Rattle.wt_transport.specs.Step.{can_send_now, with_action}
 use Rattle.wt_turn.specs.declared.action.Action.TheVariants as actions
 use Rattle.wt_turn.specs.declared.datagram_fact.DatagramFact.{DatagramFact}
 use Rattle.wt_turn.specs.declared.datagram_fact.DatagramFact.TheVariants as facts

@@ -18,8 +18,8 @@ use Rattle.wt_kept.specs.Kept.{DriverNow, GoneNow, LiveNow, SessionsNow}
 use Rattle.wt_kept.specs.Readers.{ResponseReading, Slot, response_rules}
 use Rattle.wt_kept.specs.Windows.{end_in, is_gone_in, is_gone_now, is_live, lives_now}
 use Rattle.wt_meaning.specs.Lawful.{is_client}
-use Rattle.wt_next_transport.proofs.Refining.{actions-contents, refined_side}
-use Rattle.wt_next_transport.specs.State.{IsWithin}
+use Rattle.wt_transport.proofs.Refining.{actions-contents, refined_side}
+use Rattle.wt_transport.specs.State.{IsWithin}
 use Rattle.wt_proto.specs.Bi.{bi_verdict_of}
 use Rattle.wt_proto.specs.ResponseWalk.{response_walk_of}
 use Rattle.wt_proto.specs.Uni.{uni_verdict_of}

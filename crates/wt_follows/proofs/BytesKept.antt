@@ -13,10 +13,10 @@ use Rattle.wt_follows.specs.Tie.{Amid, ArrivingFollows, AtHeader, ControlFollows
 use Rattle.wt_kept.specs.Arriving.{arrived_count, peer_kind, slots_of}
 use Rattle.wt_kept.specs.Kept.{ArrivingNow, DriverNow, LiveNow}
 use Rattle.wt_kept.specs.Readers.{ControlReading, ReaderRules, ResponseReading, Slot, bi_rules, control_rules, response_rules, session_rules, uni_rules}
-use Rattle.wt_next_transport.proofs.Asking.{refined_peer_bis, refined_peer_unis}
-use Rattle.wt_next_transport.proofs.Refining.{bytes_refine, refined_bytes_fit, refined_side}
-use Rattle.wt_next_transport.specs.State.{Refines, TransportState}
-use Rattle.wt_next_transport.specs.Step.{after_bytes, count_now, may_receive_now}
+use Rattle.wt_transport.proofs.Asking.{refined_peer_bis, refined_peer_unis}
+use Rattle.wt_transport.proofs.Refining.{bytes_refine, refined_bytes_fit, refined_side}
+use Rattle.wt_transport.specs.State.{Refines, TransportState}
+use Rattle.wt_transport.specs.Step.{after_bytes, count_now, may_receive_now}
 use Rattle.wt_proto.proofs.BiLaws.{bi_verdict_stays}
 use Rattle.wt_proto.proofs.UniLaws.{uni_verdict_stays}
 use Rattle.wt_proto.specs.Bi.{bi_verdict_of}

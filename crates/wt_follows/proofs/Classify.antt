@@ -26,7 +26,7 @@ use Rattle.wt_kept.specs.Ending.{retire_now}
 use Rattle.wt_kept.specs.Kept.{LiveNow, Refused, WorkNow}
 use Rattle.wt_kept.specs.Readers.{ControlReading, Slot, control_rules}
 use Rattle.wt_kept.specs.Windows.{Admits}
-use Rattle.wt_next_transport.proofs.Bools.{first, second}
+use Rattle.wt_transport.proofs.Bools.{first, second}
 use Rattle.wt_proto.specs.ControlWalk.{control_walk_of}
 use Rattle.wt_proto.specs.Uni.{is_final}
 use Rattle.wt_proto.specs.declared.control_walk.ControlWalk.{ControlWalk}

@@ -5,8 +5,8 @@ use Rattle.wt_follows.proofs.SentFollows.{Harmless, sent-follows}
 use Rattle.wt_follows.specs.Tie.{Follows}
 use Rattle.wt_kept.specs.Calling.{close_now}
 use Rattle.wt_kept.specs.Kept.{DriverNow}
-use Rattle.wt_next_transport.proofs.Refining.{close_refines}
-use Rattle.wt_next_transport.specs.Step.{after_close}
+use Rattle.wt_transport.proofs.Refining.{close_refines}
+use Rattle.wt_transport.specs.Step.{after_close}
 use Rattle.wt_seam_spec.specs.Joined.{newest_first}
 use Rattle.wt_seam_spec.specs.Outgoing.{if_open}
 use Rattle.wt_sessions.specs.DriverState.{state_of}

@@ -7,9 +7,9 @@ use Rattle.wt_follows.proofs.StreamEnds.{actions-append}
 use Rattle.wt_follows.specs.Tie.{Amid, Keeps, OwnFollows, Sends, WorkAmid, goes}
 use Rattle.wt_kept.specs.Kept.{DriverNow}
 use Rattle.wt_kept.specs.Moment.{close_step, closed_with, with_work, without_datagrams}
-use Rattle.wt_next_transport.proofs.Refining.{close_refines, refined_open}
-use Rattle.wt_next_transport.specs.State.{Refines, TransportState}
-use Rattle.wt_next_transport.specs.Step.{after_close}
+use Rattle.wt_transport.proofs.Refining.{close_refines, refined_open}
+use Rattle.wt_transport.specs.State.{Refines, TransportState}
+use Rattle.wt_transport.specs.Step.{after_close}
 use Rattle.wt_seam_spec.specs.Joined.{newest_first}
 use Rattle.wt_seam_spec.specs.Reports.{unis_allowed}
 use Rattle.wt_seam_spec.specs.Unread.{ReadPosition}

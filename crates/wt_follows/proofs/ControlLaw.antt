@@ -16,7 +16,7 @@ use Rattle.wt_proto.specs.WalkProgress.{IsProper, WalkProgress, progress_after, 
 use Rattle.wt_proto.specs.declared.control_walk.ControlWalk.{ControlWalk}
 use Rattle.wt_proto.specs.declared.walk.Step.{Step}
 use Rattle.wt_proto.specs.declared.walk.Step.TheVariants.{Cut, Goes, Stops}
-use Rattle.wt_sessions.proofs.SessionReader.{progress-proper}
+use Rattle.wt_proto.proofs.SessionReaderLaws.{progress-proper}
 use Rattle.wt_wire.specs.Frames as frames
 use Rattle.wt_wire.specs.declared.error.ErrorCode.{ErrorCode}
 use Rattle.wt_wire.specs.declared.error.ErrorCode.TheVariants.{ExcessiveLoad, FrameUnexpected, MissingSettings}

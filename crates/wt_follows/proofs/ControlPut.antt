@@ -28,7 +28,7 @@ use Rattle.wt_follows.specs.Tie.{Amid, ArrivingFollows, ControlFollows, Keeps, R
 use Rattle.wt_kept.specs.Kept.{DispatchedNow, DriverNow}
 use Rattle.wt_kept.specs.Pieces.{fed_by}
 use Rattle.wt_kept.specs.Readers.{ControlReading, Slot, bi_rules, control_rules, fed_piece, taken, uni_rules}
-use Rattle.wt_next_transport.proofs.Bools.{first}
+use Rattle.wt_transport.proofs.Bools.{first}
 use Rattle.wt_proto.specs.Bi.{bi_verdict_of}
 use Rattle.wt_proto.specs.ControlWalk.{control_walk_of}
 use Rattle.wt_proto.specs.Uni.{uni_verdict_of}

@@ -22,7 +22,7 @@ use Rattle.wt_kept.specs.Kept.{DriverNow, WorkNow}
 use Rattle.wt_kept.specs.Looking.{fail_if_closed, has_ended, check_qpack_now, control_read, read_control, read_control_by, unless_fault}
 use Rattle.wt_kept.specs.Moment.{control_step}
 use Rattle.wt_kept.specs.Readers.{ControlReading, Slot, control_rules, read_on}
-use Rattle.wt_next_transport.specs.State.{Refines, TransportState}
+use Rattle.wt_transport.specs.State.{Refines, TransportState}
 use Rattle.wt_proto.specs.ControlWalk.{control_walk_of}
 use Rattle.wt_proto.specs.declared.control_walk.ControlWalk.{ControlWalk}
 use Rattle.wt_seam_spec.specs.Reports.{end_of, is_running}

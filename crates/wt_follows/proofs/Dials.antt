@@ -4,8 +4,8 @@ use Rattle.wt_follows.proofs.SentFollows.{Harmless, sent-follows}
 use Rattle.wt_follows.specs.Tie.{Follows}
 use Rattle.wt_kept.specs.Kept.{DriverNow}
 use Rattle.wt_kept.specs.Moment.{with_work}
-use Rattle.wt_next_transport.proofs.Refining.{collected_refines, dial_refines}
-use Rattle.wt_next_transport.specs.Step.{after_dial}
+use Rattle.wt_transport.proofs.Refining.{collected_refines, dial_refines}
+use Rattle.wt_transport.specs.Step.{after_dial}
 use Rattle.wt_seam_spec.specs.Joined.{newest_first}
 use Rattle.wt_sessions.specs.DriverState.{DriverState, state_of}
 use Rattle.wt_sessions.specs.Moment.{Fits}

@@ -5,7 +5,7 @@ use Rattle.std.specs.Prelude.{Option, Some, None, Result, Ok, Err, ◌==◌, ◌
 use Rattle.wt_follows.proofs.Lists.{distinct-sub, flip, refuted}
 use Rattle.wt_follows.specs.Roles.{AreDistinct, is_in}
 use Rattle.wt_message.specs.Datagram.{datagram_of}
-use Rattle.wt_meaning.specs.SessionWalk.{is_over, session_walk_of}
+use Rattle.wt_proto.specs.SessionWalk.{is_over, session_walk_of}
 use Rattle.wt_proto.specs.Bi.{bi_verdict_of}
 use Rattle.wt_proto.specs.Uni.{uni_verdict_of}
 use Rattle.wt_proto.specs.declared.session_walk.SessionWalk.{SessionWalk}

@@ -29,8 +29,8 @@ use Rattle.wt_kept.specs.Kept.{DriverNow, Ended, LiveNow, Refused, WorkNow}
 use Rattle.wt_kept.specs.Readers.{ControlReading, Slot, bi_rules, uni_rules}
 use Rattle.wt_kept.specs.Moment.{with_work}
 use Rattle.wt_kept.specs.Windows.{is_live, lives_now}
-use Rattle.wt_meaning.specs.ControlBytes.{local_control_bytes}
-use Rattle.wt_next_transport.proofs.Refining.{actions-contents, refined_open}
+use Rattle.wt_message.specs.FixedBytes.{local_control_bytes}
+use Rattle.wt_transport.proofs.Refining.{actions-contents, refined_open}
 use Rattle.wt_seam_spec.specs.Joined.{newest_first}
 use Rattle.wt_seam_spec.specs.Reports.{credit, is_connected, unis_allowed}
 use Rattle.wt_seam_spec.specs.Streams.{contents, local_bi, local_uni, peer_bi, peer_uni}

@@ -6,7 +6,7 @@ use Rattle.wt_follows.specs.Tie.{ArrivingFollows, Keeps, ReaderAt, SlotsAt}
 use Rattle.wt_kept.specs.Arriving.{arrived_count, fresh_slot, fresh_slots, peer_kind, slots_of}
 use Rattle.wt_kept.specs.Kept.{ArrivingNow, DispatchedNow}
 use Rattle.wt_kept.specs.Readers.{ReaderRules, Slot}
-use Rattle.wt_next_transport.specs.State.{TransportState}
+use Rattle.wt_transport.specs.State.{TransportState}
 use Rattle.wt_seam_spec.specs.Unread.{AtOffset, ReadPosition}
 use Rattle.wt_sessions.specs.DriverState.{DriverState}
 

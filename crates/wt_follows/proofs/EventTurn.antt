@@ -9,8 +9,8 @@ use Rattle.wt_follows.specs.Tie.{Amid, Follows, goes}
 use Rattle.wt_kept.specs.Calling.{lawful_turn, open_turn, turn_now, with_datagram_queued, with_turn}
 use Rattle.wt_kept.specs.Kept.{DriverNow}
 use Rattle.wt_kept.specs.Moment.{moment_now, without_datagrams, work_of_moment}
-use Rattle.wt_next_transport.proofs.Refining.{refined_open}
-use Rattle.wt_next_transport.specs.Step.{fits_now}
+use Rattle.wt_transport.proofs.Refining.{refined_open}
+use Rattle.wt_transport.specs.Step.{fits_now}
 use Rattle.wt_seam_spec.specs.Joined.{newest_first}
 use Rattle.wt_seam_spec.specs.Reports.{datagrams_of}
 use Rattle.wt_sessions.specs.Driver.{log_and_flush, transport_view}

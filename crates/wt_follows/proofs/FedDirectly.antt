@@ -7,8 +7,8 @@ use Rattle.wt_seam_spec.specs.Arrivals.{log_bytes}
 use Rattle.wt_seam_spec.specs.Reports.{initial_credit}
 use Rattle.wt_seam_spec.specs.Streams.{contents, stream_count}
 use Rattle.wt_seam_spec.specs.Unread.{AtOffset, GivenUp, ReadPosition, advance, from_position, is_given_up, position_after, unread}
-use Rattle.wt_next_transport.specs.StreamState.{Stream, rows}
-use Rattle.wt_next_transport.specs.State.{Holds, IsStream, IsWithin, Refines, TransportState, state_of, stream_of}
+use Rattle.wt_transport.specs.StreamState.{Stream, rows}
+use Rattle.wt_transport.specs.State.{Holds, IsStream, IsWithin, Refines, TransportState, state_of, stream_of}
 use Rattle.wt_turn.specs.Log.{Log, Received, all_events_of}
 use Rattle.wt_turn.specs.declared.action.Action.{Action}
 use Rattle.wt_wire.specs.declared.side.Side.{Side}

@@ -5,7 +5,7 @@ use Rattle.wt_follows.proofs.Logs.{by-id, differs}
 use Rattle.wt_follows.specs.Roles.{AreDistinct, IsApart, IsSessions, Roles, is_arriving, is_critical, is_held, is_in, is_living, is_member, waits}
 use Rattle.wt_follows.specs.Tie.{AtHeader, ControlFollows, IsUntouched, Keeps, Placed, Sends, SessionsFollow, There, WorkAmid, goes, rests_at_header}
 use Rattle.wt_kept.specs.Kept.{DispatchedNow, WorkNow}
-use Rattle.wt_next_transport.proofs.Bools.{first}
+use Rattle.wt_transport.proofs.Bools.{first}
 use Rattle.wt_seam_spec.specs.Streams.{can_receive, contents, exists, local_uni}
 use Rattle.wt_seam_spec.specs.Unread.{ReadPosition}
 use Rattle.wt_sessions.specs.Driver.{still_sends}

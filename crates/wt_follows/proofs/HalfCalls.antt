@@ -10,9 +10,9 @@ use Rattle.wt_follows.proofs.Unnoticed.{unnoticed-follows}
 use Rattle.wt_follows.specs.Roles.{is_living, is_member}
 use Rattle.wt_follows.specs.Tie.{Follows}
 use Rattle.wt_kept.specs.Kept.{DriverNow}
-use Rattle.wt_next_transport.proofs.Refining.{finish_refines, priority_refines, reset_refines, send_refines}
-use Rattle.wt_next_transport.specs.State.{Refines, TransportState}
-use Rattle.wt_next_transport.specs.Step.{after_finish, after_priority, after_reset, after_send, can_send_now, may_send_now}
+use Rattle.wt_transport.proofs.Refining.{finish_refines, priority_refines, reset_refines, send_refines}
+use Rattle.wt_transport.specs.State.{Refines, TransportState}
+use Rattle.wt_transport.specs.Step.{after_finish, after_priority, after_reset, after_send, can_send_now, may_send_now}
 use Rattle.wt_seam_spec.specs.Joined.{newest_first, send_of}
 use Rattle.wt_seam_spec.specs.Outgoing.{actions_to_send, bytes_within_credit}
 use Rattle.wt_seam_spec.specs.Sent.{is_finished, is_reset, sent_on}

@@ -6,12 +6,12 @@ use Rattle.wt_follows.proofs.Unnoticed.{unnoticed-follows}
 use Rattle.wt_follows.specs.Roles.{is_living}
 use Rattle.wt_follows.specs.Tie.{Follows}
 use Rattle.wt_kept.specs.Kept.{DriverNow}
-use Rattle.wt_next_transport.proofs.HalfLaws.{sending_kept}
-use Rattle.wt_next_transport.proofs.Refining.{refined_can_send, refined_may_send}
-use Rattle.wt_next_transport.specs.HalfRules.{is_closed}
-use Rattle.wt_next_transport.specs.Rules.{actions_of_finish, actions_of_reset, actions_of_write, after_finishing, after_priority_unless_closed, after_reset_unless_closed, after_write, sending_half_now}
-use Rattle.wt_next_transport.specs.State.{TransportState}
-use Rattle.wt_next_transport.specs.Step.{after_finish, after_priority, after_reset, after_send, can_send_now, may_send_now}
+use Rattle.wt_transport.proofs.HalfLaws.{sending_kept}
+use Rattle.wt_transport.proofs.Refining.{refined_can_send, refined_may_send}
+use Rattle.wt_transport.specs.HalfRules.{is_closed}
+use Rattle.wt_transport.specs.Rules.{actions_of_finish, actions_of_reset, actions_of_write, after_finishing, after_priority_unless_closed, after_reset_unless_closed, after_write, sending_half_now}
+use Rattle.wt_transport.specs.State.{TransportState}
+use Rattle.wt_transport.specs.Step.{after_finish, after_priority, after_reset, after_send, can_send_now, may_send_now}
 use Rattle.wt_seam_spec.specs.Joined.{newest_first}
 use Rattle.wt_seam_spec.specs.Outgoing.{actions_to_send, may_send}
 use Rattle.wt_seam_spec.specs.Reports.{stop_of}

@@ -28,7 +28,7 @@ use Rattle.wt_follows.specs.Tie.{Amid, ArrivingFollows, ControlFollows, Keeps, S
 use Rattle.wt_kept.specs.Kept.{DriverNow, LiveNow}
 use Rattle.wt_kept.specs.Pieces.{FedNow, fed_at, fed_by, fed_slots, header_fed, header_feed, slot_of}
 use Rattle.wt_kept.specs.Readers.{BiReading, ControlReading, Slot, UniReading, bi_rules, fed_piece, taken, uni_rules}
-use Rattle.wt_next_transport.proofs.Bools.{first}
+use Rattle.wt_transport.proofs.Bools.{first}
 use Rattle.wt_proto.specs.Bi.{bi_verdict_of}
 use Rattle.wt_proto.specs.Uni.{is_final, uni_verdict_of}
 use Rattle.wt_proto.specs.declared.verdict.Verdict.TheVariants as verdicts

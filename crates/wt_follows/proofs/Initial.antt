@@ -8,8 +8,8 @@ use Rattle.wt_kept.specs.Arriving.{none_arriving}
 use Rattle.wt_kept.specs.Calling.{driver_at_first}
 use Rattle.wt_kept.specs.Kept.{DriverNow}
 use Rattle.wt_kept.specs.Readers.{bi_rules, uni_rules}
-use Rattle.wt_next_transport.proofs.Refining.{new_refines}
-use Rattle.wt_next_transport.specs.Step.{nothing_connected}
+use Rattle.wt_transport.proofs.Refining.{new_refines}
+use Rattle.wt_transport.specs.Step.{nothing_connected}
 use Rattle.wt_seam_spec.specs.Streams.{contents}
 use Rattle.wt_seam_spec.specs.Unread.{at_start}
 use Rattle.wt_sessions.specs.Driver.{call_view, control_sent, stream_table, transport_view}

@@ -3,7 +3,7 @@ use Rattle.std.proofs.Common.{◌∙◌, ◌≡◌, ◌++◌, ◌∷◌, Bool, I
 use Rattle.std.specs.Prelude.{◌==◌, if◌then◌else◌, unwrap_or}
 use Rattle.wt_kept.specs.Readers.{ReaderRules, bi_rules, control_rules, session_rules, uni_rules, walk_rules}
 use Rattle.wt_message.specs.declared.settings.Settings.{Settings}
-use Rattle.wt_meaning.specs.SessionWalk.{SessionProgress, is_over, session_at_end, session_start, session_unfinished, session_walk_of}
+use Rattle.wt_proto.specs.SessionWalk.{SessionProgress, is_over, session_at_end, session_start, session_unfinished, session_walk_of}
 use Rattle.wt_proto.proofs.BiReading.{bi_lawful}
 use Rattle.wt_proto.proofs.ControlReading.{control_lawful}
 use Rattle.wt_proto.proofs.ProgressLaws.{fed-append, walk-progress}
@@ -20,10 +20,10 @@ use Rattle.wt_proto.specs.declared.control_walk.ControlWalk.{ControlWalk}
 use Rattle.wt_proto.specs.declared.session_walk.SessionWalk.{SessionWalk}
 use Rattle.wt_proto.specs.declared.walk.Step.{Step}
 use Rattle.wt_seam_spec.specs.Reports.{is_running}
-use Rattle.wt_sessions.proofs.SessionPieces.{stop_over}
-use Rattle.wt_sessions.proofs.SessionReader.{fed-follows, session_reader_says, start-follows}
-use Rattle.wt_sessions.proofs.SessionSteady.{session_walk_stays}
-use Rattle.wt_sessions.specs.SessionReader.{Faulty, HeaderWalk, IsSettled, Payload, SessionReader, Waiting, byte_fed, byte_step, past_frames, session_ended, session_fed, session_reader, session_said, stop_in}
+use Rattle.wt_proto.proofs.SessionPieces.{stop_over}
+use Rattle.wt_proto.proofs.SessionReaderLaws.{fed-follows, session_reader_says, start-follows}
+use Rattle.wt_proto.proofs.SessionSteady.{session_walk_stays}
+use Rattle.wt_proto.specs.SessionReader.{Faulty, HeaderWalk, IsSettled, Payload, SessionReader, Waiting, byte_fed, byte_step, past_frames, session_ended, session_fed, session_reader, session_said, stop_in}
 use Rattle.wt_proto.specs.declared.session_walk.SessionWalk.TheVariants as walks
 use Rattle.wt_wire.specs.declared.error.ErrorCode.TheVariants.{ClosedCriticalStream}
 use Rattle.wt_wire.specs.declared.side.StreamEnd.{StreamEnd}

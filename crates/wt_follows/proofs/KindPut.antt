@@ -20,7 +20,7 @@ use Rattle.wt_kept.specs.Arriving.{arrived_count, fresh_slots, peer_kind, slots_
 use Rattle.wt_kept.specs.Kept.{ArrivingNow}
 use Rattle.wt_kept.specs.Pieces.{fed_slots, slot_of}
 use Rattle.wt_kept.specs.Readers.{ReaderRules, Slot, fed_piece, taken}
-use Rattle.wt_next_transport.specs.State.{TransportState}
+use Rattle.wt_transport.specs.State.{TransportState}
 use Rattle.wt_proto.specs.Uni.{is_final}
 use Rattle.wt_proto.specs.declared.verdict.Verdict.{Verdict}
 use Rattle.wt_proto.specs.declared.verdict.Verdict.TheVariants as verdicts

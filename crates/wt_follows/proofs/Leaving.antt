@@ -24,8 +24,8 @@ use Rattle.wt_kept.specs.Kept.{DriverNow, LiveNow}
 use Rattle.wt_kept.specs.Pieces.{FedNow, body_feed, body_feed_by, control_slot, fed_at, fed_by, header_feed, slot_of, take_piece_now}
 use Rattle.wt_kept.specs.Readers.{BiReading, ControlReading, Slot, UniReading, bi_rules, control_rules, session_rules, uni_rules}
 use Rattle.wt_kept.specs.Windows.{live_in}
-use Rattle.wt_meaning.specs.SessionWalk.{is_over, session_walk_of}
-use Rattle.wt_next_transport.proofs.Refining.{actions-contents}
+use Rattle.wt_proto.specs.SessionWalk.{is_over, session_walk_of}
+use Rattle.wt_transport.proofs.Refining.{actions-contents}
 use Rattle.wt_proto.specs.Bi.{bi_verdict_of}
 use Rattle.wt_proto.specs.ControlWalk.{control_walk_of}
 use Rattle.wt_proto.specs.Uni.{is_final, uni_verdict_of}

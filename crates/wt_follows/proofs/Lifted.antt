@@ -9,9 +9,9 @@ use Rattle.wt_follows.specs.Tie.{Amid, ArrivingFollows, OwnFollows, ReaderAt, Sl
 use Rattle.wt_kept.specs.Arriving.{arrived_count, fresh_slots, peer_kind, slots_of}
 use Rattle.wt_kept.specs.Kept.{ArrivingNow, DriverNow, WorkNow}
 use Rattle.wt_kept.specs.Readers.{ReaderRules, Slot, bi_rules, read_on, reads_on_if, taken_by, uni_rules}
-use Rattle.wt_next_transport.proofs.Refining.{refined_side}
-use Rattle.wt_next_transport.specs.State.{TransportState}
-use Rattle.wt_next_transport.specs.Step.{count_now, unread_now}
+use Rattle.wt_transport.proofs.Refining.{refined_side}
+use Rattle.wt_transport.specs.State.{TransportState}
+use Rattle.wt_transport.specs.Step.{count_now, unread_now}
 use Rattle.wt_seam_spec.specs.Reports.{datagrams_of}
 use Rattle.wt_seam_spec.specs.Streams.{contents}
 use Rattle.wt_seam_spec.specs.Unread.{ReadPosition}

@@ -1,7 +1,7 @@
 -- No more datagrams were looked at than came.
 use Rattle.std.proofs.Common.{◌*◌, ◌+◌, ◌≡◌, ◌≤◌, ◌∷◌, Bool, List, None, Option, Some, [], arith, drop, false, length, length-append, length-drop, refl, suc, true, ℕ}
 use Rattle.std.specs.Prelude.{Err, Ok, Result, ◌&&◌, if◌then◌else◌}
-use Rattle.wt_meaning.specs.SessionWalk.{is_over, session_walk_of}
+use Rattle.wt_proto.specs.SessionWalk.{is_over, session_walk_of}
 use Rattle.wt_message.specs.Datagram.{datagram_of}
 use Rattle.wt_proto.specs.Bi.{bi_verdict_of}
 use Rattle.wt_proto.specs.Uni.{uni_verdict_of}

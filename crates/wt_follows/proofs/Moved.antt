@@ -8,7 +8,7 @@ use Rattle.wt_follows.specs.Roles.{IsApart, is_at, is_held, is_in, is_member}
 use Rattle.wt_follows.specs.Tie.{AtHeader, ControlFollows, Placed, ReaderAt, SessionsFollow, WorkAmid, rests_at_header}
 use Rattle.wt_kept.specs.Kept.{LiveNow, WorkNow}
 use Rattle.wt_kept.specs.Readers.{ControlReading, Slot, control_rules, session_rules}
-use Rattle.wt_next_transport.specs.State.{Refines, TransportState}
+use Rattle.wt_transport.specs.State.{Refines, TransportState}
 use Rattle.wt_seam_spec.specs.Streams.{contents, exists}
 use Rattle.wt_seam_spec.specs.Unread.{ReadPosition}
 use Rattle.wt_sessions.specs.DriverState.{DriverState}

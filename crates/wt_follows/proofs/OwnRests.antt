@@ -8,9 +8,9 @@ use Rattle.wt_follows.proofs.OwnActions.{own-exists, own-sent, rest-length}
 use Rattle.wt_follows.proofs.OwnStep.{Shape, flushed, head_actions, head_rest, may_open_own, shape}
 use Rattle.wt_follows.specs.Tie.{Amid}
 use Rattle.wt_kept.specs.Kept.{DriverNow}
-use Rattle.wt_meaning.specs.ControlBytes.{local_control_bytes}
+use Rattle.wt_message.specs.FixedBytes.{local_control_bytes}
 use Rattle.wt_meaning.specs.Sends.{action_if}
-use Rattle.wt_next_transport.specs.StreamState.{Stream}
+use Rattle.wt_transport.specs.StreamState.{Stream}
 use Rattle.wt_seam_spec.specs.Joined.{send_of}
 use Rattle.wt_seam_spec.specs.Reports.{credit, is_connected, stop_of}
 use Rattle.wt_seam_spec.specs.Streams.{local_uni}

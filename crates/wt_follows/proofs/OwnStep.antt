@@ -12,14 +12,14 @@ use Rattle.wt_kept.specs.Arriving.{peer_kind}
 use Rattle.wt_kept.specs.Kept.{DriverNow, OwnControlNow}
 use Rattle.wt_kept.specs.Moment.{OwnFlushed, head_sent, is_ready_now, own_flushed, own_opened, own_sent, own_step}
 use Rattle.wt_kept.specs.Readers.{bi_rules, uni_rules}
-use Rattle.wt_meaning.specs.ControlBytes.{local_control_bytes}
+use Rattle.wt_message.specs.FixedBytes.{local_control_bytes}
 use Rattle.wt_meaning.specs.Sends.{action_if}
-use Rattle.wt_next_transport.proofs.Asking.{refined_peer_bis, refined_peer_unis}
-use Rattle.wt_next_transport.proofs.Bools.{first}
-use Rattle.wt_next_transport.proofs.Refining.{refined_may_send, refined_sent, refined_side, refined_uni, send_refines, uni_refines}
-use Rattle.wt_next_transport.specs.State.{Refines, TransportState}
-use Rattle.wt_next_transport.specs.Step.{after_opening, after_send, count_now, covered_now, may_send_now, opened_id_now}
-use Rattle.wt_next_transport.specs.StreamState.{Stream}
+use Rattle.wt_transport.proofs.Asking.{refined_peer_bis, refined_peer_unis}
+use Rattle.wt_transport.proofs.Bools.{first}
+use Rattle.wt_transport.proofs.Refining.{refined_may_send, refined_sent, refined_side, refined_uni, send_refines, uni_refines}
+use Rattle.wt_transport.specs.State.{Refines, TransportState}
+use Rattle.wt_transport.specs.Step.{after_opening, after_send, count_now, covered_now, may_send_now, opened_id_now}
+use Rattle.wt_transport.specs.StreamState.{Stream}
 use Rattle.wt_seam_spec.specs.Joined.{newest_first, send_of}
 use Rattle.wt_seam_spec.specs.Outgoing.{actions_to_open, bytes_within_credit, credit_left, may_open, may_send, next_id, streams_allowed}
 use Rattle.wt_seam_spec.specs.Reports.{bis_allowed, credit, is_connected, stop_of, unis_allowed}

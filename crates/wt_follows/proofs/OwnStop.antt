@@ -13,10 +13,10 @@ use Rattle.wt_kept.specs.Classifying.{with_dispatched}
 use Rattle.wt_kept.specs.Kept.{DriverNow, WorkNow}
 use Rattle.wt_kept.specs.Looking.{check_qpack_now, fail_if_closed, has_ended, is_own_stopped, is_stopped_at}
 use Rattle.wt_kept.specs.Moment.{own_stop_step}
-use Rattle.wt_next_transport.proofs.Asking.{refined_stop}
-use Rattle.wt_next_transport.proofs.Refining.{refined_end}
-use Rattle.wt_next_transport.specs.State.{Refines, TransportState}
-use Rattle.wt_next_transport.specs.StreamState.{Stream}
+use Rattle.wt_transport.proofs.Asking.{refined_stop}
+use Rattle.wt_transport.proofs.Refining.{refined_end}
+use Rattle.wt_transport.specs.State.{Refines, TransportState}
+use Rattle.wt_transport.specs.StreamState.{Stream}
 use Rattle.wt_seam_spec.specs.Reports.{end_of, is_running, stop_of}
 use Rattle.wt_seam_spec.specs.Streams.{exists, local_count, local_uni, one_more_if, peer_count, peer_opens}
 use Rattle.wt_seam_spec.specs.Unread.{ReadPosition}

@@ -20,7 +20,7 @@ use Rattle.wt_kept.specs.Moment.{moment_now, with_work, without_datagrams, work_
 use Rattle.wt_kept.specs.Pieces.{FedNow, after_header, body_fed, body_fed_by, body_feed, body_feed_by, body_part, body_part_if, control_slot, fed_at, fed_slots, header_fed, header_feed, header_part, moment_if, rest_part, slot_of, take_piece_now, work_after}
 use Rattle.wt_kept.specs.Readers.{BiReading, ControlReading, ReaderRules, Slot, UniReading, bi_rules, fed_piece, uni_rules}
 use Rattle.wt_kept.specs.Windows.{live_in}
-use Rattle.wt_next_transport.proofs.Refining.{refined_open}
+use Rattle.wt_transport.proofs.Refining.{refined_open}
 use Rattle.wt_seam_spec.specs.Arrivals.{fits, may_receive}
 use Rattle.wt_seam_spec.specs.Reports.{end_of, is_connected, is_running, loss_of}
 use Rattle.wt_seam_spec.specs.Streams.{can_receive, contents}

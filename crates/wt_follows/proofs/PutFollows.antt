@@ -13,7 +13,7 @@ use Rattle.wt_follows.specs.Tie.{Amid, Follows}
 use Rattle.wt_kept.specs.Kept.{DriverNow}
 use Rattle.wt_kept.specs.Moment.{moment_now}
 use Rattle.wt_kept.specs.Pieces.{FedNow, moment_if}
-use Rattle.wt_meaning.specs.ControlBytes.{local_control_bytes}
+use Rattle.wt_message.specs.FixedBytes.{local_control_bytes}
 use Rattle.wt_seam_spec.specs.Arrivals.{log_bytes}
 use Rattle.wt_seam_spec.specs.Joined.{newest_first}
 use Rattle.wt_seam_spec.specs.Reports.{credit, is_connected, unis_allowed}

@@ -16,10 +16,10 @@ use Rattle.wt_follows.specs.Tie.{Amid, Follows, IsUntouched, Placed, body_of, me
 use Rattle.wt_kept.specs.Arriving.{arrived_count, peer_kind}
 use Rattle.wt_kept.specs.Kept.{DriverNow}
 use Rattle.wt_kept.specs.Readers.{bi_rules, uni_rules}
-use Rattle.wt_next_transport.proofs.Asking.{refined_peer_bis, refined_peer_unis}
-use Rattle.wt_next_transport.proofs.Refining.{refined_side}
-use Rattle.wt_next_transport.specs.State.{Refines, TransportState}
-use Rattle.wt_next_transport.specs.Step.{count_now}
+use Rattle.wt_transport.proofs.Asking.{refined_peer_bis, refined_peer_unis}
+use Rattle.wt_transport.proofs.Refining.{refined_side}
+use Rattle.wt_transport.specs.State.{Refines, TransportState}
+use Rattle.wt_transport.specs.Step.{count_now}
 use Rattle.wt_seam_spec.specs.Sent.{is_finished, is_reset, resets}
 use Rattle.wt_seam_spec.specs.Streams.{can_send, contents, local_uni}
 use Rattle.wt_seam_spec.specs.Unread.{AtOffset, GivenUp}

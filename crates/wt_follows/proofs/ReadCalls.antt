@@ -21,10 +21,10 @@ use Rattle.wt_follows.specs.Roles.{IsSessions, is_arriving, is_at, is_in, is_mem
 use Rattle.wt_follows.specs.Tie.{Amid, Follows, IsUntouched, Placed, body_of, goes, member_position, rests_at_header}
 use Rattle.wt_kept.specs.Kept.{DriverNow, LiveNow}
 use Rattle.wt_kept.specs.Readers.{ControlReading, Slot, bi_rules, uni_rules}
-use Rattle.wt_next_transport.proofs.Refining.{consume_refines, give_up_refines, refined_side}
-use Rattle.wt_next_transport.specs.State.{Refines, TransportState}
-use Rattle.wt_next_transport.specs.Step.{after_consume, after_give_up, can_receive_now, count_now, unread_now, with_change}
-use Rattle.wt_next_transport.specs.StreamState.{consume, give_up, has_stream}
+use Rattle.wt_transport.proofs.Refining.{consume_refines, give_up_refines, refined_side}
+use Rattle.wt_transport.specs.State.{Refines, TransportState}
+use Rattle.wt_transport.specs.Step.{after_consume, after_give_up, can_receive_now, count_now, unread_now, with_change}
+use Rattle.wt_transport.specs.StreamState.{consume, give_up, has_stream}
 use Rattle.wt_seam_spec.specs.Sent.{is_finished, is_reset, resets}
 use Rattle.wt_seam_spec.specs.Streams.{can_send, contents, exists, local_uni}
 use Rattle.wt_seam_spec.specs.Unread.{AtOffset, GivenUp, ReadPosition, advance, given_up, position_after}

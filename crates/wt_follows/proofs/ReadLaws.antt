@@ -13,17 +13,17 @@ use Rattle.wt_follows.proofs.StreamEnds.{actions-events}
 use Rattle.wt_follows.specs.Tie.{ReaderAt}
 use Rattle.wt_kept.specs.Looking.{closes, is_closed_by_capsule}
 use Rattle.wt_kept.specs.Readers.{ControlReading, control_rules, session_rules, ReadOn, ReaderRules, consumed, fed_piece, noted_if, read_on, taken}
-use Rattle.wt_next_transport.proofs.Refining.{actions-contents, consume_refines, refined_end, refined_unread}
-use Rattle.wt_next_transport.specs.State.{Refines, TransportState}
-use Rattle.wt_next_transport.specs.Step.{end_now, unread_now}
+use Rattle.wt_transport.proofs.Refining.{actions-contents, consume_refines, refined_end, refined_unread}
+use Rattle.wt_transport.specs.State.{Refines, TransportState}
+use Rattle.wt_transport.specs.Step.{end_now, unread_now}
 use Rattle.wt_message.specs.declared.settings.Settings.{Settings}
-use Rattle.wt_meaning.specs.SessionWalk.{is_over, session_unfinished, session_walk_of}
+use Rattle.wt_proto.specs.SessionWalk.{is_over, session_unfinished, session_walk_of}
 use Rattle.wt_proto.proofs.ControlLaws.{settings_stay}
 use Rattle.wt_proto.specs.ControlWalk.{control_walk_of}
 use Rattle.wt_proto.specs.WalkProgress.{reached_in}
 use Rattle.wt_proto.specs.declared.control_walk.ControlWalk.{ControlWalk}
 use Rattle.wt_proto.specs.declared.session_walk.SessionWalk.{SessionWalk}
-use Rattle.wt_sessions.specs.SessionReader.{Faulty, HeaderWalk, Payload, SessionReader, Waiting, first_stop, session_ended, session_said}
+use Rattle.wt_proto.specs.SessionReader.{Faulty, HeaderWalk, Payload, SessionReader, Waiting, first_stop, session_ended, session_said}
 use Rattle.wt_proto.specs.declared.session_walk.SessionWalk.TheVariants as walks
 use Rattle.wt_seam_spec.specs.Reports.{end_of, is_running}
 use Rattle.wt_seam_spec.specs.Streams.{contents}

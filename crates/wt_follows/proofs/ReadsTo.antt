@@ -3,7 +3,7 @@ use Rattle.std.proofs.Common.{◌≡◌, List, drop, false, length, ℕ}
 use Rattle.std.specs.Prelude.{◌==◌, ◌⊎◌}
 use Rattle.wt_follows.specs.Tie.{ReaderAt}
 use Rattle.wt_kept.specs.Readers.{ReaderRules, read_on}
-use Rattle.wt_next_transport.specs.State.{Refines, TransportState}
+use Rattle.wt_transport.specs.State.{Refines, TransportState}
 use Rattle.wt_seam_spec.specs.Reports.{end_of, is_running}
 use Rattle.wt_seam_spec.specs.Streams.{contents}
 use Rattle.wt_seam_spec.specs.Unread.{AtOffset, ReadPosition}

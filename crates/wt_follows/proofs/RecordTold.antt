@@ -5,9 +5,9 @@ use Rattle.std.specs.Prelude.{◌||◌}
 use Rattle.wt_follows.proofs.QuietEntry.{Quiet, placed-stays, sending-stays, there-stays}
 use Rattle.wt_follows.specs.Tie.{Amid}
 use Rattle.wt_kept.specs.Kept.{DriverNow}
-use Rattle.wt_next_transport.specs.State.{IsStream, Refines, TransportState, stream_of}
-use Rattle.wt_next_transport.specs.State as transports
-use Rattle.wt_next_transport.specs.StreamState.{Stream, rows}
+use Rattle.wt_transport.specs.State.{IsStream, Refines, TransportState, stream_of}
+use Rattle.wt_transport.specs.State as transports
+use Rattle.wt_transport.specs.StreamState.{Stream, rows}
 use Rattle.wt_seam_spec.specs.Reports.{initial_credit}
 use Rattle.wt_seam_spec.specs.Sent.{is_reset, priority_of}
 use Rattle.wt_seam_spec.specs.Streams.{stream_count}

@@ -16,7 +16,7 @@ use Rattle.wt_kept.specs.Moment.{moment_now}
 use Rattle.wt_kept.specs.Readers.{ResponseReading, Slot}
 use Rattle.wt_kept.specs.Windows.{establish_now}
 use Rattle.wt_meaning.specs.Lawful.{is_client}
-use Rattle.wt_next_transport.proofs.Refining.{refined_open, refined_side}
+use Rattle.wt_transport.proofs.Refining.{refined_open, refined_side}
 use Rattle.wt_seam_spec.specs.Joined.{newest_first}
 use Rattle.wt_seam_spec.specs.Streams.{exists, local_uni}
 use Rattle.wt_sessions.specs.Driver.{call_view, transport_view}

@@ -18,8 +18,8 @@ use Rattle.wt_kept.specs.Calling.{response_read, response_read_by, response_read
 use Rattle.wt_kept.specs.Kept.{DriverNow, LiveNow}
 use Rattle.wt_kept.specs.Readers.{ControlReading, ReadOn, ResponseReading, Slot, bi_rules, read_on, response_rules, uni_rules}
 use Rattle.wt_meaning.specs.Lawful.{is_client}
-use Rattle.wt_next_transport.proofs.Refining.{refined_no_pieces, refined_side, refined_unread}
-use Rattle.wt_next_transport.specs.State.{Refines, TransportState}
+use Rattle.wt_transport.proofs.Refining.{refined_no_pieces, refined_side, refined_unread}
+use Rattle.wt_transport.specs.State.{Refines, TransportState}
 use Rattle.wt_proto.specs.ResponseWalk.{response_walk_of}
 use Rattle.wt_seam_spec.specs.Reports.{end_of}
 use Rattle.wt_seam_spec.specs.Streams.{contents, exists, local_bi, local_uni}

@@ -8,9 +8,9 @@ use Rattle.wt_follows.proofs.ReaderLaws.{fed-none, says-so-far, take-whole}
 use Rattle.wt_follows.proofs.ReadsTo.{ReadsTo}
 use Rattle.wt_follows.specs.Tie.{ReaderAt, ResponseAt}
 use Rattle.wt_kept.specs.Readers.{ReadOn, ReaderRules, ResponseReading, consumed, fed_piece, is_end_reached, noted_if, read_on, reads_on_if, response_rules, taken, walk_rules}
-use Rattle.wt_next_transport.proofs.Refining.{actions-contents, refined_end, refined_unread}
-use Rattle.wt_next_transport.specs.State.{Refines, TransportState}
-use Rattle.wt_next_transport.specs.Step.{end_now, unread_now}
+use Rattle.wt_transport.proofs.Refining.{actions-contents, refined_end, refined_unread}
+use Rattle.wt_transport.specs.State.{Refines, TransportState}
+use Rattle.wt_transport.specs.Step.{end_now, unread_now}
 use Rattle.wt_proto.proofs.ReadingLaws.{progress-stop}
 use Rattle.wt_proto.proofs.ResponseReading.{response_lawful}
 use Rattle.wt_proto.specs.ResponseWalk.{is_answered, is_response_final, response_decides, response_unfinished, response_walk_of}

@@ -27,11 +27,11 @@ use Rattle.wt_kept.specs.Kept.{ArrivingNow, DriverNow, LiveNow}
 use Rattle.wt_kept.specs.Windows.{live_in}
 use Rattle.wt_kept.specs.Pieces.{body_feed, control_slot, body_feed_by, fed_at, bytes_fit_now, header_feed, rest_part, slot_of, with_bytes_if}
 use Rattle.wt_kept.specs.Readers.{ControlReading, ReaderRules, Slot, bi_rules, uni_rules}
-use Rattle.wt_meaning.specs.ControlBytes.{local_control_bytes}
-use Rattle.wt_next_transport.proofs.Refining.{refined_bytes_fit, refined_open}
-use Rattle.wt_next_transport.specs.State.{TransportState}
-use Rattle.wt_next_transport.specs.Step.{after_bytes, if_so, may_receive_now, with_change}
-use Rattle.wt_next_transport.specs.StreamState.{with_bytes}
+use Rattle.wt_message.specs.FixedBytes.{local_control_bytes}
+use Rattle.wt_transport.proofs.Refining.{refined_bytes_fit, refined_open}
+use Rattle.wt_transport.specs.State.{TransportState}
+use Rattle.wt_transport.specs.Step.{after_bytes, if_so, may_receive_now, with_change}
+use Rattle.wt_transport.specs.StreamState.{with_bytes}
 use Rattle.wt_seam_spec.specs.Arrivals.{fits, log_bytes}
 use Rattle.wt_seam_spec.specs.Reports.{credit, is_connected, unis_allowed}
 use Rattle.wt_seam_spec.specs.Streams.{contents, local_uni}

@@ -14,11 +14,11 @@ use Rattle.wt_kept.specs.Ending.{give_up_now, finish_and_retire, finish_running,
 use Rattle.wt_kept.specs.Kept.{LiveNow, Refused, SessionEndNow, WorkNow}
 use Rattle.wt_kept.specs.Ending.{ended_by}
 use Rattle.wt_kept.specs.Windows.{end_in, live_in}
-use Rattle.wt_next_transport.proofs.Refining.{finish_refines, refined_may_send}
-use Rattle.wt_next_transport.proofs.StillRunning.{reset_running_refines}
-use Rattle.wt_next_transport.specs.Running.{actions_of_reset_running, reset_running_now, still_receives}
-use Rattle.wt_next_transport.specs.State.{Refines, TransportState}
-use Rattle.wt_next_transport.specs.Step.{after_finish, may_send_now}
+use Rattle.wt_transport.proofs.Refining.{finish_refines, refined_may_send}
+use Rattle.wt_transport.proofs.StillRunning.{reset_running_refines}
+use Rattle.wt_transport.specs.Running.{actions_of_reset_running, reset_running_now, still_receives}
+use Rattle.wt_transport.specs.State.{Refines, TransportState}
+use Rattle.wt_transport.specs.Step.{after_finish, may_send_now}
 use Rattle.wt_seam_spec.specs.Joined.{newest_first}
 use Rattle.wt_seam_spec.specs.Reports.{end_of, is_running, stop_of}
 use Rattle.wt_seam_spec.specs.Sent.{is_finished, is_reset}

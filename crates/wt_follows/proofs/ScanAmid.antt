@@ -22,10 +22,10 @@ use Rattle.wt_kept.specs.Arriving.{classify_final, with_transport}
 use Rattle.wt_kept.specs.Classifying.{classify_now}
 use Rattle.wt_kept.specs.Kept.{WorkNow}
 use Rattle.wt_kept.specs.Readers.{ReadOn, ReaderRules, Slot, consumed, read_on, taken}
-use Rattle.wt_next_transport.proofs.Bools.{first}
-use Rattle.wt_next_transport.proofs.Refining.{actions-contents, consume_refines, refined_end, refined_unread}
-use Rattle.wt_next_transport.specs.State.{Refines, TransportState}
-use Rattle.wt_next_transport.specs.Step.{end_now, unread_now}
+use Rattle.wt_transport.proofs.Bools.{first}
+use Rattle.wt_transport.proofs.Refining.{actions-contents, consume_refines, refined_end, refined_unread}
+use Rattle.wt_transport.specs.State.{Refines, TransportState}
+use Rattle.wt_transport.specs.Step.{end_now, unread_now}
 use Rattle.wt_proto.specs.Uni.{is_final}
 use Rattle.wt_proto.specs.declared.verdict.Verdict.{Verdict}
 use Rattle.wt_proto.specs.declared.verdict.Verdict.TheVariants as verdicts

@@ -21,10 +21,10 @@ use Rattle.wt_kept.specs.Classifying.{classify_now}
 use Rattle.wt_kept.specs.Kept.{ArrivingNow, DriverNow, WorkNow}
 use Rattle.wt_kept.specs.Moment.{bis_step, unis_step, with_bis, with_unis}
 use Rattle.wt_kept.specs.Readers.{BiReading, ReaderRules, Slot, UniReading, bi_rules, uni_rules}
-use Rattle.wt_next_transport.proofs.Bools.{second}
-use Rattle.wt_next_transport.proofs.Refining.{refined_side}
-use Rattle.wt_next_transport.specs.State.{TransportState}
-use Rattle.wt_next_transport.specs.Step.{count_now}
+use Rattle.wt_transport.proofs.Bools.{second}
+use Rattle.wt_transport.proofs.Refining.{refined_side}
+use Rattle.wt_transport.specs.State.{TransportState}
+use Rattle.wt_transport.specs.Step.{count_now}
 use Rattle.wt_proto.specs.Bi.{bi_verdict_of}
 use Rattle.wt_proto.specs.Uni.{is_final, uni_verdict_of}
 use Rattle.wt_proto.specs.declared.verdict.Verdict.{Verdict}

@@ -18,14 +18,14 @@ use Rattle.wt_follows.specs.Tie.{Amid, ArrivingFollows, ControlFollows, Follows,
 use Rattle.wt_kept.specs.Arriving.{arrived_count, peer_kind}
 use Rattle.wt_kept.specs.Kept.{DriverNow}
 use Rattle.wt_kept.specs.Readers.{bi_rules, uni_rules}
-use Rattle.wt_next_transport.proofs.Asking.{refined_peer_bis, refined_peer_unis}
-use Rattle.wt_next_transport.proofs.Refining.{actions-contents, refined_side}
-use Rattle.wt_next_transport.specs.State.{Refines, TransportState}
-use Rattle.wt_next_transport.specs.Step.{count_now}
+use Rattle.wt_transport.proofs.Asking.{refined_peer_bis, refined_peer_unis}
+use Rattle.wt_transport.proofs.Refining.{actions-contents, refined_side}
+use Rattle.wt_transport.specs.State.{Refines, TransportState}
+use Rattle.wt_transport.specs.Step.{count_now}
 use Rattle.wt_proto.specs.Bi.{bi_verdict_of}
 use Rattle.wt_proto.specs.Uni.{uni_verdict_of}
 use Rattle.wt_seam_spec.specs.Joined.{newest_first}
-use Rattle.wt_meaning.specs.ControlBytes.{local_control_bytes}
+use Rattle.wt_message.specs.FixedBytes.{local_control_bytes}
 use Rattle.wt_seam_spec.specs.Reports.{credit, is_connected, datagrams_of, end_of, unis_allowed}
 use Rattle.wt_seam_spec.specs.Sent.{is_finished, is_reset}
 use Rattle.wt_seam_spec.specs.Streams.{can_receive, contents, exists, local_count, local_uni, peer_bi, peer_uni, stream_count}

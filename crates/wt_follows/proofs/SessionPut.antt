@@ -30,15 +30,15 @@ use Rattle.wt_kept.specs.Kept.{DispatchedNow, DriverNow, LiveNow}
 use Rattle.wt_kept.specs.Looking.{with_session_reader}
 use Rattle.wt_kept.specs.Pieces.{fed_by}
 use Rattle.wt_kept.specs.Readers.{bi_rules, fed_piece, session_rules, taken, uni_rules}
-use Rattle.wt_next_transport.proofs.Bools.{first}
+use Rattle.wt_transport.proofs.Bools.{first}
 use Rattle.wt_proto.specs.Bi.{bi_verdict_of}
 use Rattle.wt_proto.specs.Uni.{uni_verdict_of}
 use Rattle.wt_kept.specs.Windows.{is_live, live_in}
 use Rattle.wt_follows.proofs.SessionReads.{FoundLive, found-live, reader-keeps, sessions-read}
-use Rattle.wt_meaning.specs.SessionWalk.{is_over, session_walk_of}
+use Rattle.wt_proto.specs.SessionWalk.{is_over, session_walk_of}
 use Rattle.wt_proto.specs.declared.session_walk.SessionWalk.{SessionWalk}
 use Rattle.wt_proto.specs.declared.session_walk.SessionWalk.TheVariants as walks
-use Rattle.wt_sessions.specs.SessionReader.{SessionReader}
+use Rattle.wt_proto.specs.SessionReader.{SessionReader}
 use Rattle.wt_seam_spec.specs.Arrivals.{log_bytes}
 use Rattle.wt_seam_spec.specs.Reports.{end_of}
 use Rattle.wt_seam_spec.specs.Streams.{contents, exists, local_uni}

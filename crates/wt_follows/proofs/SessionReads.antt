@@ -13,10 +13,10 @@ use Rattle.wt_kept.specs.Lists.{without_first}
 use Rattle.wt_kept.specs.Looking.{with_session_reader}
 use Rattle.wt_kept.specs.Readers.{session_rules}
 use Rattle.wt_kept.specs.Windows.{changed_live, is_live, live_in}
-use Rattle.wt_next_transport.specs.State.{TransportState}
+use Rattle.wt_transport.specs.State.{TransportState}
 use Rattle.wt_seam_spec.specs.Unread.{ReadPosition}
 use Rattle.wt_sessions.specs.DriverState.{DriverState}
-use Rattle.wt_sessions.specs.SessionReader.{SessionReader}
+use Rattle.wt_proto.specs.SessionReader.{SessionReader}
 use Rattle.wt_sessions.specs.StreamTable.{Dispatched, Session}
 
 -- a session that lives, with this reader

@@ -26,11 +26,11 @@ use Rattle.wt_kept.specs.Looking.{after_walk, close_by_peer, is_closed_by_capsul
 use Rattle.wt_kept.specs.Readers.{ReadOn, read_on, session_rules}
 use Rattle.wt_kept.specs.Windows.{is_live}
 use Rattle.wt_meaning.specs.Sends.{action_if}
-use Rattle.wt_meaning.specs.SessionWalk.{is_over, session_walk_of}
-use Rattle.wt_next_transport.specs.Running.{reset_running_now, still_sends_now}
-use Rattle.wt_next_transport.specs.State.{TransportState}
-use Rattle.wt_next_transport.specs.Step.{after_finish, after_reset, may_send_now}
-use Rattle.wt_next_transport.specs.StreamState.{with_finish}
+use Rattle.wt_proto.specs.SessionWalk.{is_over, session_walk_of}
+use Rattle.wt_transport.specs.Running.{reset_running_now, still_sends_now}
+use Rattle.wt_transport.specs.State.{TransportState}
+use Rattle.wt_transport.specs.Step.{after_finish, after_reset, may_send_now}
+use Rattle.wt_transport.specs.StreamState.{with_finish}
 use Rattle.wt_proto.specs.declared.session_walk.SessionWalk.{SessionWalk}
 use Rattle.wt_seam_spec.specs.Joined.{newest_first}
 use Rattle.wt_seam_spec.specs.Reports.{end_of}
@@ -39,7 +39,7 @@ use Rattle.wt_seam_spec.specs.Unread.{AtOffset, ReadPosition}
 use Rattle.wt_sessions.specs.Driver.{transport_view}
 use Rattle.wt_sessions.specs.DriverState.{DriverState}
 use Rattle.wt_sessions.specs.Scan.{session_end, with_fault, with_more}
-use Rattle.wt_sessions.specs.SessionReader.{SessionReader}
+use Rattle.wt_proto.specs.SessionReader.{SessionReader}
 use Rattle.wt_sessions.specs.Step.{check_session_now, on_progress_now, walked_now, with_closed}
 use Rattle.wt_sessions.specs.StreamTable.{Session, TransportView, gone_actions}
 use Rattle.wt_turn.specs.Log.{Log, events_of, with_actions}

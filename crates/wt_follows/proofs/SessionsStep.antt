@@ -14,8 +14,8 @@ use Rattle.wt_kept.specs.Kept.{DriverNow, LiveNow, WorkNow}
 use Rattle.wt_kept.specs.Looking.{read_each, read_session, read_session_by, read_sessions, unless_fault}
 use Rattle.wt_kept.specs.Moment.{sessions_step}
 use Rattle.wt_kept.specs.Readers.{session_rules}
-use Rattle.wt_meaning.specs.SessionWalk.{is_over, session_walk_of}
-use Rattle.wt_next_transport.specs.State.{Refines, TransportState}
+use Rattle.wt_proto.specs.SessionWalk.{is_over, session_walk_of}
+use Rattle.wt_transport.specs.State.{Refines, TransportState}
 use Rattle.wt_proto.specs.declared.session_walk.SessionWalk.{SessionWalk}
 use Rattle.wt_seam_spec.specs.Joined.{newest_first}
 use Rattle.wt_seam_spec.specs.Reports.{end_of}
@@ -24,7 +24,7 @@ use Rattle.wt_seam_spec.specs.Unread.{AtOffset, ReadPosition}
 use Rattle.wt_sessions.specs.Driver.{control_sent, transport_view}
 use Rattle.wt_sessions.specs.DriverState.{DriverState}
 use Rattle.wt_sessions.specs.Scan.{unless_ended}
-use Rattle.wt_sessions.specs.SessionReader.{SessionReader}
+use Rattle.wt_proto.specs.SessionReader.{SessionReader}
 use Rattle.wt_sessions.specs.Step.{check_each_now, check_session_now, walked_now}
 use Rattle.wt_sessions.specs.StreamTable.{Session, TransportView}
 use Rattle.wt_turn.specs.Log.{Log, events_of, with_actions}

@@ -9,7 +9,7 @@ use Rattle.wt_follows.proofs.StreamEnds.{actions-all-events, actions-calls, acti
 use Rattle.wt_follows.specs.Tie.{Amid, ArrivingFollows, AtHeader, ControlFollows, IsUntouched, Keeps, Placed, ResponseFollows, SessionsFollow, There, goes, goes_on_at, header_verdict, member_position}
 use Rattle.wt_kept.specs.Kept.{DriverNow}
 use Rattle.wt_kept.specs.Readers.{bi_rules, uni_rules}
-use Rattle.wt_next_transport.proofs.Refining.{actions-contents}
+use Rattle.wt_transport.proofs.Refining.{actions-contents}
 use Rattle.wt_proto.specs.Bi.{bi_verdict_of}
 use Rattle.wt_proto.specs.Uni.{uni_verdict_of}
 use Rattle.wt_seam_spec.specs.Reports.{datagrams_of, end_of, unis_allowed}

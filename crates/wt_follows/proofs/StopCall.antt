@@ -8,9 +8,9 @@ use Rattle.wt_follows.proofs.SentFollows.{Harmless, sent-follows}
 use Rattle.wt_follows.specs.Roles.{is_member}
 use Rattle.wt_follows.specs.Tie.{Follows}
 use Rattle.wt_kept.specs.Kept.{DriverNow}
-use Rattle.wt_next_transport.proofs.Refining.{stop_refines}
-use Rattle.wt_next_transport.specs.State.{TransportState}
-use Rattle.wt_next_transport.specs.Step.{after_give_up, after_stop, can_receive_now, if_so, with_action}
+use Rattle.wt_transport.proofs.Refining.{stop_refines}
+use Rattle.wt_transport.specs.State.{TransportState}
+use Rattle.wt_transport.specs.Step.{after_give_up, after_stop, can_receive_now, if_so, with_action}
 use Rattle.wt_seam_spec.specs.Joined.{newest_first}
 use Rattle.wt_seam_spec.specs.Outgoing.{if_open}
 use Rattle.wt_sessions.specs.DriverState.{DriverState, state_of}

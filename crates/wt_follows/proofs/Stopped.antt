@@ -8,10 +8,10 @@ use Rattle.wt_follows.proofs.Moved.{Elsewhere, moved}
 use Rattle.wt_follows.specs.Tie.{Sends, WorkAmid}
 use Rattle.wt_kept.specs.Classifying.{gives_up_now, refuse_stream, with_transport_by}
 use Rattle.wt_kept.specs.Kept.{WorkNow}
-use Rattle.wt_next_transport.proofs.Bools.{first, second}
-use Rattle.wt_next_transport.proofs.Refining.{give_up_refines, refined_can_receive, stop_refines}
-use Rattle.wt_next_transport.specs.State.{Refines}
-use Rattle.wt_next_transport.specs.Step.{after_give_up, after_stop, can_receive_now}
+use Rattle.wt_transport.proofs.Bools.{first, second}
+use Rattle.wt_transport.proofs.Refining.{give_up_refines, refined_can_receive, stop_refines}
+use Rattle.wt_transport.specs.State.{Refines}
+use Rattle.wt_transport.specs.Step.{after_give_up, after_stop, can_receive_now}
 use Rattle.wt_seam_spec.specs.Joined.{newest_first}
 use Rattle.wt_seam_spec.specs.Streams.{can_receive, exists, local_count, local_uni, one_more_if, opens, peer_count, stream_count}
 use Rattle.wt_seam_spec.specs.Unread.{ReadPosition, given_up, GivenUp}

@@ -6,11 +6,11 @@ use Rattle.wt_follows.proofs.Lists.{or-true, refuted, same}
 use Rattle.wt_follows.specs.Roles.{AreDistinct, is_in}
 use Rattle.wt_kept.specs.Ending.{end_stream, end_streams, give_up_all, give_up_now}
 use Rattle.wt_meaning.specs.Sends.{action_if}
-use Rattle.wt_next_transport.proofs.Refining.{give_up_refines, refined_can_receive}
-use Rattle.wt_next_transport.proofs.StillRunning.{reset_running_refines, stop_running_refines}
-use Rattle.wt_next_transport.specs.Running.{reset_running_now, still_receives, stop_running_now}
-use Rattle.wt_next_transport.specs.Step.{after_give_up, can_receive_now}
-use Rattle.wt_next_transport.specs.State.{Refines, TransportState}
+use Rattle.wt_transport.proofs.Refining.{give_up_refines, refined_can_receive}
+use Rattle.wt_transport.proofs.StillRunning.{reset_running_refines, stop_running_refines}
+use Rattle.wt_transport.specs.Running.{reset_running_now, still_receives, stop_running_now}
+use Rattle.wt_transport.specs.Step.{after_give_up, can_receive_now}
+use Rattle.wt_transport.specs.State.{Refines, TransportState}
 use Rattle.wt_seam_spec.specs.Joined.{newest_first}
 use Rattle.wt_seam_spec.specs.Outgoing.{if_open, reset_entry}
 use Rattle.wt_seam_spec.specs.Sent.{is_finished, is_reset}

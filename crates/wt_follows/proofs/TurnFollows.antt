@@ -16,10 +16,10 @@ use Rattle.wt_follows.specs.Tie.{Amid, goes}
 use Rattle.wt_kept.specs.Calling.{driver_at_first, lawful_turn, open_turn, turn_now, with_turn}
 use Rattle.wt_kept.specs.Kept.{DriverNow}
 use Rattle.wt_kept.specs.Pieces.{take_piece_now}
-use Rattle.wt_next_transport.proofs.Refining.{refined_fits, refined_open, turn_refines}
-use Rattle.wt_next_transport.specs.State.{Refines}
-use Rattle.wt_next_transport.specs.Step.{after_turn, fits_now, if_so, with_change}
-use Rattle.wt_next_transport.specs.StreamState.{with_bytes}
+use Rattle.wt_transport.proofs.Refining.{refined_fits, refined_open, turn_refines}
+use Rattle.wt_transport.specs.State.{Refines}
+use Rattle.wt_transport.specs.Step.{after_turn, fits_now, if_so, with_change}
+use Rattle.wt_transport.specs.StreamState.{with_bytes}
 use Rattle.wt_seam_spec.specs.Arrivals.{event_entry, fits, log_reported, log_turn}
 use Rattle.wt_seam_spec.specs.Joined.{newest_first}
 use Rattle.wt_seam_spec.specs.Unread.{ReadPosition}

@@ -12,9 +12,9 @@ use Rattle.wt_follows.specs.Pieces.{FindsNothing, noted}
 use Rattle.wt_follows.specs.Rests.{Resting}
 use Rattle.wt_follows.specs.Tie.{Amid, Follows}
 use Rattle.wt_kept.specs.Kept.{DriverNow}
-use Rattle.wt_next_transport.specs.State.{IsStream, Refines, TransportState, stream_of}
-use Rattle.wt_next_transport.specs.State as transports
-use Rattle.wt_next_transport.specs.StreamState.{Stream, rows}
+use Rattle.wt_transport.specs.State.{IsStream, Refines, TransportState, stream_of}
+use Rattle.wt_transport.specs.State as transports
+use Rattle.wt_transport.specs.StreamState.{Stream, rows}
 use Rattle.wt_seam_spec.specs.Reports.{initial_credit}
 use Rattle.wt_seam_spec.specs.Streams.{peer_bi, peer_uni, stream_count}
 use Rattle.wt_seam_spec.specs.Sent.{is_reset}

@@ -8,7 +8,7 @@ use Rattle.wt_kept.specs.Arriving.{arrived_count, slots_of}
 use Rattle.wt_kept.specs.Kept.{ArrivingNow, Closed, DispatchedNow, DriverNow, LiveNow, OwnControlNow, QueuedRequest, SessionEndNow, WindowNow, WorkNow}
 use Rattle.wt_kept.specs.Readers.{ControlReading, ReaderRules, ResponseReading, Slot, bi_rules, control_rules, response_rules, session_rules, uni_rules}
 use Rattle.wt_kept.specs.Windows.{end_in}
-use Rattle.wt_meaning.specs.ControlBytes.{local_control_bytes}
+use Rattle.wt_message.specs.FixedBytes.{local_control_bytes}
 use Rattle.wt_meaning.specs.Lawful.{is_client}
 use Rattle.wt_proto.specs.Bi.{bi_verdict_of}
 use Rattle.wt_proto.specs.Uni.{uni_verdict_of}
@@ -24,7 +24,7 @@ use Rattle.wt_sessions.specs.Halves.{total_read}
 use Rattle.wt_sessions.specs.Moment.{is_peers}
 use Rattle.wt_sessions.specs.StreamTable.{Admitted, Classified, Dispatched, Session, Waiting}
 use Rattle.wt_sessions.specs.StreamTable as streams
-use Rattle.wt_next_transport.specs.State.{Refines, TransportState}
+use Rattle.wt_transport.specs.State.{Refines, TransportState}
 use Rattle.wt_turn.specs.Log.{Event, Log, actions_of, calls_of, events_of, is_open, with_actions}
 use Rattle.wt_turn.specs.declared.action.Action.{Action}
 use Rattle.wt_wire.specs.HeaderList.{Fields}

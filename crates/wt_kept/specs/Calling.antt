@@ -9,8 +9,8 @@ use Rattle.wt_kept.specs.Moment.{moment_now, with_work}
 use Rattle.wt_kept.specs.Pieces.{take_piece_now}
 use Rattle.wt_kept.specs.Readers.{ReadOn, ResponseReading, Slot, read_on, response_rules}
 use Rattle.wt_kept.specs.Windows.{empty_window, establish_now, is_gone_now, lives_now, with_live}
-use Rattle.wt_next_transport.specs.State.{TransportState}
-use Rattle.wt_next_transport.specs.Step.{after_close, after_turn, fits_now, nothing_connected}
+use Rattle.wt_transport.specs.State.{TransportState}
+use Rattle.wt_transport.specs.Step.{after_close, after_turn, fits_now, nothing_connected}
 use Rattle.wt_proto.specs.declared.response_walk.ResponseWalk.{ResponseWalk}
 use Rattle.wt_seam_spec.specs.Streams.{local_bi}
 use Rattle.wt_turn.specs.declared.turn.Turn.{Turn}

@@ -6,8 +6,8 @@ use Rattle.wt_kept.specs.Kept.{CriticalNow, DispatchedNow, QueuedRequest, Refuse
 use Rattle.wt_kept.specs.Readers.{ControlReading, Slot, control_rules}
 use Rattle.wt_kept.specs.Windows.{Admits, AdmissionNow, Admitted, Full, Gone, admit_stream_now}
 use Rattle.wt_proto.specs.declared.verdict.Verdict.{Verdict}
-use Rattle.wt_next_transport.specs.State.{TransportState}
-use Rattle.wt_next_transport.specs.Step.{after_give_up, after_stop, can_receive_now}
+use Rattle.wt_transport.specs.State.{TransportState}
+use Rattle.wt_transport.specs.Step.{after_give_up, after_stop, can_receive_now}
 use Rattle.wt_wire.specs.Codes.{code_of}
 use Rattle.wt_wire.specs.HeaderList.{Fields}
 use Rattle.wt_wire.specs.declared.error.ErrorCode.{ErrorCode}

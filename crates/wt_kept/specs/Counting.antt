@@ -5,9 +5,9 @@ use Rattle.wt_kept.specs.Arriving.{arrived_count, peer_kind}
 use Rattle.wt_kept.specs.Kept.{ArrivingNow, DriverNow, LiveNow, WorkNow}
 use Rattle.wt_kept.specs.Pieces.{FedNow}
 use Rattle.wt_kept.specs.Readers.{ControlReading, ReadOn, Slot, control_rules, read_on, session_rules}
-use Rattle.wt_next_transport.specs.State.{TransportState}
-use Rattle.wt_next_transport.specs.Step.{pieces_now, unread_now}
-use Rattle.wt_next_transport.specs.StreamState.{piece_count}
+use Rattle.wt_transport.specs.State.{TransportState}
+use Rattle.wt_transport.specs.Step.{pieces_now, unread_now}
+use Rattle.wt_transport.specs.StreamState.{piece_count}
 use Rattle.wt_wire.specs.declared.error.ErrorCode.{ErrorCode}
 
 -- ---- one reader

@@ -4,9 +4,9 @@ use Rattle.wt_kept.specs.Kept.{DispatchedNow, GoneNow, LiveNow, QueuedRequest, R
 use Rattle.wt_kept.specs.Lists.{without_first}
 use Rattle.wt_kept.specs.Windows.{is_live, live_in, part_of, without}
 use Rattle.wt_sessions.specs.StreamTable.{Waiting, with_ids}
-use Rattle.wt_next_transport.specs.State.{TransportState}
-use Rattle.wt_next_transport.specs.Running.{reset_running_now, stop_running_now}
-use Rattle.wt_next_transport.specs.Step.{after_finish, after_give_up, can_receive_now, may_send_now}
+use Rattle.wt_transport.specs.State.{TransportState}
+use Rattle.wt_transport.specs.Running.{reset_running_now, stop_running_now}
+use Rattle.wt_transport.specs.Step.{after_finish, after_give_up, can_receive_now, may_send_now}
 use Rattle.wt_wire.specs.Codes.{code_of}
 use Rattle.wt_wire.specs.declared.error.ErrorCode.{ErrorCode}
 use Rattle.wt_wire.specs.declared.error.ErrorCode.TheVariants as h3

@@ -1,9 +1,9 @@
 -- What the driver of a connection keeps, as data: the value of each of its parts.
 use Rattle.std.specs.Prelude.{Bool, List, Option, ℕ}
 use Rattle.wt_kept.specs.Readers.{BiReading, ControlReading, ResponseReading, Slot, UniReading}
-use Rattle.wt_sessions.specs.SessionReader.{SessionReader}
+use Rattle.wt_proto.specs.SessionReader.{SessionReader}
 use Rattle.wt_sessions.specs.StreamTable.{Waiting}
-use Rattle.wt_next_transport.specs.State.{TransportState}
+use Rattle.wt_transport.specs.State.{TransportState}
 use Rattle.wt_wire.specs.HeaderList.{Fields}
 use Rattle.wt_wire.specs.declared.error.ErrorCode.{ErrorCode}
 

@@ -9,9 +9,9 @@ use Rattle.wt_message.specs.Datagram.{datagram_of}
 use Rattle.wt_proto.specs.WalkProgress.{reached_in}
 use Rattle.wt_proto.specs.declared.session_walk.SessionWalk.{SessionWalk}
 use Rattle.wt_seam_spec.specs.Reports.{is_running}
-use Rattle.wt_sessions.specs.SessionReader.{SessionReader}
-use Rattle.wt_next_transport.specs.State.{TransportState}
-use Rattle.wt_next_transport.specs.Step.{end_now, stop_now}
+use Rattle.wt_proto.specs.SessionReader.{SessionReader}
+use Rattle.wt_transport.specs.State.{TransportState}
+use Rattle.wt_transport.specs.Step.{end_now, stop_now}
 use Rattle.wt_wire.specs.declared.error.ErrorCode.{ErrorCode}
 use Rattle.wt_proto.specs.declared.session_walk.SessionWalk.TheVariants as walks
 use Rattle.wt_wire.specs.declared.error.ErrorCode.TheVariants as h3

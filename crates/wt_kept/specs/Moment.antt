@@ -6,10 +6,10 @@ use Rattle.wt_kept.specs.Classifying.{classify_now, with_dispatched}
 use Rattle.wt_kept.specs.Kept.{DriverNow, OwnControlNow, WorkNow}
 use Rattle.wt_kept.specs.Looking.{admit_each, check_qpack_now, fail_if_closed, is_own_stopped, read_control, read_sessions}
 use Rattle.wt_kept.specs.Readers.{BiReading, UniReading, bi_rules, uni_rules}
-use Rattle.wt_meaning.specs.ControlBytes.{local_control_bytes}
+use Rattle.wt_message.specs.FixedBytes.{local_control_bytes}
 use Rattle.wt_seam_spec.specs.Streams.{local_uni}
-use Rattle.wt_next_transport.specs.State.{TransportState}
-use Rattle.wt_next_transport.specs.Step.{after_close, after_opening, after_send, covered_now, may_send_now, opened_id_now}
+use Rattle.wt_transport.specs.State.{TransportState}
+use Rattle.wt_transport.specs.Step.{after_close, after_opening, after_send, covered_now, may_send_now, opened_id_now}
 use Rattle.wt_wire.specs.Codes.{code_of}
 use Rattle.wt_wire.specs.declared.error.ErrorCode.{ErrorCode}
 

@@ -9,9 +9,9 @@ use Rattle.wt_kept.specs.Looking.{with_session_reader}
 use Rattle.wt_kept.specs.Moment.{moment_now, with_work}
 use Rattle.wt_kept.specs.Readers.{BiReading, ControlReading, ReaderRules, Slot, UniReading, bi_rules, control_rules, fed_piece, fed_piece_by, session_rules, taken_by, uni_rules}
 use Rattle.wt_kept.specs.Windows.{live_in}
-use Rattle.wt_sessions.specs.SessionReader.{SessionReader}
-use Rattle.wt_next_transport.specs.State.{TransportState}
-use Rattle.wt_next_transport.specs.Step.{after_bytes, may_receive_now}
+use Rattle.wt_proto.specs.SessionReader.{SessionReader}
+use Rattle.wt_transport.specs.State.{TransportState}
+use Rattle.wt_transport.specs.Step.{after_bytes, may_receive_now}
 use Rattle.wt_wire.specs.Ids.{is_bidirectional}
 
 -- what a reader did with a piece: how many bytes it took, and whether what it says is final

@@ -1,7 +1,7 @@
 -- A stream with the reader of what comes on it, as data; what a reader takes of a piece, and how it reads on in what is unread.
 use Rattle.std.specs.Prelude.{[], ◌&&◌, ◌==◌, ◌∷◌, Bool, List, None, Option, Some, false, if◌then◌else◌, is_some, length, not, suc, take, true, zero, ℕ}
 use Rattle.wt_message.specs.declared.settings.Settings.{Settings}
-use Rattle.wt_meaning.specs.SessionWalk.{is_over}
+use Rattle.wt_proto.specs.SessionWalk.{is_over}
 use Rattle.wt_proto.specs.Bi.{bi_decides, bi_unfinished}
 use Rattle.wt_proto.specs.ControlWalk.{control_decides, control_unfinished}
 use Rattle.wt_proto.specs.Reading.{outcome_in}
@@ -14,9 +14,9 @@ use Rattle.wt_proto.specs.declared.session_walk.SessionWalk.{SessionWalk}
 use Rattle.wt_proto.specs.declared.verdict.Verdict.{Verdict}
 use Rattle.wt_proto.specs.declared.walk.Step.{Step}
 use Rattle.wt_seam_spec.specs.Reports.{is_running}
-use Rattle.wt_sessions.specs.SessionReader.{SessionReader, session_ended, session_fed, session_reader, session_said}
-use Rattle.wt_next_transport.specs.State.{TransportState}
-use Rattle.wt_next_transport.specs.Step.{after_consume, end_now, unread_now}
+use Rattle.wt_proto.specs.SessionReader.{SessionReader, session_ended, session_fed, session_reader, session_said}
+use Rattle.wt_transport.specs.State.{TransportState}
+use Rattle.wt_transport.specs.Step.{after_consume, end_now, unread_now}
 use Rattle.wt_wire.specs.declared.side.StreamEnd.{StreamEnd}
 use Rattle.wt_wire.specs.declared.side.StreamEnd.TheVariants.{Running}
 

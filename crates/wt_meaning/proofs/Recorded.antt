@@ -30,7 +30,7 @@ use Rattle.url.specs.Path.{dot_count, is_windows_drive_letter, parse_path_start,
 use Rattle.url.specs.Scheme.{default_port, scheme_len, scheme_type}
 use Rattle.wt_meaning.specs.Meaning.{Run, run}
 use Rattle.wt_meaning.specs.Moments.{findings}
-use Rattle.wt_meaning.specs.SessionWalk.{capsule_decides, session_decides, session_walk_of}
+use Rattle.wt_proto.specs.SessionWalk.{capsule_decides, session_decides, session_walk_of}
 use Rattle.wt_message.specs.Capsule.{close_value_at}
 use Rattle.wt_message.specs.Datagram.{datagram_of}
 use Rattle.wt_message.specs.Requests.{request_of}

@@ -1,5 +1,3 @@
-pub mod ControlBytes
-pub mod SessionWalk
 pub mod History
 pub mod Lawful
 pub mod Findings

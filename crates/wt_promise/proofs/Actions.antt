@@ -6,7 +6,7 @@ use Rattle.std.specs.Option.{option_or}
 use Rattle.std.proofs.Common.{◌∙◌, ap, arith, refl, sym}
 use Rattle.std.proofs.lemmas.Bool.{eqb-true}
 use Rattle.std.proofs.lemmas.List.Folds.{list_any-append}
-use Rattle.wt_meaning.specs.ControlBytes.{local_control_bytes}
+use Rattle.wt_message.specs.FixedBytes.{local_control_bytes}
 use Rattle.wt_meaning.specs.Findings.{Classified, Faulted, Finding, SessionClosed, fault_in, fault_of}
 use Rattle.wt_meaning.specs.History.{History, actions_out, can_receive, can_send, credit_left, events, is_given_up, is_open, is_reset, out, was_finished}
 use Rattle.wt_meaning.specs.Meaning.{next, own_answer, with_pair}

@@ -8,7 +8,7 @@ use Rattle.std.proofs.lemmas.List.{append-nil}
 use Rattle.wt_meaning.specs.Findings.{Dequeued, Faulted, Finding, SettingsRead, control_in, decoder_in, encoder_in, fault_of, first_of, is_datagram, is_dequeued, settings_came}
 use Rattle.wt_meaning.specs.History.{History, events, stream_count}
 use Rattle.wt_meaning.specs.Moments.{Check, Classify, Dequeue, WalkSession, after_checks, checks, classified_as, control_walk, datagram_checks, datagram_found, end_fault, fault_if, found_by, ids_from, session_found, stream_checks, unclassified_before, verdict}
-use Rattle.wt_meaning.specs.SessionWalk.{is_over, session_walk_of}
+use Rattle.wt_proto.specs.SessionWalk.{is_over, session_walk_of}
 use Rattle.wt_meaning.specs.Windows.{lives, session_part}
 use Rattle.wt_message.specs.Datagram.{datagram_of}
 use Rattle.wt_promise.proofs.DatagramReads.{read-number, read-of}

@@ -9,7 +9,7 @@ use Rattle.wt_meaning.specs.History.{History, Pair, contents, events, is_open, s
 use Rattle.wt_meaning.specs.Lawful.{is_lawful}
 use Rattle.wt_meaning.specs.Meaning.{next}
 use Rattle.wt_meaning.specs.Moments.{control_walk, findings, ids_from, verdict}
-use Rattle.wt_meaning.specs.SessionWalk.{session_walk_of}
+use Rattle.wt_proto.specs.SessionWalk.{session_walk_of}
 use Rattle.wt_meaning.specs.Windows.{after_request, after_response, gone_in, is_established, is_gone, is_gone_by_call, is_number, lives, makes_gone, session_in}
 use Rattle.wt_promise.proofs.AllFound.{all_found}
 use Rattle.wt_promise.proofs.AtRest.{Whole, none-left, none-right, rests}

@@ -5,7 +5,7 @@ use Rattle.std.proofs.lemmas.List.{append-nil}
 use Rattle.wt_meaning.specs.Findings.{Dequeued, Faulted, Finding, SettingsRead, control_in, decoder_in, encoder_in, fault_of, first_of, is_classified, is_datagram, is_dequeued}
 use Rattle.wt_meaning.specs.History.{History, Pair, events, is_open}
 use Rattle.wt_meaning.specs.Moments.{Check, Classify, ControlFault, DecoderEnd, Dequeue, EncoderEnd, LocalStop, ReadDatagram, ReadSettings, WalkSession, checks, classified_as, control_walk, datagram_found, end_fault, fault_if, findings, found_by, is_ready, session_found, verdict}
-use Rattle.wt_meaning.specs.SessionWalk.{is_over, session_walk_of}
+use Rattle.wt_proto.specs.SessionWalk.{is_over, session_walk_of}
 use Rattle.wt_meaning.specs.Windows.{lives, session_part}
 use Rattle.wt_message.specs.Datagram.{datagram_of}
 use Rattle.wt_promise.proofs.Grows.{findings-add, more, more-by, news}

@@ -10,7 +10,7 @@ use Rattle.std.proofs.lemmas.List.Folds.{list_all-append}
 use Rattle.wt_meaning.specs.Findings.{Classified, DatagramRead, Dequeued, Faulted, Finding, SessionClosed, SettingsRead, control_in, decoder_in, encoder_in, fault_of, first_of, is_classified, is_datagram, is_dequeued, settings_came}
 use Rattle.wt_meaning.specs.History.{History, Pair, events, is_open, stream_count}
 use Rattle.wt_meaning.specs.Moments.{Check, Classify, ControlFault, DecoderEnd, Dequeue, EncoderEnd, LocalStop, ReadDatagram, ReadSettings, WalkSession, after_checks, after_moments, checks, classified_as, control_walk, datagram_checks, datagram_found, end_fault, fault_if, findings, found_by, ids_from, is_ready, keeps, session_found, stream_checks, stream_fault, unclassified_before, verdict}
-use Rattle.wt_meaning.specs.SessionWalk.{is_over, session_walk_of}
+use Rattle.wt_proto.specs.SessionWalk.{is_over, session_walk_of}
 use Rattle.wt_meaning.specs.Windows.{datagrams_in_window, is_gone, lives, session_part}
 use Rattle.wt_message.specs.Datagram.{datagram_of}
 use Rattle.wt_promise.proofs.Accepted.{and-left, and-right}

@@ -4,7 +4,7 @@ use Rattle.std.specs.List.{list_any}
 use Rattle.std.proofs.Common.{◌∙◌, ap, refl, sym}
 use Rattle.std.proofs.Math.Dec.{eqb-suc-zero, leb-suc-suc, leb-suc-zero, leb-zero}
 use Rattle.std.proofs.lemmas.List.{drop-drop}
-use Rattle.wt_meaning.specs.ControlBytes.{local_control_bytes}
+use Rattle.wt_message.specs.FixedBytes.{local_control_bytes}
 use Rattle.wt_meaning.specs.Handshakes.{head_left, is_nothing, is_refused, lacks_credit, none_lives, begun_by, last_begun}
 use Rattle.wt_meaning.specs.History.{History, credit_left, events, out}
 use Rattle.wt_meaning.specs.Moments.{findings}

@@ -10,7 +10,7 @@ use Rattle.std.proofs.lemmas.List.Folds.{list_all-append, list_any-append}
 use Rattle.wt_meaning.specs.Findings.{Classified, Dequeued, Faulted, Finding, SettingsRead, fault_of, first_of, is_classified, is_datagram, is_dequeued, reads_settings, settings_came}
 use Rattle.wt_meaning.specs.History.{History, events, stream_count}
 use Rattle.wt_meaning.specs.Moments.{Check, Classify, ControlFault, DecoderEnd, Dequeue, EncoderEnd, LocalStop, ReadDatagram, ReadSettings, WalkSession, after_checks, checks, classified_as, datagram_checks, datagram_found, end_fault, fault_if, found_by, ids_from, is_ready, session_found, stream_checks, verdict}
-use Rattle.wt_meaning.specs.SessionWalk.{is_over, session_walk_of}
+use Rattle.wt_proto.specs.SessionWalk.{is_over, session_walk_of}
 use Rattle.wt_meaning.specs.Windows.{lives, session_part}
 use Rattle.wt_message.specs.Datagram.{datagram_of}
 use Rattle.wt_promise.proofs.DatagramReads.{AsCame, came-same, checks-parts, fault-of-piece, idle, read-of, reads-on, skips, well-formed}

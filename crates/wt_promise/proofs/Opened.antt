@@ -4,7 +4,7 @@ use Rattle.std.specs.List.{list_any}
 use Rattle.std.proofs.Common.{◌∙◌, ap, arith, refl, subst, sym}
 use Rattle.std.proofs.lemmas.Bool.{eq-eqb, eqb-true, leb-false, leb-true}
 use Rattle.wt_meaning.specs.Calls.{in_session, open_stream}
-use Rattle.wt_meaning.specs.ControlBytes.{local_control_bytes}
+use Rattle.wt_message.specs.FixedBytes.{local_control_bytes}
 use Rattle.wt_meaning.specs.History.{History, Pair, actions_out, credit_left, ends_by, events, is_open, loses, may_open, next_id, out}
 use Rattle.wt_meaning.specs.Meaning.{next, own_answer, with_pair}
 use Rattle.wt_meaning.specs.Moments.{findings}

@@ -7,7 +7,7 @@ use Rattle.std.proofs.lemmas.Bool.{eq-eqb, eqb-false, eqb-true, lt-ltb, ltb-fals
 use Rattle.std.proofs.lemmas.List.{append-nil}
 use Rattle.url.specs.Parser.{parse_url}
 use Rattle.wt_meaning.specs.Calls.{opened_by}
-use Rattle.wt_meaning.specs.ControlBytes.{local_control_bytes}
+use Rattle.wt_message.specs.FixedBytes.{local_control_bytes}
 use Rattle.wt_meaning.specs.Findings.{Finding, first_of}
 use Rattle.wt_meaning.specs.Handshakes.{begin_rows, head_left, is_opened, poll_rows, send}
 use Rattle.wt_meaning.specs.History.{History, Pair, actions_out, all_events, credit_left, events, exists, is_handed_out, is_open, is_reset_of, next_id, out, stream_count}

@@ -6,7 +6,7 @@ use Rattle.std.proofs.Common.{◌∙◌, ap, append_assoc, arith, refl, subst, s
 use Rattle.std.proofs.lemmas.Bool.{eq-eqb, eqb-true}
 use Rattle.std.proofs.lemmas.List.{append-nil}
 use Rattle.std.proofs.lemmas.List.Elements.{filter_map-append}
-use Rattle.wt_meaning.specs.ControlBytes.{local_control_bytes}
+use Rattle.wt_message.specs.FixedBytes.{local_control_bytes}
 use Rattle.wt_meaning.specs.Calls.{stream_header}
 use Rattle.wt_meaning.specs.Handshakes.{head_left, is_opened, send}
 use Rattle.wt_meaning.specs.History.{History, Pair, actions_out, all_events, credit_left, events, is_open, next_id, out, stream_count}

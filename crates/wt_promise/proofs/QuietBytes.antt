@@ -5,14 +5,14 @@ use Rattle.std.specs.Option.{option_or}
 use Rattle.std.proofs.Common.{◌∙◌, ap, arith, refl, subst, sym}
 use Rattle.std.proofs.lemmas.Bool.{eqb-true}
 use Rattle.std.proofs.lemmas.List.{append-nil, drop_all}
-use Rattle.wt_meaning.specs.ControlBytes.{local_control_bytes}
+use Rattle.wt_message.specs.FixedBytes.{local_control_bytes}
 use Rattle.wt_meaning.specs.Findings.{Finding, control_in, decoder_in, encoder_in, first_of, is_classified, is_dequeued, verdict_of}
 use Rattle.wt_meaning.specs.History.{History, Pair, actions_out, contents, ends_by, events, is_open, loses, out, stream_count, with_bytes, with_event}
 use Rattle.wt_meaning.specs.Lawful.{is_lawful}
 use Rattle.wt_meaning.specs.Meaning.{next, own_answer, with_pair}
 use Rattle.wt_meaning.specs.Moments.{control_walk, findings, ids_from, verdict}
 use Rattle.wt_meaning.specs.Sends.{action_if, actions_for_all, control_actions, moment_actions}
-use Rattle.wt_meaning.specs.SessionWalk.{session_walk_of}
+use Rattle.wt_proto.specs.SessionWalk.{session_walk_of}
 use Rattle.wt_meaning.specs.Windows.{after_request, after_response, lives}
 use Rattle.wt_promise.proofs.AllFound.{all_found}
 use Rattle.wt_promise.proofs.AsOwed.{open-as-owed, settings-as-owed}

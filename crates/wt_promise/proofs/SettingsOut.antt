@@ -4,7 +4,7 @@ use Rattle.std.specs.Option.{option_or}
 use Rattle.std.proofs.Common.{◌∙◌, ap, arith, length-append, refl, subst, sym}
 use Rattle.std.proofs.lemmas.Bool.{eq-eqb, eqb-true, leb-true}
 use Rattle.std.proofs.lemmas.List.{append-nil}
-use Rattle.wt_meaning.specs.ControlBytes.{local_control_bytes}
+use Rattle.wt_message.specs.FixedBytes.{local_control_bytes}
 use Rattle.wt_meaning.specs.History.{History, Pair, actions_out, all_events, can_send, credit_left, events, is_open, out, with_event}
 use Rattle.wt_meaning.specs.Lawful.{is_lawful, may_come}
 use Rattle.wt_meaning.specs.Meaning.{next, own_answer, with_pair}

@@ -2,7 +2,7 @@
 use Rattle.std.specs.Prelude.{[], ◌&&◌, ◌+◌, ◌==◌, ◌∷◌, ◌||◌, ◌≡◌, Bool, Err, List, None, Ok, Option, Some, drop, false, if◌then◌else◌, length, nat_le, nat_lt, suc, take, true, ℕ}
 use Rattle.std.proofs.Common.{ap, refl}
 use Rattle.std.proofs.lemmas.Bool.{eqb-true}
-use Rattle.wt_meaning.specs.SessionWalk.{SessionProgress, capsule_decides, capsule_with_length, capsule_with_type, frame_step_with_length, frame_step_with_type, session_decides, session_start, session_unfinished, session_walk_of}
+use Rattle.wt_proto.specs.SessionWalk.{SessionProgress, capsule_decides, capsule_with_length, capsule_with_type, frame_step_with_length, frame_step_with_type, session_decides, session_start, session_unfinished, session_walk_of}
 use Rattle.wt_message.specs.Capsule.{close_of}
 use Rattle.wt_proto.specs.Walk.{outcome_at, whole_walk}
 use Rattle.wt_proto.specs.WalkProgress.{WalkProgress, at_item, progress_after, reached_in}

@@ -4,7 +4,7 @@ use Rattle.std.specs.Option.{option_or}
 use Rattle.wt_meaning.specs.Findings.{Classified, DatagramRead, Finding, SessionClosed, control_in, decoder_in, encoder_in, fault_of, first_of, is_classified, is_dequeued, settings_came}
 use Rattle.wt_meaning.specs.History.{History, Pair, events, stream_count}
 use Rattle.wt_meaning.specs.Moments.{control_walk, findings, ids_from, unclassified_before, verdict}
-use Rattle.wt_meaning.specs.SessionWalk.{is_over, session_walk_of}
+use Rattle.wt_proto.specs.SessionWalk.{is_over, session_walk_of}
 use Rattle.wt_meaning.specs.Windows.{datagrams_in_window, held_requests, is_gone, lives, session_part, streams_in_window}
 use Rattle.wt_message.specs.Datagram.{datagram_of}
 use Rattle.wt_proto.specs.Uni.{is_final}

@@ -3,7 +3,7 @@
 #![tactic(auto)]
 
 ghost use Rattle.std.specs.Prelude.{[], ◌&&◌, ◌+◌, ◌==◌, ◌∷◌, ◌||◌, ◌≡◌, Bool, Err, List, None, Ok, Some, drop, false, if◌then◌else◌, length, nat_le, nat_lt, suc, take, true, ℕ};
-ghost use Rattle.wt_meaning.specs.SessionWalk.{SessionProgress, capsule_decides, is_over, session_decides, session_unfinished, session_walk_of};
+ghost use Rattle.wt_proto.specs.SessionWalk.{SessionProgress, capsule_decides, is_over, session_decides, session_unfinished, session_walk_of};
 ghost use Rattle.wt_message.specs.Capsule.{close_of};
 ghost use Rattle.wt_proto.specs.Walk.{outcome_at, whole_walk};
 ghost use Rattle.wt_proto.specs.WalkProgress.{WalkProgress, at_item, progress_after, reached_in};

@@ -1,32 +1,12 @@
 -- What the contracts of this crate claim of its definitions.
-use Rattle.std.specs.Prelude.{[], ◌+◌, ◌∷◌, ◌≡◌, ◌≤◌, List, fold, length, true, ℕ}
-use Rattle.std.specs.List.{concat}
-use Rattle.wt_meaning.specs.SessionWalk.{session_walk_of}
+use Rattle.std.specs.Prelude.{[], ◌∷◌, ◌≡◌, List, true}
 use Rattle.wt_sessions.specs.Answers.{is_lawful, log_after, log_from}
 use Rattle.wt_sessions.specs.Driver.{log_and_flush, transport_view}
 use Rattle.wt_sessions.specs.DriverState.{state_of}
 use Rattle.wt_sessions.specs.Moment.{Fits, moment_actions, moment_state}
-use Rattle.wt_sessions.specs.SessionReader.{HasReadSession, SessionReader, session_fed, session_said}
 use Rattle.wt_turn.specs.Log.{Entry, Log, with_actions}
 use Rattle.wt_turn.specs.declared.turn.Turn.{Turn}
 use Rattle.wt_wire.specs.declared.side.Side.{Side}
-use Rattle.wt_wire.specs.declared.side.StreamEnd.{StreamEnd}
-
--- ---- the reader of a session's stream
-
--- after all bytes and the end it says what the walk over them says
-abbrev pub ReaderSaysTheWalk : Type 0
-ReaderSaysTheWalk = (r : SessionReader) (bytes : List ℕ) (end : StreamEnd) → HasReadSession r bytes end → session_said r ≡ session_walk_of bytes end
-
--- it stands alike however the same bytes are cut
-abbrev pub ReaderMayBeCut : Type 0
-ReaderMayBeCut = (r : SessionReader) (pieces others : List (List ℕ)) → concat pieces ≡ concat others → fold session_fed r pieces ≡ fold session_fed r others
-
--- it keeps at most 1,058 bytes
-abbrev pub ReaderKeepsFew : Type 0
-ReaderKeepsFew = (r : SessionReader) (bytes : List ℕ) (end : StreamEnd) → HasReadSession r bytes end → length r.headers.kept + length r.capsules.kept ≤ 1058
-
--- ---- what a driver keeps
 
 -- each turn may come after those before it
 abbrev pub AllLawful : Side → Log → List Turn → Type 0

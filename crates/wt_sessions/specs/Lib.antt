@@ -1,4 +1,3 @@
-pub mod SessionReader
 pub mod StreamTable
 pub mod Scan
 pub mod Driver

@@ -3,7 +3,7 @@ use Rattle.std.specs.Prelude.{[], ◌&&◌, ◌*◌, ◌++◌, ◌+◌, ◌==◌
 use Rattle.std.specs.Option.{option_or}
 use Rattle.wt_proto.specs.Bi.{bi_verdict_of}
 use Rattle.wt_message.specs.Datagram.{datagram_of}
-use Rattle.wt_meaning.specs.SessionWalk.{is_over, session_walk_of}
+use Rattle.wt_proto.specs.SessionWalk.{is_over, session_walk_of}
 use Rattle.wt_proto.specs.Uni.{uni_verdict_of}
 use Rattle.wt_proto.specs.declared.session_walk.SessionWalk.{SessionWalk}
 use Rattle.wt_proto.specs.declared.verdict.Verdict.{Verdict}

@@ -3,16 +3,8 @@
 //! There is no code here: the crates that run are to stand above, and wt_sessions_agree ties these definitions to wt_meaning's.
 #![tactic(auto)]
 
-ghost use Rattle.wt_sessions.specs.Claims.{ActionsFollow, LawfulTurnsFit, ReaderKeepsFew, ReaderMayBeCut, ReaderSaysTheWalk, StateFollows};
+ghost use Rattle.wt_sessions.specs.Claims.{ActionsFollow, LawfulTurnsFit, StateFollows};
 ghost use Rattle.wt_wire.specs.declared.side.Side.{Side};
-
-/// The reader of a session's stream says what the walk over all of its bytes says, however they are cut, and keeps at most 1,058.
-#[tactic(auto, using(crate::proofs::Theorems::says_theorem, crate::proofs::Theorems::cut_theorem))]
-pub fn session_readers_say_the_walk()
-    ensures says { ReaderSaysTheWalk }
-    ensures cutting { ReaderMayBeCut }
-    ensures few { ReaderKeepsFew }
-{}
 
 /// What a driver keeps follows the log of every list of lawful turns: what is kept, and what goes out.
 #[tactic(auto, using(crate::proofs::Theorems::fit_theorem, crate::proofs::Theorems::state_theorem, crate::proofs::Theorems::actions_theorem))]

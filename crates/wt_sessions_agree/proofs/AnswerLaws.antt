@@ -2,7 +2,7 @@
 use Rattle.std.specs.Prelude.{[], ◌&&◌, ◌++◌, ◌-◌, ◌==◌, ◌∷◌, ◌≡◌, Bool, List, drop, false, if◌then◌else◌, length, nat_le, nat_lt, not, suc, take, true, zero, ℕ}
 use Rattle.std.proofs.Common.{◌∙◌, ap, arith, refl, sym}
 use Rattle.std.proofs.lemmas.List.{append-nil}
-use Rattle.wt_meaning.specs.ControlBytes.{local_control_bytes}
+use Rattle.wt_message.specs.FixedBytes.{local_control_bytes}
 use Rattle.wt_meaning.specs.History.{History, actions_out, events}
 use Rattle.wt_meaning.specs.Meaning.{completed, with_pair}
 use Rattle.wt_meaning.specs.Sends.{action_if, moment_actions}

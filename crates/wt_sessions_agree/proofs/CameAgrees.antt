@@ -1,7 +1,7 @@
 -- What came agrees: after each turn of the transport the history and the log have the same events, contents and end; a call brings nothing.
 use Rattle.std.specs.Prelude.{[], ◌&&◌, ◌++◌, ◌==◌, ◌∷◌, ◌≡◌, Bool, List, Some, false, if◌then◌else◌, length, nat_le, nat_lt, not, true, ℕ}
 use Rattle.std.proofs.Common.{◌∙◌, ap, arith, refl, sym}
-use Rattle.wt_meaning.specs.ControlBytes.{local_control_bytes}
+use Rattle.wt_message.specs.FixedBytes.{local_control_bytes}
 use Rattle.wt_meaning.specs.History.{History, all_events, contents, events, is_open, with_bytes, with_event}
 use Rattle.wt_meaning.specs.Meaning.{with_pair}
 use Rattle.wt_meaning.specs.Moments.{is_ready}

@@ -9,7 +9,7 @@ use Rattle.wt_meaning.specs.Findings.{DatagramRead, Dequeued, Faulted, Finding, 
 use Rattle.wt_meaning.specs.Findings as finds
 use Rattle.wt_meaning.specs.History.{History, events}
 use Rattle.wt_meaning.specs.Moments.{Check, Classify, ControlFault, DecoderEnd, Dequeue, EncoderEnd, LocalStop, ReadDatagram, ReadSettings, WalkSession, after_checks, classified_as, classifying, control_walk, datagram_found, dequeuing, end_fault, fault_if, found_by, ids_from, is_ready, keeps, session_found, stream_checks, stream_fault, unclassified_before, verdict}
-use Rattle.wt_meaning.specs.SessionWalk.{is_over, session_walk_of}
+use Rattle.wt_proto.specs.SessionWalk.{is_over, session_walk_of}
 use Rattle.wt_meaning.specs.Windows.{lives, session_part}
 use Rattle.wt_message.specs.Datagram.{datagram_of}
 use Rattle.wt_promise.proofs.Accepted.{and-left, or-true}

@@ -9,7 +9,7 @@ use Rattle.std.proofs.lemmas.List.Folds.{list_all-append}
 use Rattle.wt_meaning.specs.Findings.{Finding, SessionClosed, SettingsRead, control_in, fault_of, first_of, is_datagram, reads_settings, settings_came}
 use Rattle.wt_meaning.specs.History.{History, contents, events, stream_count}
 use Rattle.wt_meaning.specs.Moments.{Check, ControlFault, DecoderEnd, EncoderEnd, LocalStop, ReadDatagram, ReadSettings, WalkSession, after_checks, checks, closing, control_walk, datagram_checks, datagram_found, found_by, ids_from, is_ready, reading, session_found, stream_checks}
-use Rattle.wt_meaning.specs.SessionWalk.{is_over, session_walk_of}
+use Rattle.wt_proto.specs.SessionWalk.{is_over, session_walk_of}
 use Rattle.wt_meaning.specs.Windows.{is_established, is_gone, is_gone_by_call, lives, makes_gone, session_part}
 use Rattle.wt_message.specs.Datagram.{datagram_of}
 use Rattle.wt_promise.proofs.Accepted.{and-left, or-true}

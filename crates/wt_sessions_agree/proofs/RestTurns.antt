@@ -5,7 +5,7 @@ use Rattle.std.proofs.lemmas.List.{append-nil}
 use Rattle.wt_meaning.specs.Findings.{Faulted, Finding, SettingsRead, control_in, decoder_in, encoder_in, fault_of, first_of, is_classified, is_datagram, settings_came}
 use Rattle.wt_meaning.specs.History.{History, Pair, contents, events, is_open, stream_count, with_bytes}
 use Rattle.wt_meaning.specs.Moments.{ControlFault, DecoderEnd, EncoderEnd, LocalStop, ReadSettings, after_checks, after_moments, checks, control_walk, end_fault, fault_if, findings, is_ready, verdict}
-use Rattle.wt_meaning.specs.SessionWalk.{session_walk_of}
+use Rattle.wt_proto.specs.SessionWalk.{session_walk_of}
 use Rattle.wt_meaning.specs.Windows.{is_established, is_gone, lives, session_in, session_part}
 use Rattle.wt_promise.proofs.Accepted.{and-left}
 use Rattle.wt_promise.proofs.Begun.{BegunFor}

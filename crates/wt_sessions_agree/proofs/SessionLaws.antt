@@ -6,7 +6,7 @@ use Rattle.std.proofs.lemmas.List.{append-nil}
 use Rattle.wt_meaning.specs.Findings.{Faulted, Finding, SessionClosed, fault_in, fault_of, is_datagram, reads_settings, settings_came, verdict_in, verdict_of}
 use Rattle.wt_meaning.specs.History.{History, contents, events}
 use Rattle.wt_meaning.specs.Moments.{WalkSession, after_checks, closing, session_found}
-use Rattle.wt_meaning.specs.SessionWalk.{is_over, session_walk_of}
+use Rattle.wt_proto.specs.SessionWalk.{is_over, session_walk_of}
 use Rattle.wt_meaning.specs.Windows.{after_request, after_response, is_established, is_gone, lives, session_part}
 use Rattle.wt_proto.specs.ResponseWalk.{response_walk_of}
 use Rattle.wt_proto.specs.declared.session_walk.SessionWalk.{SessionWalk}
