@@ -1,50 +1,65 @@
 //! The driver of one connection.
-ghost use Rattle.std.specs.Prelude.{◌≡◌, ◌^◌, ◌-◌, [], false, min, None, true};
-ghost use Rattle.wt_inbox.specs.State.{nothing_read, readers_now};
-ghost use Rattle.wt_driver_state.specs.DriverValue.{first_state};
-ghost use Rattle.wt_driver_state.specs.Tie.{Follows};
+ghost use Rattle.std.specs.Prelude.{◌≡◌, [], true};
+ghost use Rattle.wt_driver_laws.specs.Calling.{Within, log_record};
+ghost use Rattle.wt_driver_laws.specs.Driving.{Follows, pieces_of};
+ghost use Rattle.wt_driver_laws.specs.Records.{is_unnoticed};
+ghost use Rattle.wt_kept.specs.Calling.{driver_at_first};
+ghost use Rattle.wt_turn.specs.Log.{CallRecord};
 
 mod accepts;
-mod arrivals;
-mod calls;
+mod moment;
+mod opens;
 mod pieces;
-mod scan_and_flush;
+mod queries;
+mod responses;
 mod sessions;
+mod turns;
 
 use std::alloc::Global;
 use std::collections::VecDeque;
 use std::fmt;
 use std::marker::Model;
-use wt_dispatch::dispatched::DispatchedStreams;
-use wt_dispatch::progress::ConnectionProgress;
-use wt_dispatch::slot::Slot;
-use wt_inbox::Inbox;
-use wt_proto::settings::Settings;
+use wt_peer_streams::{Arriving, Dispatched, OwnControl, Reading};
+use wt_proto::response_walk::ResponseWalk;
+use wt_proto::session::SessionRequest;
+use wt_proto::{BiReader, FrameReader, UniReader};
+use wt_seam::StreamSession;
+use wt_transport::Transport;
 use wt_turn::piece::Piece;
-use wt_wire::ids::StreamId;
 use wt_wire::side::Side;
 
-/// The driver of one connection: the transport with its readers, which of the peer's streams are
-/// dequeued and classified, and what this end's control stream sent. Contracts see what it keeps as a
-/// record, and tie that record to each log that it refines. After a call that answered `OutOfMemory`
-/// nothing is said of it.
+/// The driver of one connection. Each turn and each call leaves it at rest: what came was read as far as it may be, and what
+/// goes out because of it is out. After a call that answered `OutOfMemory` nothing is said of it.
 pub struct Driver {
     alloc: Global,
-    inbox: Inbox,
-    unis: VecDeque<Slot>,
-    bis: VecDeque<Slot>,
-    dispatched: DispatchedStreams,
-    progress: ConnectionProgress,
-    control_opened: bool,
-    control_sent: usize,
-    /// So many datagrams were received or passed.
-    released_datagrams: u64,
-    /// The datagrams that came after those.
-    queue: VecDeque<Piece>,
-    session: Option<(StreamId, usize)>,
-    /// What the peer's SETTINGS say, and whether they were given.
-    settings: Option<Settings>,
-    has_given_settings: bool,
+    pub(crate) transport: Transport,
+    own_control: OwnControl,
+    unis: Arriving<UniReader>,
+    bis: Arriving<BiReader>,
+    dispatched: Dispatched,
+    /// The datagrams that weren't looked at: they came before this end's SETTINGS were out.
+    datagrams: VecDeque<Piece>,
+    /// The response on a client's request stream, from when it is first asked for until the session begins.
+    response: Option<Reading<FrameReader<ResponseWalk>>>,
+    /// A call took the peer's SETTINGS, which are given once.
+    gave_settings: bool,
+}
+
+impl Model for Driver {
+    ghost use Rattle.wt_kept.specs.Kept.{DriverNow};
+
+    ghost Value = { DriverNow };
+
+    ghost view = { λ d. record { own_control = d.own_control; unis = d.unis; bis = d.bis; work = record { transport = d.transport; dispatched = d.dispatched }; datagrams = d.datagrams.items; response = d.response; gave_settings = d.gave_settings } };
+}
+
+/// A client's stream for its request, or the request where none can be opened yet.
+#[derive(Drop)]
+pub enum OpenSession {
+    /// The stream, on which nothing was written.
+    Ready(StreamSession),
+    /// The request, which may be tried again.
+    NotYet(SessionRequest),
 }
 
 /// The name alone: what it keeps is large, and no text of it is promised.
@@ -59,83 +74,41 @@ impl Drop for Driver {
     fn drop(self) {
         let Driver {
             alloc: _,
-            inbox: _,
+            transport: _,
+            own_control: _,
             unis: _,
             bis: _,
             dispatched: _,
-            progress: _,
-            control_opened: _,
-            control_sent: _,
-            released_datagrams: _,
-            queue: _,
-            session: _,
-            settings: _,
-            has_given_settings: _,
+            datagrams: _,
+            response: _,
+            gave_settings: _,
         } = self;
     }
-}
-
-impl Model for Driver {
-    ghost use Rattle.wt_driver_state.specs.DriverValue.{DriverValue};
-
-    ghost Value = { DriverValue };
-
-    ghost view = { λ d. record {
-      inbox = d.inbox;
-      state = record {
-        unis = d.unis.items;
-        bis = d.bis.items;
-        dispatched = d.dispatched;
-        progress = d.progress;
-        control_sent = record { opened = d.control_opened; sent = d.control_sent };
-        datagrams = d.released_datagrams;
-        session = d.session;
-        is_open = d.inbox.transport.is_open;
-      };
-      queue = d.queue.items;
-      settings = d.settings;
-      has_given_settings = d.has_given_settings;
-    } };
 }
 
 impl Driver {
     /// The driver of a connection of which nothing was reported yet.
     pub fn init(alloc: Global, side: Side) -> Driver
-        ensures inbox { result.inbox ≡ nothing_read side }
-        ensures state { result.state ≡ first_state true }
-        ensures queue { result.queue ≡ [] }
-        ensures settings { result.settings ≡ None }
-        ensures given { result.has_given_settings ≡ false }
+        ensures value { result ≡ driver_at_first side }
         ensures log { Follows side result [] 0 }
+        ensures pieces { pieces_of result ≡ 0 }
     {
         Driver {
             alloc,
-            inbox: Inbox::new(alloc, side),
-            unis: VecDeque::new(alloc),
-            bis: VecDeque::new(alloc),
-            dispatched: DispatchedStreams::new(alloc),
-            progress: ConnectionProgress::new(alloc),
-            control_opened: false,
-            control_sent: 0,
-            released_datagrams: 0,
-            queue: VecDeque::new(alloc),
-            session: None,
-            settings: None,
-            has_given_settings: false,
+            transport: Transport::new(alloc, side),
+            own_control: OwnControl::new(),
+            unis: Arriving::new(alloc, false),
+            bis: Arriving::new(alloc, true),
+            dispatched: Dispatched::new(alloc),
+            datagrams: VecDeque::new(alloc),
+            response: None,
+            gave_settings: false,
         }
     }
 
-    /// The transport and its readers, to be asked.
-    pub fn inbox(&self) -> &Inbox
-        ensures { result.now ≡ self.now.inbox }
-    {
-        &self.inbox
-    }
-
-    /// How many readers are kept.
-    pub fn readers(&self) -> usize
-        ensures { result ≡ min (readers_now self.now.inbox) (2 ^ 64 - 1) }
-    {
-        self.inbox.readers()
-    }
+    /// A law, and no call: a call that changes nothing that the driver keeps leaves its record, and the driver follows the log
+    /// after it, too.
+    pub fn rests(&self)
+        ensures { (r : CallRecord) → is_unnoticed r ≡ true → Within self.now (λ side log collected. Follows side self.now (log_record side log [] r) collected) }
+    {}
 }

@@ -1,5 +1,5 @@
-//! Tests of the driver: sessions, floods and single calls; of the core, and of how a connect begins. There are tests here
-//! and no code.
+//! Tests of the transport, its streams, and the driver of a connection: worked sessions, floods and single calls. There are tests here and
+//! no code.
 #![tactic(auto)]
 
 #[cfg(test)]

@@ -1,12 +1,19 @@
 //! What the contracts leave open: that memory suffices where there is enough, and worked cases.
-mod calls;
+mod arrivals;
+mod capsules;
+mod channel;
 mod clients;
-mod connects;
+mod critical;
 mod drivers;
 mod floods;
+mod half_calls;
+mod halves;
 mod harness;
-mod lines;
-mod machine;
-mod options;
 mod sessions;
+mod stream_rows;
+mod streams;
+mod transport;
+mod transport_rows;
+mod typed;
+mod windows;
 mod words;

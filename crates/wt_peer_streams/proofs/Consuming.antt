@@ -5,11 +5,11 @@ use Rattle.std.proofs.lemmas.Bool.{eqb-true}
 use Rattle.std.proofs.lemmas.Bool.Decides.{nat_tests}
 use Rattle.std.proofs.lemmas.List.{drop-drop, length-drop, get_or-set_same}
 use Rattle.wt_peer_streams.proofs.Streams.{has-changed, here-changed, here-has, index-below, other-changed, other-unread, row-changed}
-use Rattle.wt_next_transport.proofs.PieceLaws.{concat_skip, drop_none}
-use Rattle.wt_next_transport.specs.Pieces.{skip}
-use Rattle.wt_next_transport.specs.StreamState.{Stream, changed_in, consume, fresh, has_stream, row_at, stream_at, stream_in, with_changed}
-use Rattle.wt_next_transport.specs.State.{TransportState}
-use Rattle.wt_next_transport.specs.Step.{after_consume, end_now, unread_now, with_change}
+use Rattle.wt_transport.proofs.PieceLaws.{concat_skip, drop_none}
+use Rattle.wt_transport.specs.Pieces.{skip}
+use Rattle.wt_transport.specs.StreamState.{Stream, changed_in, consume, fresh, has_stream, row_at, stream_at, stream_in, with_changed}
+use Rattle.wt_transport.specs.State.{TransportState}
+use Rattle.wt_transport.specs.Step.{after_consume, end_now, unread_now, with_change}
 use Rattle.wt_wire.specs.declared.side.StreamEnd.{StreamEnd}
 use Rattle.wt_wire.specs.declared.side.StreamEnd.TheVariants as ends
 

@@ -9,11 +9,11 @@ use Rattle.wt_kept.specs.Classifying.{classify_now}
 use Rattle.wt_kept.specs.Counting.{CountsRead, header_pieces, scan_left, scan_most, slot_pieces, stopped_within, unless_failed, unread_pieces, waiting_pieces}
 use Rattle.wt_kept.specs.Kept.{ArrivingNow, WorkNow}
 use Rattle.wt_kept.specs.Readers.{ReadOn, Slot, noted_if}
-use Rattle.wt_next_transport.proofs.PieceLaws.{first_within}
-use Rattle.wt_next_transport.specs.Pieces.{first_piece, skip}
-use Rattle.wt_next_transport.specs.State.{TransportState}
-use Rattle.wt_next_transport.specs.Step.{after_consume, count_now, pieces_now, unread_now, with_change}
-use Rattle.wt_next_transport.specs.StreamState.{Stream, consume, has_stream, stream_at, with_changed}
+use Rattle.wt_transport.proofs.PieceLaws.{first_within}
+use Rattle.wt_transport.specs.Pieces.{first_piece, skip}
+use Rattle.wt_transport.specs.State.{TransportState}
+use Rattle.wt_transport.specs.Step.{after_consume, count_now, pieces_now, unread_now, with_change}
+use Rattle.wt_transport.specs.StreamState.{Stream, consume, has_stream, stream_at, with_changed}
 use Rattle.wt_peer_streams.proofs.Consuming.{consumed-here}
 use Rattle.wt_peer_streams.proofs.Losing.{Loses, classify-loses, loses-both, skip-fewer}
 use Rattle.wt_peer_streams.proofs.Streams.{here-changed, here-has}

@@ -2,9 +2,9 @@
 use Rattle.std.proofs.Common.{[], ◌+◌, ◌-◌, ◌∙◌, ◌∷◌, ◌≡◌, List, Some, ap, arith, drop, length, refl, suc, sym, take, true, zero, ℕ}
 use Rattle.wt_kept.specs.Kept.{OwnControlNow}
 use Rattle.wt_kept.specs.Moment.{OwnFlushed, head_sent, own_sent}
-use Rattle.wt_meaning.specs.ControlBytes.{local_control_bytes}
-use Rattle.wt_next_transport.specs.State.{TransportState}
-use Rattle.wt_next_transport.specs.Step.{after_send, covered_now, may_send_now}
+use Rattle.wt_message.specs.FixedBytes.{local_control_bytes}
+use Rattle.wt_transport.specs.State.{TransportState}
+use Rattle.wt_transport.specs.Step.{after_send, covered_now, may_send_now}
 use Rattle.wt_wire.specs.Varint.{varint_bytes}
 
 abbrev pub head : List ℕ

@@ -7,7 +7,7 @@ use Rattle.wt_kept.specs.Classifying.{classify_now}
 use Rattle.wt_kept.specs.Counting.{CountsRead, scan_left, scan_most}
 use Rattle.wt_kept.specs.Kept.{ArrivingNow, WorkNow}
 use Rattle.wt_kept.specs.Readers.{ReadOn, ReaderRules, Slot, read_on}
-use Rattle.wt_next_transport.specs.State.{TransportState}
+use Rattle.wt_transport.specs.State.{TransportState}
 use Rattle.wt_peer_streams.proofs.Counts.{look-goes-on, look-over}
 use Rattle.wt_peer_streams.proofs.LookLaws.{set-out, set-there}
 use Rattle.wt_peer_streams.proofs.Losing.{Loses, read-loses}

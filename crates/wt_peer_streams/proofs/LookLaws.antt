@@ -5,7 +5,7 @@ use Rattle.wt_kept.specs.Arriving.{with_transport}
 use Rattle.wt_kept.specs.Classifying.{classify_now}
 use Rattle.wt_kept.specs.Kept.{ArrivingNow, WorkNow}
 use Rattle.wt_kept.specs.Readers.{ReadOn, ReaderRules, Slot, read_on}
-use Rattle.wt_next_transport.specs.State.{TransportState}
+use Rattle.wt_transport.specs.State.{TransportState}
 use Rattle.wt_peer_streams.specs.Scanning.{Looked, is_incomplete, looked_at, looked_by, looked_so, slot_at}
 use Rattle.wt_proto.specs.declared.verdict.Verdict.{Verdict}
 use Rattle.wt_proto.specs.declared.verdict.Verdict.TheVariants as verdicts

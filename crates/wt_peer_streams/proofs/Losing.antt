@@ -10,11 +10,11 @@ use Rattle.wt_kept.specs.Ending.{Remains, end_stream, end_streams, finish_and_re
 use Rattle.wt_kept.specs.Kept.{Refused, SessionEndNow, WorkNow}
 use Rattle.wt_kept.specs.Readers.{ReaderRules, consumed, read_on, reads_on_if}
 use Rattle.wt_kept.specs.Windows.{Admitted, AdmissionNow, Full, Gone, admit_stream_now, live_in}
-use Rattle.wt_next_transport.specs.Pieces.{skip}
-use Rattle.wt_next_transport.specs.Running.{reset_running_now, still_receives_now, still_sends_now, stop_running_now}
-use Rattle.wt_next_transport.specs.State.{TransportState}
-use Rattle.wt_next_transport.specs.Step.{after_finish, after_give_up, after_reset, after_stop, can_receive_now, count_now, if_so, may_send_now, with_action, with_change}
-use Rattle.wt_next_transport.specs.StreamState.{Stream, changed_in, consume, fresh, give_up, has_stream, piece_count, pieces_in, row_at, stream_at, stream_in, with_changed, with_finish, with_reset}
+use Rattle.wt_transport.specs.Pieces.{skip}
+use Rattle.wt_transport.specs.Running.{reset_running_now, still_receives_now, still_sends_now, stop_running_now}
+use Rattle.wt_transport.specs.State.{TransportState}
+use Rattle.wt_transport.specs.Step.{after_finish, after_give_up, after_reset, after_stop, can_receive_now, count_now, if_so, may_send_now, with_action, with_change}
+use Rattle.wt_transport.specs.StreamState.{Stream, changed_in, consume, fresh, give_up, has_stream, piece_count, pieces_in, row_at, stream_at, stream_in, with_changed, with_finish, with_reset}
 use Rattle.wt_peer_streams.proofs.Stays.{change-counts}
 use Rattle.wt_peer_streams.proofs.Streams.{has-changed, here-changed, index-below, kind-below, other-changed}
 use Rattle.wt_proto.specs.declared.verdict.Verdict.{Verdict}

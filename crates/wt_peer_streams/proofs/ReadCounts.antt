@@ -9,13 +9,13 @@ use Rattle.wt_kept.specs.Kept.{ArrivingNow, Closed, CriticalNow, DispatchedNow, 
 use Rattle.wt_kept.specs.Looking.{after_walk, close_by_peer, is_closed_by_capsule, read_session, read_session_by, with_session_reader}
 use Rattle.wt_kept.specs.Readers.{ControlReading, ReadOn, Slot, control_rules, read_on, session_rules}
 use Rattle.wt_kept.specs.Windows.{live_in}
-use Rattle.wt_meaning.specs.SessionWalk.{is_over}
-use Rattle.wt_next_transport.specs.Running.{peer_stream_now, reset_running_now}
-use Rattle.wt_next_transport.specs.State.{TransportState}
-use Rattle.wt_next_transport.specs.Step.{after_give_up, can_receive_now, count_now, unread_now}
-use Rattle.wt_next_transport.specs.StreamState.{give_up, has_stream, piece_count, stream_at}
-use Rattle.wt_next_transport.specs.Accepting.{stream_after}
-use Rattle.wt_next_transport.specs.Kind as kinds
+use Rattle.wt_proto.specs.SessionWalk.{is_over}
+use Rattle.wt_transport.specs.Running.{peer_stream_now, reset_running_now}
+use Rattle.wt_transport.specs.State.{TransportState}
+use Rattle.wt_transport.specs.Step.{after_give_up, can_receive_now, count_now, unread_now}
+use Rattle.wt_transport.specs.StreamState.{give_up, has_stream, piece_count, stream_at}
+use Rattle.wt_transport.specs.Accepting.{stream_after}
+use Rattle.wt_transport.specs.Kind as kinds
 use Rattle.wt_peer_streams.proofs.Counts.{failed-fewer, slots-push, within-piece}
 use Rattle.wt_peer_streams.proofs.Losing.{Loses, before-own-loses, before_own, changed-count, finish-running-loses, give-up-loses, read-loses, reset-running-loses}
 use Rattle.wt_peer_streams.proofs.ScanSoFar.{below-both, kind-same}

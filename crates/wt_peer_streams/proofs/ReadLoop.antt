@@ -5,10 +5,10 @@ use Rattle.std.proofs.lemmas.Bool.Decides.{nat_tests}
 use Rattle.std.proofs.lemmas.List.{length-drop}
 use Rattle.std.specs.Prelude.{◌&&◌, ◌==◌, ◌⊎◌, if◌then◌else◌, not}
 use Rattle.wt_kept.specs.Readers.{ReadOn, consumed, fed_piece_by, is_end_reached, noted_if, reads_unread, taken_by}
-use Rattle.wt_next_transport.specs.State.{TransportState}
-use Rattle.wt_next_transport.specs.Step.{after_consume, end_now, pieces_now, unread_now}
-use Rattle.wt_next_transport.specs.Pieces.{first_piece}
-use Rattle.wt_next_transport.proofs.PieceLaws.{first_within, take_first}
+use Rattle.wt_transport.specs.State.{TransportState}
+use Rattle.wt_transport.specs.Step.{after_consume, end_now, pieces_now, unread_now}
+use Rattle.wt_transport.specs.Pieces.{first_piece}
+use Rattle.wt_transport.proofs.PieceLaws.{first_within, take_first}
 use Rattle.wt_peer_streams.proofs.Consuming.{consumed-ends, consumed-here, consumed-twice}
 use Rattle.wt_peer_streams.specs.Feeding.{Took}
 use Rattle.wt_seam_spec.specs.Reports.{is_running}

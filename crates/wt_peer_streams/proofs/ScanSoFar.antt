@@ -9,11 +9,11 @@ use Rattle.wt_kept.specs.Arriving.{ScannedNow, arrived_count, peer_kind, scan_no
 use Rattle.wt_kept.specs.Classifying.{classify_now}
 use Rattle.wt_kept.specs.Kept.{ArrivingNow, WorkNow}
 use Rattle.wt_kept.specs.Readers.{ReadOn, ReaderRules, Slot, consumed, read_on, reads_on_if, taken_by}
-use Rattle.wt_next_transport.specs.Accepting.{stream_after}
-use Rattle.wt_next_transport.specs.Kind as kinds
-use Rattle.wt_next_transport.specs.Running.{peer_stream_now}
-use Rattle.wt_next_transport.specs.State.{TransportState}
-use Rattle.wt_next_transport.specs.Step.{count_now, unread_now}
+use Rattle.wt_transport.specs.Accepting.{stream_after}
+use Rattle.wt_transport.specs.Kind as kinds
+use Rattle.wt_transport.specs.Running.{peer_stream_now}
+use Rattle.wt_transport.specs.State.{TransportState}
+use Rattle.wt_transport.specs.Step.{count_now, unread_now}
 use Rattle.wt_peer_streams.proofs.LookLaws.{there}
 use Rattle.wt_peer_streams.proofs.ScanLoop.{after_look, done-rest, in_front, looked-rest, over-rest, pushed-length, scan_rest, taken-rest}
 use Rattle.wt_peer_streams.proofs.Stays.{counts-read, counts-stay, side-read, side-stays}

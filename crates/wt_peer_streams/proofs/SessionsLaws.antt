@@ -8,10 +8,10 @@ use Rattle.wt_kept.specs.Counting.{CountsLive, CountsRead}
 use Rattle.wt_kept.specs.Kept.{LiveNow, SessionsNow, WindowNow, WorkNow}
 use Rattle.wt_kept.specs.Readers.{ReadOn, read_on, session_rules}
 use Rattle.wt_kept.specs.Windows.{Admits, Gone, Taken, admit_by, given_stream, is_gone_now, is_live, live_in, with_live, with_live_by_id}
-use Rattle.wt_next_transport.specs.State.{TransportState}
+use Rattle.wt_transport.specs.State.{TransportState}
 use Rattle.wt_peer_streams.proofs.Lists.{found-changed, found-is, none-changed, none-is}
 use Rattle.wt_peer_streams.specs.Living.{InWindow, LiveRead, ids_of, in_window, live_read, live_taken, news_by, news_of_reader, some_ids, stream_given, with_reader}
-use Rattle.wt_sessions.specs.SessionReader.{SessionReader}
+use Rattle.wt_proto.specs.SessionReader.{SessionReader}
 
 module _ (s : ℕ) (d : SessionsNow) (i : ℕ) (x : LiveNow) (at : position (is_live s) d.living ≡ Some i) (is : x ≡ get_or d.living i x) where
   -- it lives

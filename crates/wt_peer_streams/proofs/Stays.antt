@@ -7,10 +7,10 @@ use Rattle.wt_kept.specs.Ending.{Remains, end_stream, end_streams, give_up_all, 
 use Rattle.wt_kept.specs.Kept.{Refused, SessionEndNow, WorkNow}
 use Rattle.wt_kept.specs.Readers.{consumed}
 use Rattle.wt_kept.specs.Windows.{Admitted, AdmissionNow, Full, Gone, admit_stream_now, live_in}
-use Rattle.wt_next_transport.specs.Running.{still_receives_now, still_sends_now, stop_running_now}
-use Rattle.wt_next_transport.specs.State.{TransportState}
-use Rattle.wt_next_transport.specs.Step.{after_give_up, after_reset, after_stop, can_receive_now, count_now, if_so, with_action, with_change}
-use Rattle.wt_next_transport.specs.StreamState.{Stream, changed_in, consume, give_up, has_stream, row_at, stream_in, with_reset}
+use Rattle.wt_transport.specs.Running.{still_receives_now, still_sends_now, stop_running_now}
+use Rattle.wt_transport.specs.State.{TransportState}
+use Rattle.wt_transport.specs.Step.{after_give_up, after_reset, after_stop, can_receive_now, count_now, if_so, with_action, with_change}
+use Rattle.wt_transport.specs.StreamState.{Stream, changed_in, consume, give_up, has_stream, row_at, stream_in, with_reset}
 use Rattle.wt_proto.specs.declared.verdict.Verdict.{Verdict}
 use Rattle.wt_turn.specs.declared.action.Action.{Action}
 use Rattle.wt_wire.specs.Codes.{code_of}

@@ -6,9 +6,9 @@ use Rattle.std.proofs.lemmas.Bool.Decides.{nat_tests}
 use Rattle.std.proofs.lemmas.Bool.{cases_lt}
 use Rattle.std.proofs.lemmas.List.{get_or-set_same, get_or-set_other}
 use Rattle.std.proofs.Math.ListN.{length-set}
-use Rattle.wt_next_transport.specs.StreamState.{Stream, with_changed, changed_in, fresh, has_stream, row_at, stream_at, stream_in}
-use Rattle.wt_next_transport.specs.State.{TransportState}
-use Rattle.wt_next_transport.specs.Step.{with_change, unread_now}
+use Rattle.wt_transport.specs.StreamState.{Stream, with_changed, changed_in, fresh, has_stream, row_at, stream_at, stream_in}
+use Rattle.wt_transport.specs.State.{TransportState}
+use Rattle.wt_transport.specs.Step.{with_change, unread_now}
 
 -- past the end of a list there is the default
 pub past-end : {X : Type 0} (xs : List X) (i : ℕ) (d : X) → length xs ≤ i → get_or xs i d ≡ d

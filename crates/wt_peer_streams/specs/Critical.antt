@@ -4,7 +4,7 @@ use Rattle.wt_kept.specs.Kept.{CriticalNow}
 use Rattle.wt_kept.specs.Pieces.{FedNow, fed_by}
 use Rattle.wt_kept.specs.Readers.{ControlReading, ReadOn, Slot, control_rules, fed_piece, read_on}
 use Rattle.wt_message.specs.declared.settings.Settings.{Settings}
-use Rattle.wt_next_transport.specs.State.{TransportState}
+use Rattle.wt_transport.specs.State.{TransportState}
 use Rattle.wt_wire.specs.declared.error.ErrorCode.{ErrorCode}
 
 -- the first one stays

@@ -1,7 +1,7 @@
 -- One feed of a reader with unread bytes of its stream.
 use Rattle.std.specs.Prelude.{◌<◌, ◌≡◌, ◌≤◌, Bool, List, false, length, take, ℕ}
-use Rattle.wt_next_transport.specs.State.{TransportState}
-use Rattle.wt_next_transport.specs.Step.{after_consume, unread_now}
+use Rattle.wt_transport.specs.State.{TransportState}
+use Rattle.wt_transport.specs.Step.{after_consume, unread_now}
 
 -- it took some of them, and none after what it says was final
 pub record Took {V : Type 0} (said : V → Bool) (fed : V → List ℕ → V) (id : ℕ) (r : V) (t : TransportState) (after : V) (then_t : TransportState) : Type 0 where

@@ -7,10 +7,10 @@ use Rattle.wt_kept.specs.Looking.{after_walk, is_closed_by_capsule, with_session
 use Rattle.wt_kept.specs.Pieces.{FedNow, fed_by}
 use Rattle.wt_kept.specs.Readers.{ReadOn, fed_piece, read_on, session_rules}
 use Rattle.wt_kept.specs.Windows.{AdmissionNow, Taken, given_datagram, given_stream, joined_by, with_live}
-use Rattle.wt_next_transport.specs.State.{TransportState}
+use Rattle.wt_transport.specs.State.{TransportState}
 use Rattle.wt_peer_streams.specs.declared.live.News.{News}
 use Rattle.wt_peer_streams.specs.declared.live.News.TheVariants as news
-use Rattle.wt_sessions.specs.SessionReader.{SessionReader}
+use Rattle.wt_proto.specs.SessionReader.{SessionReader}
 use Rattle.wt_sessions.specs.StreamTable.{Waiting}
 
 -- the session's reader is so far

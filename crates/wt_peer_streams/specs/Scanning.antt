@@ -5,8 +5,8 @@ use Rattle.wt_kept.specs.Arriving.{ScannedNow, with_transport}
 use Rattle.wt_kept.specs.Classifying.{classify_now}
 use Rattle.wt_kept.specs.Kept.{ArrivingNow, DispatchedNow, WorkNow}
 use Rattle.wt_kept.specs.Readers.{ReadOn, ReaderRules, Slot, read_on}
-use Rattle.wt_next_transport.specs.Running.{peer_stream_now}
-use Rattle.wt_next_transport.specs.State.{TransportState}
+use Rattle.wt_transport.specs.Running.{peer_stream_now}
+use Rattle.wt_transport.specs.State.{TransportState}
 use Rattle.wt_proto.specs.Uni.{is_final}
 use Rattle.wt_proto.specs.declared.verdict.Verdict.{Verdict}
 use Rattle.wt_proto.specs.declared.verdict.Verdict.TheVariants as verdicts

@@ -13,10 +13,10 @@ use crate::reading::{Fed, Reading};
 use std::alloc::Global;
 use std::marker::Model;
 use std::sync::ledger::Ledger;
-use wt_next_proto::{BiReader, Reader, UniReader};
-use wt_next_transport::Transport;
 use wt_proto::steps::Steps;
 use wt_proto::verdict::Verdict;
+use wt_proto::{BiReader, Reader, UniReader};
+use wt_transport::Transport;
 use wt_wire::error::OutOfMemory;
 use wt_wire::ids::StreamId;
 

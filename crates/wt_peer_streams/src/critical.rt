@@ -1,5 +1,5 @@
 //! The peer's streams on which the connection rests.
-ghost use Rattle.std.specs.Prelude.{◌≡◌, ◌+◌, ◌||◌, IfOk, None, OnOk, is_none};
+ghost use Rattle.std.specs.Prelude.{◌≡◌, ◌≤◌, ◌+◌, ◌||◌, IfOk, None, OnOk, is_none};
 ghost use Rattle.wt_kept.specs.Counting.{CountsControl, feed_steps};
 ghost use Rattle.wt_kept.specs.Looking.{has_ended};
 ghost use Rattle.wt_peer_streams.specs.Critical.{control_count, control_fed, control_feed, control_settings, read_control_at, with_control_at, with_once};
@@ -8,10 +8,10 @@ use crate::reading::{Fed, Reading, is_running};
 use std::alloc::Global;
 use std::marker::Model;
 use std::sync::ledger::Ledger;
-use wt_next_proto::ControlReader;
-use wt_next_transport::Transport;
+use wt_proto::ControlReader;
 use wt_proto::settings::Settings;
 use wt_proto::steps::Steps;
+use wt_transport::Transport;
 use wt_wire::error::{ErrorCode, OutOfMemory};
 use wt_wire::ids::StreamId;
 
@@ -100,7 +100,8 @@ impl CriticalStreams {
 
     /// How many readers there are: that of the control stream.
     pub fn readers(&self) -> usize
-        ensures { result ≡ control_count self.now.control }
+        ensures count { result ≡ control_count self.now.control }
+        ensures few { result ≤ 1 }
     {
         match &self.control {
             Some(_) => 1,

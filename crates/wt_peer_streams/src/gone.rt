@@ -1,7 +1,7 @@
 //! The sessions that are gone.
 ghost use Rattle.std.specs.Prelude.{◌≡◌, ◌==◌, [], OnOk, length, option_copied, option_map};
 ghost use Rattle.wt_kept.specs.Ending.{with_gone};
-ghost use Rattle.wt_kept.specs.Windows.{end_in, is_gone_in};
+ghost use Rattle.wt_kept.specs.Windows.{end_in};
 ghost use Rattle.wt_peer_streams.specs.Gone.{end_now};
 
 use crate::numbered::{Numbered, place_of};
@@ -12,7 +12,7 @@ use wt_wire::error::OutOfMemory;
 use wt_wire::ids::SessionId;
 
 /// How a session became gone.
-#[derive(Debug, Drop)]
+#[derive(Drop)]
 pub enum SessionEnd {
     /// Its request was refused, surplus or rejected: it was never established.
     Refused,
@@ -23,7 +23,7 @@ pub enum SessionEnd {
 }
 
 /// A session that is gone.
-#[derive(Debug, Drop)]
+#[derive(Drop)]
 pub(crate) struct GoneSession {
     session: SessionId,
     end: SessionEnd,
@@ -61,7 +61,7 @@ impl GoneSession {
 }
 
 /// The sessions that are gone, by id. A stream or a datagram may name any of them at any time, so none is forgotten.
-#[derive(Debug, Drop)]
+#[derive(Drop)]
 pub struct GoneSessions {
     sessions: Vec<GoneSession>,
 }
@@ -107,13 +107,6 @@ impl GoneSessions {
             return Some(self.sessions[place].end());
         }
         None
-    }
-
-    /// Whether the session is gone.
-    pub fn has(&self, session: SessionId) -> bool
-        ensures { result ≡ is_gone_in self.now session }
-    {
-        self.end_of(session).is_some()
     }
 
     /// The session becomes gone.

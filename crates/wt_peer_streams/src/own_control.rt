@@ -2,10 +2,10 @@
 ghost use Rattle.std.specs.Prelude.{◌≡◌, ◌==◌, None, OnOk, Some, length};
 ghost use Rattle.wt_kept.specs.Looking.{is_own_stopped};
 ghost use Rattle.wt_kept.specs.Moment.{is_ready_now, own_flushed, own_opened, own_sent};
-ghost use Rattle.wt_meaning.specs.ControlBytes.{local_control_bytes};
+ghost use Rattle.wt_message.specs.FixedBytes.{local_control_bytes};
 
 use std::marker::Model;
-use wt_next_transport::Transport;
+use wt_transport::Transport;
 use wt_wire::error::OutOfMemory;
 use wt_wire::ids::StreamId;
 
@@ -16,7 +16,7 @@ const HEAD: [u8; 25] = [
 ];
 
 /// This end's control stream, its first unidirectional one, where it is open; and how many bytes of its head are out.
-#[derive(Debug, Drop)]
+#[derive(Drop)]
 pub struct OwnControl {
     stream: Option<StreamId>,
     sent: usize,

@@ -3,15 +3,15 @@ ghost use Rattle.std.specs.Prelude.{◌≡◌, ◌<◌, ◌+◌, ◌==◌, ◌&&
 ghost use Rattle.wt_kept.specs.Counting.{CountsRead};
 ghost use Rattle.wt_kept.specs.Pieces.{feeds};
 ghost use Rattle.wt_kept.specs.Readers.{fed_piece_by, noted_if, reads_on};
-ghost use Rattle.wt_next_transport.specs.Step.{end_now, unread_now};
+ghost use Rattle.wt_transport.specs.Step.{end_now, unread_now};
 ghost use Rattle.wt_peer_streams.specs.Feeding.{Took};
 ghost use Rattle.wt_seam_spec.specs.Reports.{is_running};
 
 use std::marker::Model;
 use std::sync::ledger::Ledger;
-use wt_next_proto::Reader;
-use wt_next_transport::Transport;
+use wt_proto::Reader;
 use wt_proto::steps::Steps;
+use wt_transport::Transport;
 use wt_wire::error::OutOfMemory;
 use wt_wire::ids::StreamId;
 use wt_wire::side::StreamEnd;
@@ -27,7 +27,7 @@ pub(crate) fn is_running(end: StreamEnd) -> bool
 }
 
 /// What a reader did with a piece.
-#[derive(Clone, Copy, Debug)]
+#[derive(Clone, Copy)]
 pub struct Fed {
     taken: usize,
     is_final: bool,

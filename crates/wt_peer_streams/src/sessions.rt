@@ -21,8 +21,8 @@ use crate::window::{Admission, Window};
 use std::alloc::Global;
 use std::marker::Model;
 use std::sync::ledger::Ledger;
-use wt_next_transport::Transport;
 use wt_proto::steps::Steps;
+use wt_transport::Transport;
 use wt_wire::error::OutOfMemory;
 use wt_wire::ids::{SessionId, StreamId};
 
@@ -175,7 +175,7 @@ impl Sessions {
     pub fn is_gone(&self, session: SessionId) -> bool
         ensures { result ≡ is_gone_now self.now session }
     {
-        self.gone.has(session)
+        self.end_of(session).is_some()
     }
 
     // ---- what comes for them

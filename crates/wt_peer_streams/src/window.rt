@@ -86,7 +86,7 @@ fn split<T: Named + Drop>(
 }
 
 /// Whether what comes for a session finds a place.
-#[derive(Clone, Copy, Debug)]
+#[derive(Clone, Copy)]
 pub enum Admission {
     /// It waits now.
     Admitted,

@@ -9,19 +9,19 @@ use Rattle.wt_turn.specs.declared.action.Action.{Action}
 use Rattle.wt_turn.specs.declared.turn.Turn.{Turn}
 use Rattle.wt_turn.specs.declared.turn.Turn.TheVariants as turns
 use Rattle.wt_turn.specs.Log.{Event, Received, Log, events_of, all_events_of, actions_of, calls_of, is_open}
-use Rattle.wt_streams.specs.declared.stream.Stream.{Stream}
+use Rattle.wt_transport.specs.StreamState.{Stream}
 use Rattle.wt_seam_spec.specs.Streams.{contents, local_uni, peer_uni, peer_count, local_count, stream_count, exists, can_receive, can_send}
 use Rattle.wt_seam_spec.specs.Reports.{is_connected, is_running, loss_of, end_of, credit, unis_allowed, bis_allowed, initial_credit, datagram_fact}
 use Rattle.wt_seam_spec.specs.Sent.{sent_on, is_finished, is_reset, has_dialled, priority_of}
 use Rattle.wt_seam_spec.specs.Arrivals.{may_begin, may_receive, may_come, fits, event_entry, log_bytes, log_bytes_if, log_turn}
 use Rattle.wt_seam_spec.specs.Joined.{joined_actions}
-use Rattle.wt_seam_spec.specs.Unread.{ReadPosition, AtOffset, GivenUp, is_given_up, from_position, unread}
-use Rattle.wt_streams.specs.Pieces.{AreFilled}
-use Rattle.wt_streams.specs.StreamState.{with_changed, with_bytes}
-use Rattle.wt_streams.specs.StreamState.{rows}
+use Rattle.wt_seam_spec.specs.Unread.{ReadPosition, AtOffset, GivenUp, is_given_up, from_position}
+use Rattle.wt_transport.specs.Pieces.{AreFilled}
+use Rattle.wt_transport.specs.StreamState.{with_changed, with_bytes}
+use Rattle.wt_transport.specs.StreamState.{rows}
 use Rattle.wt_transport.specs.State.{TransportState, nothing_accepted, signals_of, stream_of, state_of, Facts, IsWithin, Holds}
 use Rattle.wt_transport.specs.Step.{if_so, after_turn}
-use Rattle.wt_streams.proofs.PieceLaws.{concat_more, filled_more}
+use Rattle.wt_transport.proofs.PieceLaws.{concat_more, filled_more}
 use Rattle.wt_transport.proofs.StreamChanges.{received_unless, received, receive-changes}
 use Rattle.wt_transport.proofs.Events.{with-streams, end-then, reset-then, stop-then, ack-then, credit-then, uni-then, bi-then, connected-then, datagram-then, unis-then, bis-then, limit-then, loss-then}
 use Rattle.wt_transport.proofs.KeptFacts.{facts-changed, end-facts, reset-facts, stop-facts, ack-facts, credit-facts, uni-facts, bi-facts, connected-facts, datagram-facts, unis-facts, bis-facts, limit-facts, loss-facts, received-stream}

@@ -8,9 +8,9 @@ use Rattle.wt_turn.specs.declared.turn.Turn.TheVariants as turns
 use Rattle.wt_turn.specs.declared.action.Action.TheVariants as actions
 use Rattle.wt_turn.specs.Log.{Event, Connected, PeerUni, PeerBi, End, Reset, Stop, Acked, Datagram, MaxUni, MaxBi, MaxData, DatagramLimit, Loss}
 use Rattle.wt_turn.specs.Turns.{event_of}
-use Rattle.wt_streams.specs.StreamState.{consume, has_stream, with_bytes}
+use Rattle.wt_transport.specs.StreamState.{consume, has_stream, with_bytes}
 use Rattle.wt_transport.specs.State.{TransportState, but_accepted}
-use Rattle.wt_transport.specs.Step.{after_bytes, after_close, after_consume, after_event, after_opening, after_reported, after_reset, after_send, after_stop, after_turn, can_receive_now, covered_now, fits_now, if_so, may_be_lost_now, may_begin_now, may_come_now, may_open_now, next_id_now, with_action, with_change, with_new_stream, with_send}
+use Rattle.wt_transport.specs.Step.{after_bytes, after_close, after_consume, after_event, after_opening, after_reported, after_reset, after_send, after_stop, after_turn, covered_now, fits_now, if_so, may_be_lost_now, may_begin_now, may_open_now, next_id_now, with_action, with_change, with_new_stream, with_send}
 
 -- the step goes the same way, whatever was accepted
 abbrev pub Forgets : (TransportState → TransportState) → TransportState → Type 0

@@ -1,6 +1,6 @@
 -- Each call leads from what is kept of a log to what is kept of the log with what the call did.
-use Rattle.std.proofs.Common.{arith, ◌≡◌, ◌≢◌, ◌<◌, ◌≤◌, ◌+◌, ◌-◌, ◌*◌, ◌%◌, ℕ, ℤ, Bool, true, false, Some, None, List, [], ◌∷◌, length, take, drop, refl, sym, subst, ap, ◌∙◌, length-take, length-drop}
-use Rattle.std.specs.Prelude.{nat_lt, is_some, ◌==◌, ◌&&◌, ◌||◌, not, if◌then◌else◌}
+use Rattle.std.proofs.Common.{arith, ◌≡◌, ◌≢◌, ◌<◌, ◌≤◌, ◌+◌, ◌*◌, ◌%◌, ℕ, ℤ, Bool, true, false, Some, None, List, [], ◌∷◌, length, take, drop, refl, sym, subst, ap, ◌∙◌, length-take, length-drop}
+use Rattle.std.specs.Prelude.{nat_lt, is_some, ◌==◌, ◌&&◌, not, if◌then◌else◌}
 use Rattle.std.specs.List.{concat, list_any}
 use Rattle.std.proofs.lemmas.Bool.Decides.{nat_tests}
 use Rattle.std.proofs.lemmas.List.{drop-drop}
@@ -10,20 +10,20 @@ use Rattle.wt_wire.specs.declared.addr.Addr.{Addr}
 use Rattle.wt_turn.specs.declared.action.Action.{Action}
 use Rattle.wt_turn.specs.declared.action.Action.TheVariants as actions
 use Rattle.wt_turn.specs.Log.{Log, Sent, Called, ResetUnsent, PrioritySet, events_of, all_events_of, actions_of, is_open, ends_by, closes, with_actions}
-use Rattle.wt_streams.specs.declared.stream.Stream.{Stream}
+use Rattle.wt_transport.specs.StreamState.{Stream}
 use Rattle.wt_seam_spec.specs.Streams.{contents, one_more_if, peer_count, local_count, stream_count, exists, peer_uni, can_send}
 use Rattle.wt_seam_spec.specs.Reports.{is_connected, end_of, initial_credit}
 use Rattle.wt_seam_spec.specs.Joined.{send_of, join_one, joined_actions, newest_first}
 use Rattle.wt_seam_spec.specs.Outgoing.{streams_allowed, may_open, next_id, opened_id, actions_to_open, may_send, credit_left, bytes_within_credit, actions_to_send, if_open, reset_entry}
 use Rattle.wt_seam_spec.specs.Unread.{ReadPosition, AtOffset, GivenUp, from_position, unread, advance, position_after, given_up}
-use Rattle.wt_streams.specs.Pieces.{AreFilled, skip}
-use Rattle.wt_streams.specs.StreamState.{fresh, stream_at, with_changed, with_pushed, credit_of, with_sent, with_finish, with_reset, with_priority, consume, give_up}
-use Rattle.wt_streams.specs.StreamState.{rows}
+use Rattle.wt_transport.specs.Pieces.{AreFilled, skip}
+use Rattle.wt_transport.specs.StreamState.{fresh, stream_at, with_changed, with_pushed, credit_of, with_sent, with_finish, with_reset, with_priority, consume, give_up}
+use Rattle.wt_transport.specs.StreamState.{rows}
 use Rattle.wt_transport.specs.State.{TransportState, stream_of, state_of, IsStream, Facts, IsWithin, Holds}
 use Rattle.wt_transport.specs.Step.{may_open_now, next_id_now, opened_id_now, after_opening, may_send_now, covered_now, with_send, after_send, after_finish, after_reset, after_stop, after_priority, after_close, after_consume, after_give_up, pieces_now, end_now, with_action, with_change, with_new_stream, if_so}
 use Rattle.wt_transport.proofs.Bools.{first, second, not-either, where-so-three}
-use Rattle.wt_streams.proofs.PieceLaws.{drop_none, concat_skip, filled_skip}
-use Rattle.wt_streams.proofs.Rows.{rows-changed, rows-pushed}
+use Rattle.wt_transport.proofs.PieceLaws.{drop_none, concat_skip, filled_skip}
+use Rattle.wt_transport.proofs.Rows.{rows-changed, rows-pushed}
 use Rattle.wt_transport.proofs.StreamChanges.{Changes, skipped, emptied, send-changes, finish-changes, reset-sent, reset-unsent, priority-changes, consume-changes, give-up-changes}
 use Rattle.wt_transport.proofs.Events.{next-fresh, with-streams}
 use Rattle.wt_transport.proofs.KeptFacts.{facts-changed, facts-opened, sent-stream, finished-stream, reset-stream, priority-stream, consumed-stream, given-up-stream}

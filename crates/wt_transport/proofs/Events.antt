@@ -9,17 +9,16 @@ use Rattle.wt_turn.specs.declared.action.Action.{Action}
 use Rattle.wt_turn.specs.declared.datagram_fact.DatagramFact.{DatagramFact}
 use Rattle.wt_turn.specs.declared.loss.LossReason.{LossReason}
 use Rattle.wt_turn.specs.Log.{Event, Connected, PeerUni, PeerBi, End, Reset, Stop, Acked, Datagram, MaxUni, MaxBi, MaxData, DatagramLimit, Loss, Reported, Log, all_events_of, actions_of, is_open}
-use Rattle.wt_streams.specs.declared.stream.Signals.{Signals}
-use Rattle.wt_streams.specs.declared.stream.Stream.{Stream}
+use Rattle.wt_transport.specs.StreamState.{Signals, Stream}
 use Rattle.wt_seam_spec.specs.Streams.{peer_uni, peer_bi, peer_count, local_count, one_more_if, stream_count, exists}
 use Rattle.wt_seam_spec.specs.Reports.{is_connected, initial_credit}
 use Rattle.wt_seam_spec.specs.Arrivals.{event_entry}
 use Rattle.wt_seam_spec.specs.Unread.{ReadPosition}
-use Rattle.wt_streams.specs.StreamState.{fresh, signal, with_end, with_stop, with_ack, with_credit, with_changed, with_pushed}
-use Rattle.wt_streams.specs.StreamState.{rows}
+use Rattle.wt_transport.specs.StreamState.{fresh, signal, with_end, with_stop, with_ack, with_credit, with_changed, with_pushed}
+use Rattle.wt_transport.specs.StreamState.{rows}
 use Rattle.wt_transport.specs.State.{TransportState, stream_of, state_of, IsStream, Facts}
 use Rattle.wt_transport.specs.Step.{if_so, after_event}
-use Rattle.wt_streams.proofs.Rows.{rows-changed, rows-pushed, rows-none}
+use Rattle.wt_transport.proofs.Rows.{rows-changed, rows-pushed, rows-none}
 use Rattle.wt_transport.proofs.StreamChanges.{Changes, end-changes, reset-changes, stop-changes, ack-changes, credit-changes}
 
 -- a change of one stream, in a transport that stays the same but for its streams

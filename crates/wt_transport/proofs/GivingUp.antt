@@ -1,5 +1,5 @@
 -- A stream that was given up stays as it is when it is given up again.
-use Rattle.std.proofs.Common.{arith, ◌≡◌, ◌<◌, ℕ, Bool, true, false, List, [], ◌∷◌, ◌++◌, length, refl, sym, subst, ap, ◌∙◌}
+use Rattle.std.proofs.Common.{arith, ◌≡◌, ℕ, Bool, true, false, List, [], ◌∷◌, refl, sym, subst, ap, ◌∙◌}
 use Rattle.std.specs.Prelude.{IsTrue, ◌==◌, if◌then◌else◌}
 use Rattle.std.specs.List.{concat}
 use Rattle.std.proofs.lemmas.Bool.{eqb-true}
@@ -8,8 +8,8 @@ use Rattle.wt_turn.specs.declared.action.Action.{Action}
 use Rattle.wt_turn.specs.Log.{Log}
 use Rattle.wt_seam_spec.specs.Streams.{contents}
 use Rattle.wt_seam_spec.specs.Unread.{ReadPosition, GivenUp, from_position, given_up}
-use Rattle.wt_streams.specs.declared.stream.Stream.{Stream}
-use Rattle.wt_streams.specs.Pieces.{AreFilled}
+use Rattle.wt_transport.specs.StreamState.{Stream}
+use Rattle.wt_transport.specs.Pieces.{AreFilled}
 use Rattle.wt_transport.specs.State.{TransportState, state_of, Refines}
 use Rattle.wt_transport.specs.Step.{after_give_up, can_receive_now}
 use Rattle.wt_transport.proofs.StreamChanges.{emptied}
@@ -45,7 +45,7 @@ module _ (side : Side) (t : TransportState) (log : Log) (position : ℕ → Read
       ∙ ap (λ (u : TransportState). u.streams) (give-up-then side log position r.pieces uncollected r.facts id (receiving_exists side t log position uncollected r id can))
       ∙ ((λ i. (state_of side log (same-positions i) (same-pieces i) uncollected).streams) ∙ sym (ap (λ (u : TransportState). u.streams) r.state))
 
-  given_up_again : IsTrue (can_receive_now t id) → after_give_up t id ≡ t
+  pub given_up_again : IsTrue (can_receive_now t id) → after_give_up t id ≡ t
   given_up_again can = ap (λ (streams : List (List Stream)). record t { streams = streams }) (same-streams can)
 
   -- whether or not the half is there

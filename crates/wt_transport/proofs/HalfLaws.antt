@@ -11,11 +11,11 @@ use Rattle.wt_turn.specs.Log.{Log, Called, PrioritySet, is_open, with_actions}
 use Rattle.wt_seam_spec.specs.Joined.{newest_first}
 use Rattle.wt_seam_spec.specs.Outgoing.{actions_to_send, if_open, reset_entry}
 use Rattle.wt_seam_spec.specs.Unread.{ReadPosition, unread, given_up}
-use Rattle.wt_streams.specs.StreamState.{stream_at}
+use Rattle.wt_transport.specs.StreamState.{stream_at}
 use Rattle.wt_transport.specs.State.{TransportState, Refines}
 use Rattle.wt_transport.specs.Step.{can_send_now, can_receive_now, may_send_now, after_send, after_finish, after_reset, after_priority, after_stop, after_give_up, unread_now, with_action, if_so}
-use Rattle.wt_streams.specs.HalfRules.{SendingHalf, ReceivingHalf, is_closed, read_count, read_exact_count, count_of_few}
-use Rattle.wt_streams.specs.StreamState.{sending_half_of}
+use Rattle.wt_transport.specs.HalfRules.{SendingHalf, ReceivingHalf, is_closed, read_count, read_exact_count, count_of_few}
+use Rattle.wt_transport.specs.StreamState.{sending_half_of}
 use Rattle.wt_transport.specs.Rules.{sending_half, receiving_half, sending_half_now, receiving_half_now, actions_of_write, actions_of_finish, log_reset, actions_of_reset, log_priority, after_write, after_finishing, after_reset_unless_closed, after_priority_unless_closed}
 use Rattle.wt_transport.proofs.Fitting.{at-is}
 use Rattle.wt_transport.proofs.Refining as refining
@@ -34,6 +34,14 @@ exact-within false half size e = grind (arith, nat_tests)
 
 pub read_exact_within : (half : ReceivingHalf) (size : ℕ) → read_exact_count half size ≤ half.unread
 read_exact_within half size = exact-within (nat_lt half.unread size) half size refl
+
+keeps-if : (b : Bool) (t : TransportState) (id code : ℕ) → can_receive_now (if_so b (with_action t (actions.StopOut id code)) t) id ≡ can_receive_now t id
+keeps-if true t id code = refl
+keeps-if false t id code = refl
+
+-- a stop leaves which halves there are
+pub stop_keeps : (t : TransportState) (id code : ℕ) → can_receive_now (after_stop t id code) id ≡ can_receive_now t id
+stop_keeps t id code = keeps-if t.is_open t id code
 
 module _ (side : Side) (t : TransportState) (log : Log) (position : ℕ → ReadPosition) (uncollected : List Action) (r : Refines side t log position uncollected) where
   pub sending_kept : (id : ℕ) → IsTrue (can_send_now t id) → sending_half_now t id ≡ sending_half log id
@@ -90,11 +98,7 @@ module _ (side : Side) (t : TransportState) (log : Log) (position : ℕ → Read
   set_priority_refines id priority e = subst (λ (h : SendingHalf). Refines side (after_priority_unless_closed t id priority) (if is_closed h then log else (Called (PrioritySet id priority) ∷ log)) position uncollected)
       (sending_kept id e) (priority-if (is_closed (sending_half_now t id)) id priority e)
 
-  stop-keeps : (b : Bool) (id code : ℕ) → can_receive_now (if_so b (with_action t (actions.StopOut id code)) t) id ≡ can_receive_now t id
-  stop-keeps true id code = refl
-  stop-keeps false id code = refl
-
   pub stop_half_refines : (id code : ℕ) → IsTrue (can_receive_now t id)
       → Refines side (after_give_up (after_stop t id code) id) (with_actions (if_open log (actions.StopOut id code)) log) (given_up position id) (newest_first (if_open log (actions.StopOut id code)) uncollected)
   stop_half_refines id code e = refining.give_up_refines side (after_stop t id code) (with_actions (if_open log (actions.StopOut id code)) log) position (newest_first (if_open log (actions.StopOut id code)) uncollected)
-      (refining.stop_refines side t log position uncollected r id code) id (stop-keeps t.is_open id code ∙ e)
+      (refining.stop_refines side t log position uncollected r id code) id (stop_keeps t id code ∙ e)

@@ -1,3 +1,7 @@
+pub mod PieceLaws
+pub mod Copying
+pub mod Joining
+pub mod Rows
 pub mod Bools
 pub mod Results
 pub mod StreamChanges
@@ -12,3 +16,6 @@ pub mod GivingUp
 pub mod HalfLaws
 pub mod AcceptLaws
 pub mod Asking
+pub mod StillRunning
+pub mod Decisions
+pub mod Reports

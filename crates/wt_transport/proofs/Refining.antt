@@ -1,5 +1,5 @@
 -- A transport that refines a log tells what the log says, and after each call refines the longer one.
-use Rattle.std.proofs.Common.{arith, ◌≡◌, ◌<◌, ◌≤◌, ◌+◌, ◌*◌, ◌%◌, ℕ, ℤ, Bool, true, false, List, [], ◌∷◌, ◌++◌, length, take, min, refl, sym, subst, ap, ◌∙◌, length-take}
+use Rattle.std.proofs.Common.{arith, ◌≡◌, ◌<◌, ◌≤◌, ◌%◌, ℕ, ℤ, Bool, true, false, List, [], ◌∷◌, ◌++◌, length, take, min, refl, sym, subst, ap, ◌∙◌, length-take}
 use Rattle.std.specs.Prelude.{IsTrue, is_some, ◌==◌, ◌&&◌, not, if◌then◌else◌}
 use Rattle.std.specs.List.{concat}
 use Rattle.wt_wire.specs.declared.side.Side.{Side}
@@ -11,15 +11,15 @@ use Rattle.wt_turn.specs.declared.action.Action.TheVariants as actions
 use Rattle.wt_turn.specs.declared.turn.Turn.{Turn}
 use Rattle.wt_turn.specs.declared.turn.Turn.TheVariants as turns
 use Rattle.wt_turn.specs.Log.{Log, Sent, Called, ResetUnsent, PrioritySet, events_of, is_open, with_actions}
-use Rattle.wt_streams.specs.declared.stream.Stream.{Stream}
+use Rattle.wt_transport.specs.StreamState.{Stream}
 use Rattle.wt_seam_spec.specs.Streams.{local_bi, local_uni, peer_uni, exists, contents, can_send, can_receive}
 use Rattle.wt_seam_spec.specs.Reports.{end_of, datagram_fact, loss_of}
 use Rattle.wt_seam_spec.specs.Arrivals.{fits, log_turn}
 use Rattle.wt_seam_spec.specs.Joined.{joined_actions, newest_first}
 use Rattle.wt_seam_spec.specs.Outgoing.{may_send, actions_to_open, opened_id, credit_left, bytes_within_credit, actions_to_send, if_open, reset_entry}
 use Rattle.wt_seam_spec.specs.Unread.{ReadPosition, unread, at_start, position_after, given_up, IsFront}
-use Rattle.wt_streams.specs.Pieces.{AreFilled, first_piece}
-use Rattle.wt_streams.specs.StreamState.{stream_at}
+use Rattle.wt_transport.specs.Pieces.{AreFilled, first_piece}
+use Rattle.wt_transport.specs.StreamState.{stream_at}
 use Rattle.wt_transport.specs.State.{TransportState, but_accepted, state_of, Facts, Holds, Refines}
 use Rattle.wt_transport.specs.Step.{nothing_connected, fits_now, may_receive_now, after_turn, after_bytes, after_opening, opened_id_now, may_send_now, can_send_now, can_receive_now, after_send, covered_now, after_finish, after_reset, after_stop, after_priority, after_dial, after_close, with_action, pieces_now, unread_now, after_consume, after_give_up, end_now}
 use Rattle.wt_transport.proofs.Bools.{first, second, not-not}
@@ -98,6 +98,9 @@ module _ (side : Side) (t : TransportState) (log : Log) (position : ℕ → Read
   pub refined_peek : (id : ℕ) → IsFront (first_piece (pieces_now t id)) (unread log position id)
   refined_peek id = subst (λ (ps : List (List ℕ)). IsFront (first_piece ps) (unread log position id)) (sym (pieces-kept id))
       (subst (IsFront (first_piece (r.pieces id))) (r.holds id).bytes (front-is (r.pieces id) (r.holds id).filled))
+
+  pub front_told : (id : ℕ) (front : List ℕ) → front ≡ first_piece (pieces_now t id) → IsFront front (unread log position id)
+  front_told id front e = subst (λ (bytes : List ℕ). IsFront bytes (unread log position id)) (sym e) (refined_peek id)
 
   pub refined_end : (id : ℕ) → end_now t id ≡ end_of (events_of log) id
   refined_end id = kept-gives (λ u. end_now u id) (end_of (events_of log) id) (end-is side log position r.pieces uncollected r.facts id)

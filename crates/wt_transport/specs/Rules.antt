@@ -8,8 +8,8 @@ use Rattle.wt_seam_spec.specs.Reports.{end_of, stop_of, is_acknowledged}
 use Rattle.wt_seam_spec.specs.Sent.{is_finished, is_reset, priority_of}
 use Rattle.wt_seam_spec.specs.Outgoing.{credit_left, may_send, actions_to_send, if_open, reset_entry}
 use Rattle.wt_seam_spec.specs.Unread.{ReadPosition, unread}
-use Rattle.wt_streams.specs.HalfRules.{SendingHalf, ReceivingHalf, is_closed}
-use Rattle.wt_streams.specs.StreamState.{stream_at, sending_half_of}
+use Rattle.wt_transport.specs.HalfRules.{SendingHalf, ReceivingHalf, is_closed}
+use Rattle.wt_transport.specs.StreamState.{stream_at, sending_half_of}
 use Rattle.wt_transport.specs.State.{TransportState}
 use Rattle.wt_transport.specs.Step.{may_send_now, after_send, after_finish, after_reset, after_priority, unread_now, end_now}
 

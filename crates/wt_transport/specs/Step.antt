@@ -1,5 +1,5 @@
 -- One call on what a transport keeps.
-use Rattle.std.specs.Prelude.{ℕ, ℤ, ◌+◌, ◌*◌, ◌/◌, ◌%◌, ◌^◌, List, [], ◌∷◌, length, take, Option, Some, None, Bool, true, false, nat_lt, is_some, ◌==◌, ◌&&◌, not, if◌then◌else◌}
+use Rattle.std.specs.Prelude.{ℕ, ℤ, ◌+◌, ◌*◌, ◌%◌, ◌^◌, List, [], ◌∷◌, length, take, Option, Some, None, Bool, true, false, nat_lt, is_some, ◌==◌, ◌&&◌, not, if◌then◌else◌}
 use Rattle.std.specs.List.{concat}
 use Rattle.wt_wire.specs.declared.side.Side.{Side}
 use Rattle.wt_wire.specs.declared.side.Side.TheVariants.{Client, Server}
@@ -12,11 +12,11 @@ use Rattle.wt_turn.specs.declared.action.Action.{Action}
 use Rattle.wt_turn.specs.declared.action.Action.TheVariants as actions
 use Rattle.wt_turn.specs.Log.{Event, Connected, PeerUni, PeerBi, End, Reset, Stop, Acked, Datagram, MaxUni, MaxBi, MaxData, DatagramLimit, Loss}
 use Rattle.wt_turn.specs.Turns.{event_of}
-use Rattle.wt_streams.specs.declared.stream.Stream.{Stream}
+use Rattle.wt_transport.specs.StreamState.{Stream}
 use Rattle.wt_seam_spec.specs.Streams.{local_uni, peer_uni, peer_bi}
 use Rattle.wt_seam_spec.specs.Reports.{is_running}
 use Rattle.wt_seam_spec.specs.Joined.{join_one}
-use Rattle.wt_streams.specs.StreamState as stream
+use Rattle.wt_transport.specs.StreamState as stream
 use Rattle.wt_transport.specs.State.{TransportState, nothing_accepted}
 
 -- how many streams of a kind there are
@@ -135,6 +135,18 @@ after_reported t None = t
 abbrev pub after_turn : TransportState → Turn → TransportState
 after_turn t (turns.Bytes id piece) = after_bytes t id piece
 after_turn t turn = after_reported t (event_of turn)
+
+-- the turn needs memory to be recorded
+abbrev pub takes_memory : Turn → Bool
+takes_memory turns.PeerUni = true
+takes_memory turns.PeerBi = true
+takes_memory (turns.Bytes id piece) = true
+takes_memory (turns.Loss reason) = true
+takes_memory _ = false
+
+-- after a turn that takes no memory; any other is left
+abbrev pub after_in_place : TransportState → Turn → TransportState
+after_in_place t turn = if takes_memory turn then t else after_turn t turn
 
 -- ---- what goes out
 

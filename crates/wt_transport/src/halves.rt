@@ -8,7 +8,7 @@ ghost use Rattle.wt_seam_spec.specs.Unread.{position_after, given_up, unread};
 ghost use Rattle.wt_transport.specs.OfLog.{OfEachLog, SendsIfOk, Tells, TellsUnread};
 ghost use Rattle.wt_transport.specs.State.{Refines};
 ghost use Rattle.wt_transport.specs.Step.{after_consume, after_give_up, after_stop, can_receive_now, can_send_now, unread_now};
-ghost use Rattle.wt_streams.specs.HalfRules.{finish_answer, priority_answer, read_answer, read_count, read_exact_answer, read_exact_count, reset_answer, stopped_answer, write_all_answer, write_answer};
+ghost use Rattle.wt_transport.specs.HalfRules.{finish_answer, priority_answer, read_answer, read_count, read_exact_answer, read_exact_count, reset_answer, stopped_answer, write_all_answer, write_answer};
 ghost use Rattle.wt_transport.specs.Rules.{after_finishing, after_priority_unless_closed, after_reset_unless_closed, after_write, actions_of_finish, log_priority, log_reset, may_write, may_write_now, receiving_half, receiving_half_now, actions_of_reset, sending_half, sending_half_now, actions_of_write};
 
 use crate::transport::Transport;
@@ -59,7 +59,7 @@ impl QuicSendStream {
         ensures log { SendsIfOk result t.old t.new (λ side log. actions_of_write side log self.old.id bytes.now) }
         ensures same { self.new ≡ self.old }
     {
-        t.write(self.id, bytes)
+        Ok(t.write(self.id, bytes)?.into_write())
     }
 
     /// Writes as many of the bytes as credit is left for, and returns whether these were all. Fails as
@@ -78,7 +78,7 @@ impl QuicSendStream {
         ensures log { SendsIfOk result t.old t.new (λ side log. actions_of_write side log self.old.id bytes.now) }
         ensures same { self.new ≡ self.old }
     {
-        t.write_all(self.id, bytes)
+        Ok(t.write(self.id, bytes)?.into_write_all(bytes.len()))
     }
 
     /// Whether a write isn't closed: the connection has ended, or this end neither finished nor reset the
@@ -88,7 +88,7 @@ impl QuicSendStream {
         ensures now { result ≡ may_write_now t.now self.now.id }
         ensures log { Tells t.now (λ side log. result ≡ may_write log self.now.id) }
     {
-        t.may_write(self.id)
+        t.stream(self.id).is_writable(t.is_open())
     }
 
     /// Ends the half, and is through once all of it is acknowledged. Fails with `Stopped` where the peer
@@ -106,7 +106,11 @@ impl QuicSendStream {
         ensures log { SendsIfOk result t.old t.new (λ side log. actions_of_finish side log self.old.id) }
         ensures same { self.new ≡ self.old }
     {
-        t.finish_half(self.id)
+        let answer = t.stream(self.id).finish_answer(t.is_open());
+        if t.may_send(self.id) {
+            t.finish(self.id)?;
+        }
+        Ok(answer)
     }
 
     /// Resets the half. Fails where it was reset before, or all of it was acknowledged.
@@ -123,7 +127,11 @@ impl QuicSendStream {
         ensures log { OfEachLog t.old (λ side log position uncollected. OnOk result (Refines side t.new (log_reset log self.old.id code) position (newest_first (actions_of_reset log self.old.id code) uncollected))) }
         ensures same { self.new ≡ self.old }
     {
-        t.reset_half(self.id, code)
+        if t.stream(self.id).is_closed() {
+            return Ok(Err(ClosedStream));
+        }
+        t.reset(self.id, code)?;
+        Ok(Ok(()))
     }
 
     /// How the half was stopped or closed; pending while it is neither and the connection is open.
@@ -134,7 +142,7 @@ impl QuicSendStream {
         ensures unchanged { t.new ≡ t.old }
         ensures same { self.new ≡ self.old }
     {
-        t.stopped(self.id)
+        t.stream(self.id).stopped(t.is_open())
     }
 
     /// The priority that was set last, 0 at first. Fails as `reset`.
@@ -144,7 +152,11 @@ impl QuicSendStream {
         ensures log_answer { Tells t.old (λ side log. result ≡ priority_answer (sending_half log self.now.id)) }
         ensures unchanged { t.new ≡ t.old }
     {
-        t.priority(self.id)
+        let stream = t.stream(self.id);
+        if stream.is_closed() {
+            return Err(ClosedStream);
+        }
+        Ok(stream.priority)
     }
 
     /// Sets the priority; nothing happens where `reset` would fail.
@@ -154,7 +166,9 @@ impl QuicSendStream {
         ensures log { OfEachLog t.old (λ side log position uncollected. Refines side t.new (log_priority log self.old.id priority) position uncollected) }
         ensures same { self.new ≡ self.old }
     {
-        t.set_priority_of_half(self.id, priority);
+        if !t.stream(self.id).is_closed() {
+            t.set_priority(self.id, priority);
+        }
     }
 }
 
@@ -201,7 +215,8 @@ impl QuicRecvStream {
         ensures log { OfEachLog t.old (λ side log position uncollected. Refines side t.new log (position_after position self.old.id (read_count (receiving_half log position self.old.id) (length buffer.old))) uncollected) }
         ensures same { self.new ≡ self.old }
     {
-        t.read(self.id, buffer)
+        let size = buffer.len();
+        t.read(self.id, buffer, size.min(1)).into_read(size)
     }
 
     /// Fills the buffer with unread bytes; pending while there are too few. Fails with `FinishedEarly`
@@ -224,7 +239,8 @@ impl QuicRecvStream {
         ensures log { OfEachLog t.old (λ side log position uncollected. Refines side t.new log (position_after position self.old.id (read_exact_count (receiving_half log position self.old.id) (length buffer.old))) uncollected) }
         ensures same { self.new ≡ self.old }
     {
-        t.read_exact(self.id, buffer)
+        let size = buffer.len();
+        t.read(self.id, buffer, size).into_read_exact(size)
     }
 
     /// Gives the half up, and asks the peer to stop it where the connection is open.
@@ -234,6 +250,8 @@ impl QuicRecvStream {
         ensures err { OnErr result (t.new ≡ t.old) }
         ensures log { OfEachLog t.old (λ side log position uncollected. OnOk result (Refines side t.new (with_actions (if_open log (actions.StopOut self.id code)) log) (given_up position self.id) (newest_first (if_open log (actions.StopOut self.id code)) uncollected))) }
     {
-        t.stop_half(self.id, code)
+        t.stop(self.id, code)?;
+        t.give_up(self.id);
+        Ok(())
     }
 }

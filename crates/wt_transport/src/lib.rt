@@ -5,9 +5,16 @@
 //! it say the same of the whole log of a connection.
 #![tactic(auto)]
 
+pub mod decision;
 pub mod halves;
+pub mod kind;
+pub mod outbox;
+pub mod reported;
+pub mod row;
 pub mod send;
+pub mod stream;
 pub mod transport;
+pub mod unread;
 
 pub use halves::{QuicRecvStream, QuicSendStream};
 pub use transport::Transport;

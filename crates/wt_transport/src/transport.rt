@@ -1,30 +1,29 @@
 //! What is kept of the transport: the streams, what may go out on them, and whether the connection is open or how it ended.
-ghost use Rattle.std.specs.Prelude.{◌≡◌, ◌<◌, ◌≤◌, ◌^◌, ◌+◌, ◌-◌, ◌/◌, ◌%◌, ◌++◌, ◌∷◌, [], None, IsTrue, OnErr, OnOk, ◌==◌, ◌&&◌, not, List, false, if◌then◌else◌, option_copied};
+ghost use Rattle.std.specs.Prelude.{◌≡◌, ◌<◌, ◌≤◌, ◌^◌, ◌∷◌, [], None, IsTrue, OnErr, OnOk, false, option_copied};
 ghost use Rattle.wt_turn.specs.Log.{events_of, is_open};
-ghost use Rattle.wt_seam_spec.specs.Streams.{local_bi, local_uni, peer_bi, peer_uni};
 ghost use Rattle.wt_seam_spec.specs.Reports.{datagram_fact, loss_of};
 ghost use Rattle.wt_seam_spec.specs.Joined.{joined_actions};
 ghost use Rattle.wt_seam_spec.specs.Outgoing.{if_open};
 ghost use Rattle.wt_seam_spec.specs.Unread.{at_start};
-ghost use Rattle.wt_streams.specs.StreamState.{has_stream, stream_at};
+ghost use Rattle.wt_transport.specs.StreamState.{has_stream, stream_at};
 ghost use Rattle.wt_transport.specs.OfLog.{OfEachLog, SendsIfOk, Tells, TellsUnread};
 ghost use Rattle.wt_transport.specs.State.{Refines, TransportState};
 ghost use Rattle.wt_transport.specs.Step.{after_close, after_dial, can_receive_now, can_send_now, count_now, nothing_connected, with_action};
 
 mod accepting;
 mod arrivals;
-mod halves;
-mod planning;
 mod queries;
 mod reading;
+mod running;
 mod sending;
 
+use crate::kind::{index_of, kind_of, local_kind, peer_kind};
+use crate::outbox::Outbox;
+use crate::row::Row;
+use crate::stream::Stream;
 use std::alloc::Global;
 use std::marker::Model;
 use std::mem;
-use wt_streams::outbox::Outbox;
-use wt_streams::row::Row;
-use wt_streams::stream::Stream;
 use wt_turn::action::{Action, Actions};
 use wt_turn::datagram_fact::DatagramFact;
 use wt_turn::loss::LossReason;
@@ -136,77 +135,35 @@ impl Transport {
     fn has(&self, id: StreamId) -> bool
         ensures { result ≡ has_stream self.now.streams id }
     {
-        let id = id.into_u64();
-        id / 4 < self.rows[(id % 4) as usize].len() as u64
+        index_of(id) < self.rows[kind_of(id)].len()
     }
 
-    fn stream(&self, id: StreamId) -> &Stream
+    pub(crate) fn stream(&self, id: StreamId) -> &Stream
         requires { IsTrue (has_stream self.now.streams id) }
         ensures { result.now ≡ stream_at self.now.streams id }
     {
-        let id = id.into_u64();
-        self.rows[(id % 4) as usize].stream((id / 4) as usize)
+        self.rows[kind_of(id)].stream(index_of(id))
     }
 
-    fn count(&self, kind: u64) -> u64
+    fn count(&self, kind: usize) -> u64
         requires { kind < 4 }
         ensures { result ≡ count_now self.now kind }
     {
-        self.rows[kind as usize].len() as u64
-    }
-
-    fn local_uni(&self) -> u64
-        ensures kind { result ≡ local_uni self.now.side }
-        ensures small { result < 4 }
-    {
-        match self.side {
-            Side::Client => 2,
-            Side::Server => 3,
-        }
-    }
-
-    fn local_bi(&self) -> u64
-        ensures kind { result ≡ local_bi self.now.side }
-        ensures small { result < 4 }
-    {
-        match self.side {
-            Side::Client => 0,
-            Side::Server => 1,
-        }
-    }
-
-    fn peer_uni(&self) -> u64
-        ensures kind { result ≡ peer_uni self.now.side }
-        ensures small { result < 4 }
-    {
-        match self.side {
-            Side::Client => 3,
-            Side::Server => 2,
-        }
-    }
-
-    fn peer_bi(&self) -> u64
-        ensures kind { result ≡ peer_bi self.now.side }
-        ensures small { result < 4 }
-    {
-        match self.side {
-            Side::Client => 1,
-            Side::Server => 0,
-        }
+        self.rows[kind].len() as u64
     }
 
     /// Whether the stream exists and has a receiving half.
     pub fn can_receive(&self, id: StreamId) -> bool
         ensures now { result ≡ can_receive_now self.now id }
     {
-        self.has(id) && !(self.local_uni() == id.into_u64() % 4)
+        self.has(id) && kind_of(id) != local_kind(self.side, false)
     }
 
     /// Whether the stream exists and has a sending half.
     pub fn can_send(&self, id: StreamId) -> bool
         ensures now { result ≡ can_send_now self.now id }
     {
-        self.has(id) && !(self.peer_uni() == id.into_u64() % 4)
+        self.has(id) && kind_of(id) != peer_kind(self.side, false)
     }
 
     // ---- the connection
@@ -248,87 +205,48 @@ impl Transport {
     }
 
     /// Connects to this address, by this server name.
-    #[tactic(auto, using(crate::proofs::Refining::dial_refines))]
     pub fn dial(&mut self, address: Addr, name: Text) -> Result<(), OutOfMemory>
         requires { IsTrue self.old.is_open }
         ensures now { OnOk result (self.new ≡ after_dial self.old address name) }
         ensures err { OnErr result (self.new ≡ self.old) }
         ensures log { SendsIfOk result self.old self.new (λ side log. Action.Dial address name ∷ []) }
     {
-        self.dial_now(address, name)
-    }
-
-    fn dial_now(&mut self, address: Addr, name: Text) -> Result<(), OutOfMemory>
-        ensures now { OnOk result (self.new ≡ after_dial self.old address name) }
-        ensures err { OnErr result (self.new ≡ self.old) }
-    {
-        self.outbox.add(Action::Dial { address, name })?;
+        self.outbox.put(Action::Dial { address, name })?;
         self.has_dialled = true;
         Ok(())
     }
 
     /// Sends a datagram (RFC 9221, section 5).
-    #[tactic(auto, using(crate::proofs::Refining::datagram_refines))]
     pub fn datagram_out(&mut self, piece: Piece) -> Result<(), OutOfMemory>
         requires { IsTrue self.old.is_open }
         ensures now { OnOk result (self.new ≡ with_action self.old (Action.DatagramOut piece)) }
         ensures err { OnErr result (self.new ≡ self.old) }
         ensures log { SendsIfOk result self.old self.new (λ side log. Action.DatagramOut piece ∷ []) }
     {
-        self.put_out(Action::DatagramOut { piece })
-    }
-
-    fn put_out(&mut self, action: Action) -> Result<(), OutOfMemory>
-        ensures now { OnOk result (self.new ≡ with_action self.old action) }
-        ensures err { OnErr result (self.new ≡ self.old) }
-    {
-        self.outbox.add(action)
-    }
-
-    /// Takes the last action back, which stands by itself.
-    fn take_back(&mut self)
-        ensures { (before : List Action) (a : Action) → self.old.actions ≡ before ++ a ∷ [] → self.new ≡ record self.old { actions = before } }
-    {
-        self.outbox.undo();
+        self.outbox.put(Action::DatagramOut { piece })?;
+        Ok(())
     }
 
     /// Closes the connection where it is open; else nothing happens (RFC 9000, section 10.2).
-    #[tactic(auto, using(crate::proofs::Refining::close_refines))]
     pub fn close(&mut self, code: VarInt, reason: Piece) -> Result<(), OutOfMemory>
         ensures now { OnOk result (self.new ≡ after_close self.old code reason) }
         ensures err { OnErr result (self.new ≡ self.old) }
-        ensures ended { self.old.is_open ≡ false → OnOk result (self.new.actions ≡ self.old.actions) }
         ensures log { SendsIfOk result self.old self.new (λ side log. if_open log (Action.Close code reason)) }
-    {
-        self.close_now(code, reason)
-    }
-
-    fn close_now(&mut self, code: VarInt, reason: Piece) -> Result<(), OutOfMemory>
-        ensures now { OnOk result (self.new ≡ after_close self.old code reason) }
-        ensures err { OnErr result (self.new ≡ self.old) }
     {
         if !self.is_open {
             return Ok(());
         }
-        self.outbox.add(Action::Close { code, reason })?;
+        self.outbox.put(Action::Close { code, reason })?;
         self.is_open = false;
         Ok(())
     }
 
     /// The actions since the last such call, in the order in which they go out.
-    #[tactic(auto, using(crate::proofs::Refining::collected_refines, crate::proofs::Refining::refined_actions))]
     pub fn take_actions(&mut self) -> Actions
         ensures actions { result ≡ self.old.actions }
         ensures state { self.new ≡ record self.old { actions = [] } }
         ensures log_actions { OfEachLog self.old (λ side log position uncollected. result ≡ joined_actions uncollected) }
         ensures log { TellsUnread self.old (λ side log position. Refines side self.new log position []) }
-    {
-        self.take_actions_now()
-    }
-
-    fn take_actions_now(&mut self) -> Actions
-        ensures actions { result ≡ self.old.actions }
-        ensures state { self.new ≡ record self.old { actions = [] } }
     {
         let empty = Outbox::new(self.alloc);
         mem::replace(&mut self.outbox, empty).into_actions()

@@ -1,133 +1,183 @@
-//! The calls for a session: the request that is given, the stream that is opened for one, and the session
-//! that is registered.
-ghost use Rattle.std.specs.Prelude.{◌≡◌, IfOk, List, None, OnOk, false, is_some, true, ℕ};
-ghost use Rattle.wt_dispatch.specs.Requests.{first_request};
-ghost use Rattle.wt_driver_state.specs.OfLog.{FollowsIfOk, OfEachLog, Tells};
-ghost use Rattle.wt_driver_state.specs.PollResults.{ended_or_pending, given_by};
-ghost use Rattle.wt_driver_state.specs.Results.{result_of};
-ghost use Rattle.wt_driver_state.specs.Sessions.{first_given, may_register, opened_answer, waiting_requests, log_once_registered, registered_answer};
-ghost use Rattle.wt_driver_state.specs.Tie.{Follows};
-ghost use Rattle.wt_driver_spec.specs.Asking.{MayBeCalled};
-ghost use Rattle.wt_inbox.specs.Stage.{Refines, Stage};
-ghost use Rattle.wt_seam_spec.specs.Joined.{newest_first};
-ghost use Rattle.wt_seam_spec.specs.Outgoing.{opened_id, actions_to_open};
-ghost use Rattle.wt_seam_spec.specs.Streams.{local_bi};
-ghost use Rattle.wt_turn.specs.Log.{Log, SessionEstablished, is_open, with_actions};
-ghost use Rattle.wt_turn.specs.declared.action.Action.{Action};
-ghost use Rattle.wt_wire.specs.declared.side.Side.{Side};
+//! The life of sessions, and the end of the connection.
+ghost use Rattle.std.specs.Prelude.{◌≡◌, ◌<◌, ◌≤◌, ℕ, IfOk, OnOk, Some, length};
+ghost use Rattle.wt_driver_laws.specs.Calling.{Always, Does, Within, log_record};
+ghost use Rattle.wt_driver_laws.specs.Driving.{Follows, pieces_of};
+ghost use Rattle.wt_driver_laws.specs.Handing.{Begins, IsAnswering, MayBegin, rejecting_actions};
+ghost use Rattle.wt_driver_laws.specs.Having.{HasSession};
+ghost use Rattle.wt_driver_laws.specs.Replies.{done_reply};
+ghost use Rattle.wt_driver_laws.specs.Sessions.{registered_said, reject_session_now};
+ghost use Rattle.wt_kept.specs.Calling.{close_now, end_session_now, has_place, may_register, on_sessions, refuse_session_now, register_now, response_over};
+ghost use Rattle.wt_kept.specs.Moment.{moment_now};
+ghost use Rattle.wt_kept.specs.Windows.{establish_now};
+ghost use Rattle.wt_meaning.specs.Lawful.{is_client};
+ghost use Rattle.wt_seam_spec.specs.Outgoing.{if_open};
+ghost use Rattle.wt_turn.specs.Log.{RequestRejected, with_actions};
+ghost use Rattle.wt_turn.specs.declared.action.Action.TheVariants as actions;
+ghost use Rattle.wt_turn.specs.declared.call.Call.TheVariants as calls;
 
 use super::Driver;
+use std::collections::VecDeque;
+use std::marker::Brand;
+use std::sync::ledger::{Blank, Ledger};
+use wt_peer_streams::SessionEnd;
+use wt_proto::steps::Steps;
+use wt_seam::StreamSession;
 use wt_turn::driver_error::DriverError;
-use wt_turn::poll::Poll;
-use wt_turn::record::Record;
+use wt_turn::piece::Piece;
 use wt_wire::error::OutOfMemory;
-use wt_wire::header_list::HeaderList;
-use wt_wire::ids::StreamId;
+use wt_wire::ids::SessionId;
+use wt_wire::side::Side;
+use wt_wire::varint::VarInt;
 
 impl Driver {
-    // ---- a server's request
+    // ---- their beginning
 
-    /// A copy of the queued request: its stream, its fields, and the offset after it.
-    fn copied_request(&self) -> Result<Option<(StreamId, HeaderList, usize)>, OutOfMemory>
-        ensures { IfOk result (λ reported. reported ≡ first_request self.now.state.dispatched.requests) }
+    /// Whether a further session has a place: a server has up to 4, a client one.
+    fn has_place(&self) -> bool
+        ensures { result ≡ has_place self.now.work.transport.side self.now.work.dispatched.sessions }
     {
-        match self.dispatched.first_request() {
-            Some((id, request, offset)) => {
-                let fields = request.headers().copy()?;
-                Ok(Some((id, fields, offset)))
-            }
-            None => Ok(None),
+        match self.transport.side() {
+            Side::Client => self.dispatched.sessions.is_empty(),
+            Side::Server => self.dispatched.sessions.has_room(),
         }
     }
 
-    /// Gives the queued request: its stream, its fields, and the offset after it. It is queued no more.
-    /// Without one, the result of the connection or Pending.
-    pub fn accept_session(
+    /// Whether the session may be registered.
+    fn may_register(&self, session: SessionId) -> bool
+        ensures { result ≡ may_register session self.now }
+    {
+        self.has_place()
+            && !self.dispatched.sessions.lives(session)
+            && !self.dispatched.sessions.is_gone(session)
+    }
+
+    /// The session may be registered: it lives from now on, and what came on its stream is read, in steps of this ledger.
+    fn begin_session<L: Ledger>(
         &mut self,
-    ) -> Result<Poll<Result<(StreamId, HeaderList, usize), DriverError>>, OutOfMemory>
-        ensures given { IfOk result (λ p. given_by p ≡ first_request self.old.state.dispatched.requests) }
-        ensures nothing { IfOk result (λ p. given_by p ≡ None
-            → p ≡ ended_or_pending (result_of self.old.state.is_open self.old.state.progress.ending)) }
-        ensures log { FollowsIfOk result self.old self.new (λ side log. first_given side log (waiting_requests side log)) }
-        ensures has_given { OnOk result (self.new.has_given_settings ≡ self.old.has_given_settings) }
+        session: SessionId,
+        blank: Blank,
+    ) -> Result<(), OutOfMemory>
+        requires name { blank.name ≡ L.name }
+        requires parts { blank.parts ≡ L.parts }
+        requires some { 0 < L.parts }
+        requires few { length self.old.work.dispatched.sessions.living < 4 }
+        ensures { OnOk result (self.new ≡ moment_now (on_sessions (establish_now session) (response_over self.old.work.transport.side self.old))) }
     {
-        match self.copied_request()? {
-            Some(asked) => {
-                self.record_call(&Record::RequestDelivered(asked.0))?;
-                Ok(Poll::Ready(Ok(asked)))
-            }
-            None => self.nothing_left(),
+        let mut steps = Steps::<L>::new(blank);
+        self.end_response(&mut steps)?;
+        self.dispatched.sessions.establish(session)?;
+        self.moment(&mut steps)
+    }
+
+    /// The session lives from now on, and what came on its stream is read. The error is how the connection ended, exactly where it
+    /// isn't open. Nothing changes there, or where 4 sessions live, or, on a client, where one was registered before.
+    ///
+    /// # Errors
+    ///
+    /// `OutOfMemory` where what is kept or goes out found no memory.
+    pub fn register(&mut self, session: SessionId) -> Result<Result<(), DriverError>, OutOfMemory>
+        ensures answer { IfOk result (λ answer. answer ≡ registered_said self.old) }
+        ensures driver { OnOk result (self.new ≡ register_now session self.old) }
+        ensures begins { IfOk result (λ answer. Within self.old (λ side log collected. (offset : ℕ) → MayBegin (is_client side) side log session offset
+            → Begins side log collected session offset self.old self.new answer)) }
+        ensures pieces { OnOk result (pieces_of self.new ≤ pieces_of self.old) }
+    {
+        if let Some(error) = self.result() {
+            return Ok(Err(error));
         }
-    }
-
-    // ---- a client's stream
-
-    fn open_bi(&mut self) -> Result<Option<StreamId>, OutOfMemory>
-        ensures id { (side : Side) (log : Log) (stage : ℕ → Stage) (uncollected : List Action) → Refines side self.old.inbox log stage uncollected
-            → IfOk result (λ id. id ≡ opened_id side log (local_bi side)) }
-        ensures log { (side : Side) (log : Log) (stage : ℕ → Stage) (uncollected : List Action) → Refines side self.old.inbox log stage uncollected
-            → OnOk result (Refines side self.new.inbox (with_actions (actions_to_open side log (local_bi side)) log) stage (newest_first (actions_to_open side log (local_bi side)) uncollected)) }
-        ensures state { OnOk result (self.new.state ≡ record self.old.state { is_open = self.new.inbox.transport.is_open }) }
-        ensures queue { OnOk result (self.new.queue ≡ self.old.queue) }
-        ensures settings { OnOk result (self.new.settings ≡ self.old.settings) }
-        ensures has_given { OnOk result (self.new.has_given_settings ≡ self.old.has_given_settings) }
-    {
-        self.inbox.open_bi()
-    }
-
-    /// Opens the stream for a session's request: its id; None exactly where the connection is open and no more
-    /// bidirectional streams may be opened; an error exactly where it isn't open. The moment of the call comes after it.
-    pub fn open_session(&mut self) -> Result<Result<Option<StreamId>, DriverError>, OutOfMemory>
-        ensures answer { Tells self.old (λ side log. IfOk result (λ r. r ≡ opened_answer (is_open log) (opened_id side log (local_bi side)))) }
-        ensures log { FollowsIfOk result self.old self.new (λ side log. with_actions (actions_to_open side log (local_bi side)) log) }
-        ensures has_given { OnOk result (self.new.has_given_settings ≡ self.old.has_given_settings) }
-    {
-        let is_open = self.is_open();
-        let opened = self.open_bi()?;
-        if is_open {
-            Ok(Ok(opened))
-        } else {
-            Ok(Err(DriverError::NotConnected))
+        if !self.may_register(session) {
+            return Ok(Ok(()));
         }
+        self.begin_session::<Brand>(session, Blank::new(1))?;
+        Ok(Ok(()))
     }
 
-    // ---- the session
-
-    /// Registers a session where none was registered.
-    fn register(&mut self, id: StreamId, offset: usize) -> Result<(), OutOfMemory>
-        ensures log { OfEachLog self.old (λ side log collected. is_open log ≡ true
-            → (may_register log ≡ true → MayBeCalled side log (SessionEstablished id offset))
-            → OnOk result (Follows side self.new (log_once_registered side log id offset) collected)) }
-        ensures further { OnOk result (is_some self.old.state.session ≡ true → self.new ≡ self.old) }
-        ensures has_given { OnOk result (self.new.has_given_settings ≡ self.old.has_given_settings) }
-    {
-        match self.session() {
-            None => self.record_call(&Record::SessionEstablished(id, offset)),
-            // A connection has one session.
-            Some(_) => Ok(()),
-        }
-    }
-
-    /// Registers the session of this stream, whose part begins at this offset: the result of the connection
-    /// exactly where it isn't open. A further one changes nothing.
+    /// The same of this stream's session.
+    ///
+    /// # Errors
+    ///
+    /// `OutOfMemory` where what is kept or goes out found no memory.
     pub fn register_session(
         &mut self,
-        id: StreamId,
-        offset: usize,
+        stream: StreamSession,
     ) -> Result<Result<(), DriverError>, OutOfMemory>
-        ensures answer { IfOk result (λ r. r ≡ registered_answer (result_of self.old.state.is_open self.old.state.progress.ending)) }
-        ensures log { OfEachLog self.old (λ side log collected. (may_register log ≡ true → MayBeCalled side log (SessionEstablished id offset))
-            → OnOk result (Follows side self.new (log_once_registered side log id offset) collected)) }
-        ensures further { OnOk result (is_some self.old.state.session ≡ true → self.new ≡ self.old) }
-        ensures late { OnOk result (self.old.state.is_open ≡ false → self.new ≡ self.old) }
-        ensures has_given { OnOk result (self.new.has_given_settings ≡ self.old.has_given_settings) }
+        ensures answer { IfOk result (λ answer. answer ≡ registered_said self.old) }
+        ensures driver { OnOk result (self.new ≡ register_now stream.stage.session self.old) }
     {
-        match self.result()? {
-            Some(error) => Ok(Err(error)),
-            None => {
-                self.register(id, offset)?;
-                Ok(Ok(()))
-            }
+        self.register(stream.session_id())
+    }
+
+    // ---- their end
+
+    /// The application ends the session, where it lives and the connection is open; else nothing changes.
+    pub fn end_session(&mut self, session: SessionId) -> Result<(), OutOfMemory>
+        ensures driver { OnOk result (self.new ≡ end_session_now session self.old) }
+        ensures does { IfOk result (Does self.old self.new (HasSession session) (calls.EndSession (Some session)) done_reply) }
+        ensures pieces { OnOk result (pieces_of self.new ≤ pieces_of self.old) }
+    {
+        if !self.is_open() {
+            return Ok(());
         }
+        if self.lives(session) {
+            return self
+                .dispatched
+                .finish_and_retire(&mut self.transport, session, SessionEnd::Ended);
+        }
+        Ok(())
+    }
+
+    /// The request for the session is rejected, where it was given, but no session stands or stood; else nothing changes. After the
+    /// connection's end nothing goes out.
+    ///
+    /// # Errors
+    ///
+    /// `OutOfMemory` where what is kept or goes out found no memory.
+    pub fn refuse_session(&mut self, session: SessionId) -> Result<(), OutOfMemory>
+        ensures { OnOk result (self.new ≡ refuse_session_now session self.old) }
+    {
+        if !self.dispatched.awaits_answer(session) {
+            return Ok(());
+        }
+        if self.transport.is_open() {
+            return self
+                .dispatched
+                .retire(&mut self.transport, session, SessionEnd::Refused);
+        }
+        self.dispatched.forget(session, SessionEnd::Refused)
+    }
+
+    /// The rejection of the request for the session is over: the streams that came for it end, and then the connection is closed
+    /// where a code is given. Nothing goes out where the connection isn't open.
+    ///
+    /// # Errors
+    ///
+    /// `OutOfMemory` where what goes out found no memory.
+    pub fn reject_session(
+        &mut self,
+        session: SessionId,
+        code: Option<VarInt>,
+    ) -> Result<(), OutOfMemory>
+        ensures driver { OnOk result (self.new ≡ reject_session_now session code self.old) }
+        ensures log { OnOk result (Always self.old (λ side log collected. IsAnswering log session
+            → Follows side self.new (log_record side log (rejecting_actions side log session code) (RequestRejected session)) collected)) }
+        ensures pieces { OnOk result (pieces_of self.new ≤ pieces_of self.old) }
+    {
+        self.refuse_session(session)?;
+        match code {
+            Some(code) => self.close(code, Piece::new(self.alloc)),
+            None => Ok(()),
+        }
+    }
+
+    // ---- the end of the connection
+
+    /// The application, the endpoint or a handshake closes the connection where it is open (RFC 9000, section 10.2).
+    pub fn close(&mut self, code: VarInt, reason: Piece) -> Result<(), OutOfMemory>
+        ensures driver { OnOk result (self.new ≡ close_now code reason self.old) }
+        ensures log { OnOk result (Within self.old (λ side log collected. Follows side self.new (with_actions (if_open log (actions.Close code reason)) log) collected)) }
+        ensures pieces { OnOk result (pieces_of self.new ≤ pieces_of self.old) }
+    {
+        self.datagrams = VecDeque::new(self.alloc);
+        self.transport.close(code, reason)
     }
 }

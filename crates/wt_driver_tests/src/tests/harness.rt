@@ -4,46 +4,44 @@
 //! [`super::words`]; blanks around a line are left out. After a line may stand what it answers, as docs/FORMATS.md,
 //! "Printed lines", has it, after `> `. A line without that answers `done`, and nothing goes out. For REQUEST stand
 //! the bytes of [`REQUEST`]. A `~` stands between cases, each of which has a connection of its own.
-use super::drivers::{actions, new_driver};
-use super::words::reply;
+use super::drivers::{End, actions, new_end};
+use super::words::{is_event, reply};
 use std::alloc::Global;
 use std::process::Abort;
-use wt_driver::driver::Driver;
 use wt_script::print::print_answer;
-use wt_turn::action::Actions;
 use wt_turn::answer::Answer;
 use wt_turn::reply::Reply;
 use wt_wire::side::Side;
 use wt_wire::text::Text;
 
 /// A request for https://h/, of 83 bytes: HEADERS with five fields.
-const REQUEST: &str = "014050000027033a617574686f72697479016827003a6d6574686f6407434f4e4e454354\
+pub const REQUEST: &str = "014050000027033a617574686f72697479016827003a6d6574686f6407434f4e4e454354\
     253a70617468012f27023a70726f746f636f6c0c7765627472616e73706f727427003a736368656d65056874747073";
 
 /// A server sends its SETTINGS.
 pub const SERVER: &str = "
     connected 9 9 1000 1200
-    > done ; opened 3 ; send 3 0004160100070008013301ab60374201c0000000c671706a01
+    > done ; opened 3 ; send 3 0004160100070008013301ab60374201c0000000c671706a04
 ";
 
-/// A server with an established session: SETTINGS and a request came.
+/// A server with a session: SETTINGS and a request came, and it was accepted.
 pub const SESSION: &str = "
     connected 9 9 1000 1200
-    > done ; opened 3 ; send 3 0004160100070008013301ab60374201c0000000c671706a01
+    > done ; opened 3 ; send 3 0004160100070008013301ab60374201c0000000c671706a04
     peer_uni
     bytes 2 000400
     peer_bi
     bytes 0 REQUEST
-    have_settings_come
-    next_request 0 83
-    establish 0 83
+    incoming
+    > id 0
+    accept
+    > session 0 ; send 0 010f000027003a73746174757303323030
 ";
 
 /// A connection in a test.
 #[derive(Drop)]
 pub struct Run {
-    alloc: Global,
-    pub driver: Driver,
+    end: End,
     is_whole: bool,
     /// What the last line answered, where no line gave it yet.
     answer: Text,
@@ -53,8 +51,7 @@ impl Run {
     /// Nothing was reported yet.
     pub fn new(rt: &impl Abort, alloc: Global, side: Side, is_whole: bool) -> Run {
         Run {
-            alloc,
-            driver: new_driver(alloc, side),
+            end: new_end(alloc, side),
             is_whole,
             answer: done(rt, alloc),
         }
@@ -62,11 +59,27 @@ impl Run {
 
     /// Takes the lines of a script.
     pub fn take_lines(&mut self, rt: &impl Abort, script: &str) {
-        let script = spelled(rt, self.alloc, script);
+        let script = spelled(rt, self.end.alloc, script);
         for line in script.as_str().lines() {
             self.take_line(rt, line.trim());
         }
         self.compare(rt, "done");
+    }
+
+    /// Takes the lines that are turns of the transport, which answer `done`.
+    pub fn take_events(&mut self, rt: &impl Abort, line: &str) {
+        let line = spelled(rt, self.end.alloc, line);
+        if is_event(rt, &self.end, line.as_str()) {
+            self.take_input(rt, line.as_str());
+        }
+        self.compare(rt, "done");
+    }
+
+    /// Takes a line, whatever it answers.
+    pub fn take_any(&mut self, rt: &impl Abort, line: &str) {
+        let line = spelled(rt, self.end.alloc, line);
+        self.take_input(rt, line.as_str());
+        self.answer = done(rt, self.end.alloc);
     }
 
     fn take_line(&mut self, rt: &impl Abort, line: &str) {
@@ -78,7 +91,7 @@ impl Run {
 
     fn compare(&mut self, rt: &impl Abort, expected: &str) {
         assert_eq!(rt; self.answer.as_str(), expected);
-        self.answer = done(rt, self.alloc);
+        self.answer = done(rt, self.end.alloc);
     }
 
     fn take_input(&mut self, rt: &impl Abort, line: &str) {
@@ -86,9 +99,8 @@ impl Run {
         if line.is_empty() || line.starts_with('#') {
             return;
         }
-        let reply = reply(rt, self.alloc, &mut self.driver, line, self.is_whole);
-        let actions = actions(&mut self.driver);
-        self.answer = printed(rt, self.alloc, reply, actions);
+        let reply = reply(rt, &mut self.end, line, self.is_whole);
+        self.answer = printed(rt, &mut self.end, reply);
     }
 }
 
@@ -101,8 +113,10 @@ fn spelled(rt: &impl Abort, alloc: Global, script: &str) -> String {
     spelled.expect(rt, "no memory")
 }
 
-fn printed(rt: &impl Abort, alloc: Global, reply: Reply, actions: Actions) -> Text {
-    print_answer(alloc, &Answer { reply, actions }).expect(rt, "no memory")
+/// The reply with what went out since the last one.
+fn printed(rt: &impl Abort, end: &mut End, reply: Reply) -> Text {
+    let actions = actions(&mut end.driver);
+    print_answer(end.alloc, &Answer { reply, actions }).expect(rt, "no memory")
 }
 
 /// Runs a case after the lines in front of it.
@@ -125,7 +139,7 @@ pub fn server_runs(rt: &impl Abort, alloc: Global, cases: &str) {
     runs(rt, alloc, Side::Server, SERVER, cases);
 }
 
-/// Runs each case with a server whose session is established.
+/// Runs each case with a server that has the session 0.
 pub fn session_runs(rt: &impl Abort, alloc: Global, cases: &str) {
     runs(rt, alloc, Side::Server, SESSION, cases);
 }

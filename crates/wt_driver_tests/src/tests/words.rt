@@ -1,97 +1,117 @@
 //! What a line of a script does to a driver.
 //!
-//! The calls have the names that scripts have for those of the application. Further lines ask for what is the
-//! driver's alone; `pending` is no.
+//! The calls have the names that scripts have for those of the application; one that names no session is of the session 0.
+//! Further lines ask for what is the driver's alone; `pending` is no.
 //!
 //! | line | call |
 //! |---|---|
-//! | `incoming`, `open_bi`, `handshake` | `accept_session`, `open_session`, `response` |
+//! | `incoming`, `accept`, `forbidden` | `accept_session`; a response to its request, then `register_session` or `refuse_session` |
+//! | `register ID`, `refuse ID` | `register`, `refuse_session` |
+//! | `dial`, `ask`, `write_request` | `dial`, `open_session`, `write_frame` of the request |
+//! | `handshake`, `begin` | `response`, `register_session` |
 //! | `closed`, `close CODE BYTES` | `result`, `close` |
-//! | `accept_settings`, `error`, `is_open`, `have_settings_come`, `readers` | the call of that name |
-//! | `register ID AT` | `register_session` |
-//! | `next_request ID AT`, `session ID AT`, `unread ID COUNT` | whether that is what the driver reports |
-//! | `establish ID AT` | a server's request is delivered, and its session established |
-//! | `established ID AT` | a client's session is established |
-//! | `dial`, `open_request` | a client dials, and opens the stream of its request |
+//! | `poll` | a poll of the stream that was opened last |
+//! | `accept_settings`, `settings_came`, `has_request`, `is_open`, `is_gone ID` | the call of that name |
+//! | `living`, `readers`, `pieces`, `unread ID` | the number that the call of that name tells |
 use super::drivers::{
-    accept_bi, accept_session, accept_settings, accept_uni, act, close, dial, error, has_request,
-    open_session, receive_datagram, record_call, register, response, result, stream, take,
-    take_each, unread,
+    End, accept, accept_bi, accept_settings, accept_uni, ask, begin, close, closed, dial,
+    end_session, incoming, receive_datagram, refuse_session, register_again, reject, response,
+    session, stream, take, take_each, write_request,
 };
-use std::alloc::Global;
+use super::streams::{
+    finish, open_uni, poll_opening, priority, read, read_exact, reset, send_datagram, stop, write,
+    write_all,
+};
 use std::process::Abort;
-use wt_driver::driver::Driver;
 use wt_script::script::lines::read_turn;
-use wt_script::script::numbers::{read_count, read_id};
-use wt_turn::action::Action;
+use wt_script::script::numbers::read_count;
 use wt_turn::call::Call;
-use wt_turn::record::Record;
 use wt_turn::reply::Reply;
 use wt_turn::turn::Turn;
-use wt_wire::ids::StreamId;
+use wt_wire::ids::SessionId;
 
 /// What a line answers, but for the actions.
-pub fn reply(
-    rt: &impl Abort,
-    alloc: Global,
-    driver: &mut Driver,
-    line: &str,
-    is_whole: bool,
-) -> Reply {
-    let turn = read_turn(alloc, line.as_bytes()).expect(rt, "no memory");
+pub fn reply(rt: &impl Abort, end: &mut End, line: &str, is_whole: bool) -> Reply {
+    let turn = read_turn(end.alloc, line.as_bytes()).expect(rt, "no memory");
     match turn {
-        Some(turn) => turn_reply(rt, alloc, driver, turn, is_whole),
-        None => word_reply(rt, alloc, driver, line),
+        Some(Turn::Call(call)) => call_reply(rt, end, call),
+        Some(event) => event_reply(rt, end, &event, is_whole),
+        None => word_reply(rt, end, line),
     }
 }
 
-fn turn_reply(
-    rt: &impl Abort,
-    alloc: Global,
-    driver: &mut Driver,
-    turn: Turn,
-    is_whole: bool,
-) -> Reply {
+/// Whether the line is a turn of the transport.
+pub fn is_event(rt: &impl Abort, end: &End, line: &str) -> bool {
+    let turn = read_turn(end.alloc, line.as_bytes()).expect(rt, "no memory");
     match turn {
-        Turn::Call(call) => call_reply(rt, driver, call),
-        event => event_reply(rt, alloc, driver, &event, is_whole),
+        Some(Turn::Call(_)) | None => false,
+        Some(_) => true,
     }
 }
 
-fn event_reply(
-    rt: &impl Abort,
-    alloc: Global,
-    driver: &mut Driver,
-    event: &Turn,
-    is_whole: bool,
-) -> Reply {
+fn event_reply(rt: &impl Abort, end: &mut End, event: &Turn, is_whole: bool) -> Reply {
     match event {
         Turn::Bytes { id, piece } if !is_whole => {
-            take_each(rt, alloc, driver, *id, piece.as_slice());
+            take_each(rt, end.alloc, &mut end.driver, *id, piece.as_slice());
         }
-        _ => take(rt, driver, event),
+        _ => take(rt, &mut end.driver, event),
     }
     Reply::Done
 }
 
-fn call_reply(rt: &impl Abort, driver: &mut Driver, call: Call) -> Reply {
+/// The session that a call names.
+fn named(rt: &impl Abort, name: Option<SessionId>) -> SessionId {
+    match name {
+        Some(id) => id,
+        None => session(rt, 0),
+    }
+}
+
+fn call_reply(rt: &impl Abort, end: &mut End, call: Call) -> Reply {
     match call {
-        Call::AcceptUni { .. } => accept_uni(rt, driver),
-        Call::AcceptBi { .. } => accept_bi(rt, driver),
-        Call::ReceiveDatagram { .. } => receive_datagram(rt, driver),
-        Call::Incoming => accept_session(rt, driver),
-        Call::OpenBi { .. } => open_session(rt, driver),
-        Call::Handshake => response(rt, driver),
-        Call::Close { code, reason } => close(rt, driver, code, reason),
-        Call::Closed => result(rt, driver),
+        Call::AcceptUni { session } => accept_uni(rt, &mut end.driver, named(rt, session)),
+        Call::AcceptBi { session } => accept_bi(rt, &mut end.driver, named(rt, session)),
+        Call::ReceiveDatagram { session } => {
+            receive_datagram(rt, &mut end.driver, named(rt, session))
+        }
+        Call::OpenUni { session } => open_uni(rt, end, named(rt, session)),
+        Call::SendDatagram { payload, session } => {
+            send_datagram(rt, &mut end.driver, named(rt, session), payload.as_slice())
+        }
+        Call::EndSession { session } => end_session(rt, &mut end.driver, named(rt, session)),
+        Call::Incoming => incoming(rt, end),
+        Call::Accept { .. } => accept(rt, end),
+        Call::Forbidden => reject(rt, end),
+        Call::Handshake => response(rt, &mut end.driver),
+        Call::Close { code, reason } => close(rt, &mut end.driver, code, reason),
+        Call::Closed => closed(&end.driver),
+        call => stream_reply(rt, end, call),
+    }
+}
+
+fn stream_reply(rt: &impl Abort, end: &mut End, call: Call) -> Reply {
+    match call {
+        Call::Write { id, bytes } => write(rt, &mut end.driver, id, bytes.as_slice()),
+        Call::WriteAll { id, bytes } => write_all(rt, &mut end.driver, id, bytes.as_slice()),
+        Call::Finish { id } => finish(rt, &mut end.driver, id),
+        Call::ResetSend { id, code } => reset(rt, &mut end.driver, id, code),
+        Call::Priority { id } => priority(&mut end.driver, id),
+        Call::Read { id, size } => read(rt, end, id, size),
+        Call::ReadExact { id, size } => read_exact(rt, end, id, size),
+        Call::StopRecv { id, code } => stop(rt, &mut end.driver, id, code),
         _ => panic!(rt; "the driver has no such call"),
     }
 }
 
-fn word_reply(rt: &impl Abort, alloc: Global, driver: &mut Driver, line: &str) -> Reply {
+fn number(rt: &impl Abort, word: &str) -> u32 {
+    let number = read_count(word.as_bytes()).expect(rt, "a number");
+    u32::try_from(number).expect(rt, "a small number")
+}
+
+fn word_reply(rt: &impl Abort, end: &mut End, line: &str) -> Reply {
     match line.split_once(' ') {
-        Some((name, fields)) => numbered_reply(rt, driver, name, fields),
-        None => bare_reply(rt, alloc, driver, line),
+        Some((name, word)) => numbered_reply(rt, end, name, number(rt, word)),
+        None => bare_reply(rt, end, line),
     }
 }
 
@@ -104,58 +124,64 @@ fn yes_or_no(is_so: bool) -> Reply {
     if is_so { Reply::Done } else { Reply::Pending }
 }
 
-fn bare_reply(rt: &impl Abort, alloc: Global, driver: &mut Driver, name: &str) -> Reply {
-    if is_word(name, "is_open") {
-        return yes_or_no(driver.is_open());
-    }
-    if is_word(name, "have_settings_come") {
-        return yes_or_no(driver.have_settings_come());
-    }
-    if is_word(name, "readers") {
-        return Reply::Count(driver.readers() as u64);
-    }
+fn bare_reply(rt: &impl Abort, end: &mut End, name: &str) -> Reply {
     if is_word(name, "accept_settings") {
-        return accept_settings(rt, driver);
-    }
-    if is_word(name, "error") {
-        return error(rt, driver);
+        return accept_settings(rt, &mut end.driver);
     }
     if is_word(name, "dial") {
-        return act(rt, driver, dial(rt, alloc));
+        return dial(rt, end);
     }
-    if is_word(name, "open_request") {
-        return act(rt, driver, Action::Opened { id: stream(0) });
+    if is_word(name, "ask") {
+        return ask(rt, end);
+    }
+    if is_word(name, "write_request") {
+        return write_request(rt, end);
+    }
+    if is_word(name, "begin") {
+        return begin(rt, end);
+    }
+    if is_word(name, "poll") {
+        return poll_opening(rt, end);
+    }
+    told(rt, end, name)
+}
+
+/// What the driver tells of itself.
+fn told(rt: &impl Abort, end: &End, name: &str) -> Reply {
+    if is_word(name, "is_open") {
+        return yes_or_no(end.driver.is_open());
+    }
+    if is_word(name, "settings_came") {
+        return yes_or_no(end.driver.settings_came());
+    }
+    if is_word(name, "has_request") {
+        return yes_or_no(end.driver.has_request());
+    }
+    if is_word(name, "living") {
+        return Reply::Count(end.driver.living() as u64);
+    }
+    if is_word(name, "readers") {
+        return Reply::Count(end.driver.readers() as u64);
+    }
+    if is_word(name, "pieces") {
+        return Reply::Count(end.driver.pieces());
     }
     panic!(rt; "no such word: {name}")
 }
 
-fn id_and_number(rt: &impl Abort, fields: &str) -> (StreamId, usize) {
-    let (id, number) = fields.split_once(' ').expect(rt, "two fields");
-    let id = read_id(id.as_bytes()).expect(rt, "an id");
-    let number = read_count(number.as_bytes()).expect(rt, "a number");
-    (id, number as usize)
-}
-
-fn numbered_reply(rt: &impl Abort, driver: &mut Driver, name: &str, fields: &str) -> Reply {
-    let (id, number) = id_and_number(rt, fields);
-    if is_word(name, "next_request") {
-        return yes_or_no(has_request(driver, id, number));
-    }
-    if is_word(name, "session") {
-        return yes_or_no(driver.session() == Some((id, number)));
-    }
+fn numbered_reply(rt: &impl Abort, end: &mut End, name: &str, number: u32) -> Reply {
     if is_word(name, "unread") {
-        return yes_or_no(unread(driver, id) == number as u64);
+        return Reply::Count(end.driver.unread(stream(number)));
+    }
+    let session = session(rt, number);
+    if is_word(name, "is_gone") {
+        return yes_or_no(end.driver.is_gone(session));
     }
     if is_word(name, "register") {
-        return register(rt, driver, id, number);
+        return register_again(rt, &mut end.driver, session);
     }
-    if is_word(name, "establish") {
-        record_call(rt, driver, &Record::RequestDelivered(id));
-        return record_call(rt, driver, &Record::SessionEstablished(id, number));
-    }
-    if is_word(name, "established") {
-        return record_call(rt, driver, &Record::SessionEstablished(id, number));
+    if is_word(name, "refuse") {
+        return refuse_session(rt, &mut end.driver, session);
     }
     panic!(rt; "no such word: {name}")
 }

@@ -5,7 +5,7 @@ ghost use Rattle.wt_peer_streams.specs.Gone.{end_now};
 
 use super::Dispatched;
 use crate::gone::SessionEnd;
-use wt_next_transport::Transport;
+use wt_transport::Transport;
 use wt_wire::error::{ErrorCode, OutOfMemory};
 use wt_wire::ids::{SessionId, StreamId};
 

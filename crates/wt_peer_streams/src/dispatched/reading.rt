@@ -3,7 +3,7 @@ ghost use Rattle.std.specs.Prelude.{◌≡◌, ◌≤◌, ◌+◌, IfOk, OnOk};
 ghost use Rattle.wt_kept.specs.Counting.{feed_steps, reads_left};
 ghost use Rattle.wt_kept.specs.Looking.{check_qpack_now, read_control, read_session, read_sessions};
 ghost use Rattle.wt_kept.specs.Pieces.{body_fed, body_feed};
-ghost use Rattle.wt_next_transport.specs.StreamState.{piece_count};
+ghost use Rattle.wt_transport.specs.StreamState.{piece_count};
 ghost use Rattle.wt_peer_streams.specs.Living.{after_news};
 
 use super::Dispatched;
@@ -11,8 +11,8 @@ use crate::gone::SessionEnd;
 use crate::live::News;
 use crate::reading::Fed;
 use std::sync::ledger::Ledger;
-use wt_next_transport::Transport;
 use wt_proto::steps::Steps;
+use wt_transport::Transport;
 use wt_wire::error::OutOfMemory;
 use wt_wire::ids::{SessionId, StreamId};
 

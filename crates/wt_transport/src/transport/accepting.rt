@@ -1,5 +1,5 @@
 //! Which of the peer's streams were accepted. Nothing here takes memory.
-ghost use Rattle.std.specs.Prelude.{◌≡◌, ◌<◌, ◌^◌, IfSome, IsTrue, ◌&&◌};
+ghost use Rattle.std.specs.Prelude.{◌≡◌, IfSome, IsTrue, ◌&&◌};
 ghost use Rattle.wt_seam_spec.specs.Streams.{peer_bi, peer_uni, stream_count};
 ghost use Rattle.wt_transport.specs.Accepting.{after_accept_bi, after_accept_uni, next_peer_bi, next_peer_uni, stream_after};
 ghost use Rattle.wt_transport.specs.OfLog.{OfEachLog, Tells};
@@ -7,20 +7,7 @@ ghost use Rattle.wt_transport.specs.State.{Refines};
 ghost use Rattle.wt_transport.specs.Step.{can_receive_now, can_send_now};
 
 use super::Transport;
-use super::sending::stream_id;
 use wt_wire::ids::StreamId;
-
-/// Of this many streams of a kind, the one that comes after `count` others.
-fn stream_after(total: u64, kind: u64, count: u64) -> Option<StreamId>
-    requires { kind < 4 }
-    ensures { result ≡ stream_after total kind count }
-{
-    // No stream of a kind has a greater number (RFC 9000, section 2.1).
-    if count < 1 << 60 && count < total {
-        return Some(stream_id(kind, count));
-    }
-    None
-}
 
 impl Transport {
     /// Accepts a unidirectional stream of the peer's: of those that weren't accepted yet the first by its id,
@@ -34,15 +21,7 @@ impl Transport {
             ≡ stream_after (stream_count side log (peer_uni side)) (peer_uni side) self.old.accepted.uni) }
         ensures log { OfEachLog self.old (λ side log position uncollected. Refines side self.new log position uncollected) }
     {
-        self.accept_uni_now()
-    }
-
-    fn accept_uni_now(&mut self) -> Option<StreamId>
-        ensures stream { result ≡ next_peer_uni self.old }
-        ensures count { self.new ≡ after_accept_uni self.old }
-    {
-        let kind = self.peer_uni();
-        let id = stream_after(self.count(kind), kind, self.unis_accepted)?;
+        let id = self.peer_stream(false, self.unis_accepted)?;
         self.unis_accepted += 1;
         Some(id)
     }
@@ -58,15 +37,7 @@ impl Transport {
             ≡ stream_after (stream_count side log (peer_bi side)) (peer_bi side) self.old.accepted.bi) }
         ensures log { OfEachLog self.old (λ side log position uncollected. Refines side self.new log position uncollected) }
     {
-        self.accept_bi_now()
-    }
-
-    fn accept_bi_now(&mut self) -> Option<StreamId>
-        ensures stream { result ≡ next_peer_bi self.old }
-        ensures count { self.new ≡ after_accept_bi self.old }
-    {
-        let kind = self.peer_bi();
-        let id = stream_after(self.count(kind), kind, self.bis_accepted)?;
+        let id = self.peer_stream(true, self.bis_accepted)?;
         self.bis_accepted += 1;
         Some(id)
     }

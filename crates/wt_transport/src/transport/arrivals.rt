@@ -1,14 +1,17 @@
 //! Turns of the transport: which may come, and what each leaves.
-ghost use Rattle.std.specs.Prelude.{◌≡◌, ◌<◌, ◌≤◌, ◌^◌, ◌*◌, ◌-◌, ◌/◌, ◌%◌, Some, IsTrue, OnErr, OnOk, ◌&&◌, not, nat_lt, List, ℕ};
+ghost use Rattle.std.specs.Prelude.{◌≡◌, ◌<◌, ◌≤◌, ◌^◌, Some, IsTrue, OnErr, OnOk, ◌&&◌, not, nat_lt, is_some, List, ℕ};
 ghost use Rattle.wt_turn.specs.Log.{Acked, Connected, DatagramLimit, Loss, MaxData, Stop};
 ghost use Rattle.wt_wire.specs.declared.side.Side.{Side};
+ghost use Rattle.wt_seam_spec.specs.Reports.{is_running};
 ghost use Rattle.wt_seam_spec.specs.Arrivals.{fits, log_turn};
-ghost use Rattle.wt_streams.specs.StreamState.{has_stream, signal, with_end};
+ghost use Rattle.wt_transport.specs.StreamState.{has_stream, signal, stream_at, with_end};
 ghost use Rattle.wt_transport.specs.OfLog.{OfEachLog, Tells};
 ghost use Rattle.wt_transport.specs.State.{Refines};
-ghost use Rattle.wt_transport.specs.Step.{after_bytes, after_event, after_turn, count_now, fits_now, may_ack_now, may_be_lost_now, may_begin_now, may_come_now, may_connect_now, may_raise_now, may_receive_now, may_stop_now, with_change, with_new_stream};
+ghost use Rattle.wt_transport.specs.Step.{after_bytes, after_event, after_in_place, after_turn, count_now, fits_now, may_ack_now, may_be_lost_now, may_begin_now, may_come_now, may_connect_now, may_raise_now, may_receive_now, may_stop_now, with_change, with_new_stream};
 
 use super::Transport;
+use crate::kind::{MOST_STREAMS, index_of, kind_of, peer_kind};
+use crate::stream::is_running;
 use wt_turn::datagram_fact::DatagramFact;
 use wt_turn::loss::LossReason;
 use wt_turn::turn::Turn;
@@ -16,6 +19,9 @@ use wt_wire::error::OutOfMemory;
 use wt_wire::ids::StreamId;
 use wt_wire::side::{Side, StreamEnd};
 use wt_wire::varint::VarInt;
+
+/// The greatest total of bytes that can be written (RFC 9000, section 16).
+const MOST_BYTES: u64 = (1 << 62) - 1;
 
 impl Transport {
     // ---- which may come
@@ -25,9 +31,9 @@ impl Transport {
     {
         self.may_begin()
             && !self.is_connected
-            && uni <= 1 << 60
-            && bi <= 1 << 60
-            && credit < 1 << 62
+            && uni <= MOST_STREAMS
+            && bi <= MOST_STREAMS
+            && credit <= MOST_BYTES
     }
 
     fn may_begin(&self) -> bool
@@ -49,18 +55,17 @@ impl Transport {
         }
     }
 
-    fn may_peer_open(&self, kind: u64) -> bool
+    fn may_peer_open(&self, kind: usize) -> bool
         requires { kind < 4 }
         ensures { result ≡ (self.now.is_connected && nat_lt (count_now self.now kind) (2 ^ 60)) }
     {
-        // No id names a stream beyond that (RFC 9000, section 4.6).
-        self.is_connected && self.count(kind) < 1 << 60
+        self.is_connected && self.count(kind) < MOST_STREAMS
     }
 
     fn may_receive(&self, id: StreamId) -> bool
         ensures { result ≡ may_receive_now self.now id }
     {
-        self.is_connected && self.can_receive(id) && self.stream(id).is_running()
+        self.is_connected && self.can_receive(id) && is_running(&self.stream(id).end.value)
     }
 
     fn may_stop(&self, id: StreamId) -> bool
@@ -79,7 +84,10 @@ impl Transport {
         ensures { result ≡ may_raise_now self.now id total }
     {
         // Limits never fall; a lower one is out of date (RFC 9000, section 4.1).
-        self.is_connected && self.can_send(id) && total >= self.stream(id).credit && total < 1 << 62
+        self.is_connected
+            && self.can_send(id)
+            && total >= self.stream(id).credit
+            && total <= MOST_BYTES
     }
 
     fn may_come(&self, turn: &Turn) -> bool
@@ -92,18 +100,18 @@ impl Transport {
                 credit,
                 ..
             } => self.may_connect(*uni, *bi, *credit),
-            Turn::PeerUni => self.may_peer_open(self.peer_uni()),
-            Turn::PeerBi => self.may_peer_open(self.peer_bi()),
+            Turn::PeerUni => self.may_peer_open(peer_kind(self.side, false)),
+            Turn::PeerBi => self.may_peer_open(peer_kind(self.side, true)),
             Turn::Bytes { id, .. } | Turn::End { id } | Turn::Reset { id, .. } => self.may_receive(
                 *id,
             ),
             Turn::Stop { id, .. } => self.may_stop(*id),
             Turn::Acked { id } => self.may_ack(*id),
             Turn::MaxUni { total } => {
-                self.is_connected && *total >= self.unis_allowed && *total <= 1 << 60
+                self.is_connected && *total >= self.unis_allowed && *total <= MOST_STREAMS
             }
             Turn::MaxBi { total } => {
-                self.is_connected && *total >= self.bis_allowed && *total <= 1 << 60
+                self.is_connected && *total >= self.bis_allowed && *total <= MOST_STREAMS
             }
             Turn::MaxData { id, total } => self.may_raise(*id, *total),
             Turn::Datagram { .. } | Turn::DatagramLimit { .. } => self.is_connected,
@@ -117,12 +125,6 @@ impl Transport {
     pub fn fits(&self, turn: &Turn) -> bool
         ensures now { result ≡ fits_now self.now turn.now }
         ensures log { Tells self.now (λ side log. result ≡ fits side log turn.now) }
-    {
-        self.fits_now(turn)
-    }
-
-    fn fits_now(&self, turn: &Turn) -> bool
-        ensures { result ≡ fits_now self.now turn.now }
     {
         // After this end closed, the transport still reports what was under way; after a loss, nothing.
         self.may_come(turn) && !self.is_lost
@@ -164,12 +166,12 @@ impl Transport {
         }
     }
 
-    pub(super) fn open_stream(&mut self, kind: u64) -> Result<(), OutOfMemory>
+    pub(super) fn open_stream(&mut self, kind: usize) -> Result<(), OutOfMemory>
         requires { kind < 4 }
         ensures now { OnOk result (self.new ≡ with_new_stream self.old kind) }
         ensures err { OnErr result (self.new ≡ self.old) }
     {
-        self.rows[kind as usize].open(self.alloc, self.initial_credit)
+        self.rows[kind].open(self.alloc, self.initial_credit)
     }
 
     fn receive(&mut self, id: StreamId, bytes: &[u8]) -> Result<(), OutOfMemory>
@@ -180,43 +182,50 @@ impl Transport {
         if !self.is_open {
             return Ok(());
         }
-        let id = id.into_u64();
-        self.rows[(id % 4) as usize].receive((id / 4) as usize, self.alloc, bytes)
+        let alloc = self.alloc;
+        self.rows[kind_of(id)]
+            .stream_mut(index_of(id))
+            .receive(alloc, bytes)
     }
 
     fn note_end(&mut self, id: StreamId, end: &StreamEnd)
-        requires { IsTrue (has_stream self.old.streams id) }
+        requires has { IsTrue (has_stream self.old.streams id) }
+        requires once { IsTrue (is_running (stream_at self.old.streams id).all_signals.end) }
         ensures { self.new ≡ with_change self.old id (signal self.old.is_open (with_end end.now)) }
     {
         let counts = self.is_open;
-        let id = id.into_u64();
-        self.rows[(id % 4) as usize].end((id / 4) as usize, counts, end);
+        self.rows[kind_of(id)]
+            .stream_mut(index_of(id))
+            .end(counts, end);
     }
 
     fn note_stop(&mut self, id: StreamId, code: VarInt)
-        requires { IsTrue (has_stream self.old.streams id) }
+        requires has { IsTrue (has_stream self.old.streams id) }
+        requires once { IsTrue (not (is_some (stream_at self.old.streams id).all_signals.stop)) }
         ensures { self.new ≡ after_event self.old (Stop id code) }
     {
         let counts = self.is_open;
-        let id = id.into_u64();
-        self.rows[(id % 4) as usize].stop((id / 4) as usize, counts, code);
+        self.rows[kind_of(id)]
+            .stream_mut(index_of(id))
+            .stop(counts, code);
     }
 
     fn note_ack(&mut self, id: StreamId)
-        requires { IsTrue (has_stream self.old.streams id) }
+        requires has { IsTrue (has_stream self.old.streams id) }
+        requires once { IsTrue (not (stream_at self.old.streams id).all_signals.acknowledged) }
         ensures { self.new ≡ after_event self.old (Acked id) }
     {
         let counts = self.is_open;
-        let id = id.into_u64();
-        self.rows[(id % 4) as usize].acknowledge((id / 4) as usize, counts);
+        self.rows[kind_of(id)]
+            .stream_mut(index_of(id))
+            .acknowledge(counts);
     }
 
     fn raise(&mut self, id: StreamId, total: u64)
         requires { IsTrue (has_stream self.old.streams id) }
         ensures { self.new ≡ after_event self.old (MaxData id total) }
     {
-        let id = id.into_u64();
-        self.rows[(id % 4) as usize].raise((id / 4) as usize, total);
+        self.rows[kind_of(id)].stream_mut(index_of(id)).credit = total;
     }
 
     fn lose(&mut self, reason: &LossReason) -> Result<(), OutOfMemory>
@@ -237,59 +246,38 @@ impl Transport {
         ensures err { OnErr result (self.new ≡ self.old) }
     {
         match turn {
+            Turn::PeerUni => self.open_stream(peer_kind(self.side, false)),
+            Turn::PeerBi => self.open_stream(peer_kind(self.side, true)),
+            Turn::Bytes { id, piece } => self.receive(*id, piece.as_slice()),
+            Turn::Loss { reason } => self.lose(reason),
+            _ => {
+                self.note_in_place(turn);
+                Ok(())
+            }
+        }
+    }
+
+    /// Records a turn that takes no memory; any other is left.
+    fn note_in_place(&mut self, turn: &Turn)
+        requires { IsTrue (may_come_now self.old turn.now) }
+        ensures { self.new ≡ after_in_place self.old turn.now }
+    {
+        match turn {
             Turn::Connected {
                 uni,
                 bi,
                 credit,
                 datagrams,
-            } => {
-                self.connect(*uni, *bi, *credit, *datagrams);
-                Ok(())
-            }
-            Turn::PeerUni => {
-                let kind = self.peer_uni();
-                self.open_stream(kind)
-            }
-            Turn::PeerBi => {
-                let kind = self.peer_bi();
-                self.open_stream(kind)
-            }
-            Turn::Bytes { id, piece } => self.receive(*id, piece.as_slice()),
-            Turn::End { id } => {
-                self.note_end(*id, &StreamEnd::Fin);
-                Ok(())
-            }
-            Turn::Reset { id, code } => {
-                self.note_end(*id, &StreamEnd::Reset(*code));
-                Ok(())
-            }
-            Turn::Stop { id, code } => {
-                self.note_stop(*id, *code);
-                Ok(())
-            }
-            Turn::Acked { id } => {
-                self.note_ack(*id);
-                Ok(())
-            }
-            Turn::Datagram { .. } => Ok(()),
-            Turn::MaxUni { total } => {
-                self.allow_unis(*total);
-                Ok(())
-            }
-            Turn::MaxBi { total } => {
-                self.allow_bis(*total);
-                Ok(())
-            }
-            Turn::MaxData { id, total } => {
-                self.raise(*id, *total);
-                Ok(())
-            }
-            Turn::DatagramLimit { fact } => {
-                self.limit_datagrams(*fact);
-                Ok(())
-            }
-            Turn::Loss { reason } => self.lose(reason),
-            Turn::Call(_) => Ok(()),
+            } => self.connect(*uni, *bi, *credit, *datagrams),
+            Turn::End { id } => self.note_end(*id, &StreamEnd::Fin),
+            Turn::Reset { id, code } => self.note_end(*id, &StreamEnd::Reset(*code)),
+            Turn::Stop { id, code } => self.note_stop(*id, *code),
+            Turn::Acked { id } => self.note_ack(*id),
+            Turn::MaxUni { total } => self.allow_unis(*total),
+            Turn::MaxBi { total } => self.allow_bis(*total),
+            Turn::MaxData { id, total } => self.raise(*id, *total),
+            Turn::DatagramLimit { fact } => self.limit_datagrams(*fact),
+            _ => {}
         }
     }
 
@@ -309,12 +297,6 @@ impl Transport {
     pub fn bytes_fit(&self, id: StreamId) -> bool
         ensures now { result ≡ (may_receive_now self.now id && not self.now.is_lost) }
         ensures log { Tells self.now (λ side log. (bytes : List ℕ) → result ≡ fits side log (Turn.Bytes id bytes)) }
-    {
-        self.bytes_fit_now(id)
-    }
-
-    fn bytes_fit_now(&self, id: StreamId) -> bool
-        ensures { result ≡ (may_receive_now self.now id && not self.now.is_lost) }
     {
         self.may_receive(id) && !self.is_lost
     }

@@ -8,6 +8,7 @@ ghost use Rattle.wt_transport.specs.OfLog.{Tells};
 ghost use Rattle.wt_transport.specs.Step.{count_now, credit_now, is_acknowledged_now, is_finished_now, is_reset_now, sent_now, stop_now};
 
 use super::Transport;
+use crate::kind::peer_kind;
 use wt_wire::ids::StreamId;
 use wt_wire::varint::VarInt;
 
@@ -47,13 +48,7 @@ impl Transport {
         ensures now { result ≡ count_now self.now (peer_uni self.now.side) }
         ensures log { Tells self.now (λ side log. result ≡ stream_count side log (peer_uni side)) }
     {
-        self.peer_unis_now()
-    }
-
-    fn peer_unis_now(&self) -> u64
-        ensures { result ≡ count_now self.now (peer_uni self.now.side) }
-    {
-        self.count(self.peer_uni())
+        self.count(peer_kind(self.side, false))
     }
 
     /// How many bidirectional streams the peer opened.
@@ -61,13 +56,7 @@ impl Transport {
         ensures now { result ≡ count_now self.now (peer_bi self.now.side) }
         ensures log { Tells self.now (λ side log. result ≡ stream_count side log (peer_bi side)) }
     {
-        self.peer_bis_now()
-    }
-
-    fn peer_bis_now(&self) -> u64
-        ensures { result ≡ count_now self.now (peer_bi self.now.side) }
-    {
-        self.count(self.peer_bi())
+        self.count(peer_kind(self.side, true))
     }
 
     /// How many bytes may go out on a stream in all (RFC 9000, section 4.1). On one that wasn't opened yet it
@@ -77,16 +66,11 @@ impl Transport {
         ensures log { Tells self.now (λ side log. result ≡ credit (all_events_of log) id) }
         ensures log_open { Tells self.now (λ side log. is_open log ≡ true → result ≡ credit (events_of log) id) }
     {
-        self.credit_now(id)
-    }
-
-    fn credit_now(&self, id: StreamId) -> u64
-        ensures { result ≡ credit_now self.now id }
-    {
         if self.has(id) {
-            return self.stream(id).credit;
+            self.stream(id).credit
+        } else {
+            self.initial_credit
         }
-        self.initial_credit
     }
 
     /// The code with which the peer stopped the sending half (RFC 9000, section 3.5).
@@ -94,16 +78,11 @@ impl Transport {
         ensures now { result ≡ stop_now self.now id }
         ensures log { Tells self.now (λ side log. result ≡ stop_of (events_of log) id) }
     {
-        self.stop_code_now(id)
-    }
-
-    fn stop_code_now(&self, id: StreamId) -> Option<VarInt>
-        ensures { result ≡ stop_now self.now id }
-    {
         if self.has(id) {
-            return self.stream(id).signals.stop;
+            self.stream(id).stop.in_time(None)
+        } else {
+            None
         }
-        None
     }
 
     /// How many bytes went out on a stream.
@@ -111,16 +90,11 @@ impl Transport {
         ensures now { result ≡ sent_now self.now id }
         ensures log { Tells self.now (λ side log. result ≡ length (sent_on (actions_of log) id)) }
     {
-        self.sent_now(id)
-    }
-
-    fn sent_now(&self, id: StreamId) -> u64
-        ensures { result ≡ sent_now self.now id }
-    {
         if self.has(id) {
-            return self.stream(id).sent;
+            self.stream(id).sent
+        } else {
+            0
         }
-        0
     }
 
     /// Whether this end finished its half (RFC 9000, section 3.1).
@@ -128,13 +102,11 @@ impl Transport {
         ensures now { result ≡ is_finished_now self.now id }
         ensures log { Tells self.now (λ side log. result ≡ is_finished (actions_of log) id) }
     {
-        self.is_finished_now(id)
-    }
-
-    fn is_finished_now(&self, id: StreamId) -> bool
-        ensures { result ≡ is_finished_now self.now id }
-    {
-        self.has(id) && self.stream(id).finished
+        if self.has(id) {
+            self.stream(id).finished
+        } else {
+            false
+        }
     }
 
     /// Whether this end reset its half (RFC 9000, section 3.1).
@@ -142,13 +114,11 @@ impl Transport {
         ensures now { result ≡ is_reset_now self.now id }
         ensures log { Tells self.now (λ side log. result ≡ is_reset log id) }
     {
-        self.is_reset_now(id)
-    }
-
-    fn is_reset_now(&self, id: StreamId) -> bool
-        ensures { result ≡ is_reset_now self.now id }
-    {
-        self.has(id) && self.stream(id).reset
+        if self.has(id) {
+            self.stream(id).reset
+        } else {
+            false
+        }
     }
 
     /// Whether all of this end's finished half was acknowledged (RFC 9000, section 3.1).
@@ -156,12 +126,10 @@ impl Transport {
         ensures now { result ≡ is_acknowledged_now self.now id }
         ensures log { Tells self.now (λ side log. result ≡ is_acknowledged (events_of log) id) }
     {
-        self.is_acknowledged_now(id)
-    }
-
-    fn is_acknowledged_now(&self, id: StreamId) -> bool
-        ensures { result ≡ is_acknowledged_now self.now id }
-    {
-        self.has(id) && self.stream(id).signals.acknowledged
+        if self.has(id) {
+            self.stream(id).acknowledged.in_time(false)
+        } else {
+            false
+        }
     }
 }

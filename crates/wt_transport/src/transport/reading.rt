@@ -1,19 +1,24 @@
 //! What came for streams, as their readers take it. Nothing here takes memory.
-ghost use Rattle.std.specs.Prelude.{◌≡◌, ◌<◌, ◌≤◌, ◌^◌, ◌-◌, ◌/◌, ◌%◌, [], IsTrue, length, min, false};
+ghost use Rattle.std.specs.Prelude.{◌≡◌, ◌<◌, ◌≤◌, ◌^◌, ◌-◌, ◌++◌, [], IsTrue, length, min, take, drop, false};
 ghost use Rattle.wt_turn.specs.Log.{events_of};
 ghost use Rattle.wt_wire.specs.declared.side.StreamEnd.{StreamEnd};
 ghost use Rattle.wt_wire.specs.declared.side.StreamEnd.TheVariants as ends;
 ghost use Rattle.wt_seam_spec.specs.Streams.{can_receive};
 ghost use Rattle.wt_seam_spec.specs.Reports.{end_of};
-ghost use Rattle.wt_streams.specs.Pieces.{first_piece};
+ghost use Rattle.wt_transport.specs.Pieces.{first_piece};
 ghost use Rattle.wt_seam_spec.specs.Unread.{GivenUp, IsFront, position_after, given_up, unread};
-ghost use Rattle.wt_streams.specs.StreamState.{piece_count};
+ghost use Rattle.wt_transport.specs.StreamState.{piece_count};
+ghost use Rattle.wt_transport.specs.Deciding.{read_decision, taken};
+ghost use Rattle.wt_transport.specs.Rules.{receiving_half_now};
 ghost use Rattle.wt_transport.specs.OfLog.{OfEachLog, Tells, TellsUnread};
 ghost use Rattle.wt_transport.specs.State.{Refines};
 ghost use Rattle.wt_transport.specs.Step.{after_consume, after_give_up, can_receive_now, end_now, pieces_now, unread_now};
 
 use super::Transport;
-use wt_streams::row::Row;
+use crate::decision::Decision;
+use crate::kind::{index_of, kind_of};
+use crate::row::Row;
+use wt_turn::stream_error::StreamReadError;
 use wt_wire::ids::StreamId;
 use wt_wire::side::StreamEnd;
 
@@ -26,17 +31,11 @@ impl Transport {
         ensures log { TellsUnread self.now (λ side log position. IsFront result.now (unread log position id)) }
         ensures no_half { Tells self.now (λ side log. can_receive side log id ≡ false → result.now ≡ []) }
     {
-        self.peek_now(id)
-    }
-
-    fn peek_now(&self, id: StreamId) -> &[u8]
-        ensures piece { result.now ≡ first_piece (pieces_now self.now id) }
-        ensures some { 0 < length (unread_now self.now id) → 0 < length result.now }
-    {
         if self.has(id) {
-            return self.stream(id).unread.first();
+            self.stream(id).unread.first()
+        } else {
+            &[]
         }
-        &[]
     }
 
     /// How many bytes of a stream are unread.
@@ -45,16 +44,11 @@ impl Transport {
         ensures log { TellsUnread self.now (λ side log position. result ≡ length (unread log position id)) }
         ensures no_half { Tells self.now (λ side log. can_receive side log id ≡ false → result ≡ 0) }
     {
-        self.unread_now(id)
-    }
-
-    pub(super) fn unread_now(&self, id: StreamId) -> u64
-        ensures { result ≡ length (unread_now self.now id) }
-    {
         if self.has(id) {
-            return self.stream(id).unread.count();
+            self.stream(id).unread.count()
+        } else {
+            0
         }
-        0
     }
 
     /// How many bytes are kept of a stream: those that are unread.
@@ -62,7 +56,7 @@ impl Transport {
         ensures now { result ≡ length (unread_now self.now id) }
         ensures log { TellsUnread self.now (λ side log position. result ≡ length (unread log position id)) }
     {
-        self.unread_now(id)
+        self.unread(id)
     }
 
     /// Of how many pieces an unread byte is kept, over all streams. The count stands still at its
@@ -79,22 +73,51 @@ impl Transport {
     }
 
     /// Reads n bytes of a stream.
-    #[tactic(auto, using(crate::proofs::Refining::consume_refines))]
     pub fn consume(&mut self, id: StreamId, count: usize)
         requires { count ≤ length (unread_now self.old id) }
         ensures now { self.new ≡ after_consume self.old id count }
         ensures log { OfEachLog self.old (λ side log position uncollected. Refines side self.new log (position_after position id count) uncollected) }
     {
-        self.consume_now(id, count);
+        if self.has(id) {
+            self.rows[kind_of(id)]
+                .stream_mut(index_of(id))
+                .consume(count);
+        }
     }
 
-    pub(super) fn consume_now(&mut self, id: StreamId, count: usize)
-        requires { count ≤ length (unread_now self.old id) }
-        ensures { self.new ≡ after_consume self.old id count }
+    /// Reads unread bytes into the buffer's front, once this many are there.
+    #[tactic(auto, using(crate::proofs::Decisions::read_within))]
+    pub(crate) fn read(
+        &mut self,
+        id: StreamId,
+        buffer: &mut [u8],
+        least: usize,
+    ) -> Decision<StreamReadError>
+        requires { least ≤ length buffer.old }
+        ensures decision { result ≡ read_decision self.old.is_open (receiving_half_now self.old id) least (length buffer.old) }
+        ensures bytes { buffer.new ≡ take (taken result) (unread_now self.old id) ++ drop (taken result) buffer.old }
+        ensures state { self.new ≡ after_consume self.old id (taken result) }
+    {
+        let decision = decide_read(
+            self.is_open,
+            self.unread(id),
+            &self.end(id),
+            least,
+            buffer.len(),
+        );
+        let count = decision.taken();
+        self.copy_front(id, &mut buffer[..count]);
+        self.consume(id, count);
+        decision
+    }
+
+    /// Fills the buffer with unread bytes, which stay unread.
+    fn copy_front(&self, id: StreamId, buffer: &mut [u8])
+        requires { length buffer.old ≤ length (unread_now self.now id) }
+        ensures { buffer.new ≡ take (length buffer.old) (unread_now self.now id) }
     {
         if self.has(id) {
-            let number = id.into_u64();
-            self.rows[(number % 4) as usize].consume((number / 4) as usize, count);
+            self.stream(id).unread.copy_to(buffer);
         }
     }
 
@@ -107,24 +130,9 @@ impl Transport {
             → OfEachLog self.old (λ side log position uncollected. Refines side self.new log (given_up position id) uncollected) }
         ensures again { TellsUnread self.old (λ side log position. position id ≡ GivenUp → self.new ≡ self.old) }
     {
-        self.give_up_if_there(id);
-    }
-
-    fn give_up_if_there(&mut self, id: StreamId)
-        ensures there { IsTrue (can_receive_now self.old id) → self.new ≡ after_give_up self.old id }
-        ensures none { can_receive_now self.old id ≡ false → self.new ≡ self.old }
-    {
         if self.can_receive(id) {
-            self.give_up_now(id);
+            self.rows[kind_of(id)].stream_mut(index_of(id)).give_up();
         }
-    }
-
-    pub(super) fn give_up_now(&mut self, id: StreamId)
-        requires { IsTrue (can_receive_now self.old id) }
-        ensures { self.new ≡ after_give_up self.old id }
-    {
-        let id = id.into_u64();
-        self.rows[(id % 4) as usize].give_up((id / 4) as usize);
     }
 
     /// How a receiving half ended; Running where there is none (RFC 9000, section 3.2).
@@ -133,15 +141,37 @@ impl Transport {
         ensures log { Tells self.now (λ side log. result ≡ end_of (events_of log) id) }
         ensures no_half { Tells self.now (λ side log. can_receive side log id ≡ false → result ≡ ends.Running) }
     {
-        self.end_now(id)
-    }
-
-    pub(super) fn end_now(&self, id: StreamId) -> StreamEnd
-        ensures { result ≡ end_now self.now id }
-    {
         if self.has(id) {
-            return self.stream(id).signals.end;
+            self.stream(id).ended()
+        } else {
+            StreamEnd::Running
         }
-        StreamEnd::Running
+    }
+}
+
+/// What a read of at most so many bytes comes to that waits for the least number of them.
+fn decide_read(
+    is_open: bool,
+    unread: u64,
+    end: &StreamEnd,
+    least: usize,
+    size: usize,
+) -> Decision<StreamReadError>
+    ensures { result ≡ read_decision is_open (record { unread = unread; end = end.now }) least size }
+{
+    // What came is given before the end or the loss that came after it.
+    if unread >= least as u64 {
+        return Decision::Take(size.min(unread as usize));
+    }
+    match end {
+        StreamEnd::Fin => Decision::Take(unread as usize),
+        StreamEnd::Reset(code) => Decision::Refused(StreamReadError::Reset(*code)),
+        StreamEnd::Running => {
+            if is_open {
+                Decision::Wait
+            } else {
+                Decision::Refused(StreamReadError::NotConnected)
+            }
+        }
     }
 }

@@ -1,12 +1,34 @@
-use Rattle.std.proofs.Common.{sym, ◌∙◌}
-use Rattle.wt_driver_state.proofs.AcceptSteps.{always-ok}
-use Rattle.wt_driver_state.proofs.ForSessions.{none-follows, request-follows}
+use Rattle.std.proofs.Common.{rules}
+use Rattle.wt_driver_laws.proofs.PieceCalls.{request_pieces}
+use Rattle.wt_driver_laws.proofs.RequestDelivered.{accept_session_law, accepted_fresh_law}
 use Rattle.wt_driver.proofs.driver.Driver.accept_session.Goals as goal
 
-pub returns-in_ok-record_call-in-Some-clause-log : goal.returns-in_ok-record_call-in-Some-clause-log
-returns-in_ok-record_call-in-Some-clause-log c = λ side log collected f.
-    request-follows side log collected c.args.self.now c.record_call.new.self f c.in-Some.asked (sym c.in-Some.is ∙ c.in_ok-asked.ensures) (λ may. c.in_ok-record_call-in-Some.ensures.log side log collected f may)
+pub returns-in-Some-clause-answer : goal.returns-in-Some-clause-answer
+returns-in-Some-clause-answer c = search rules
 
-pub returns-in-None-clause-log : goal.returns-in-None-clause-log
-returns-in-None-clause-log c = λ side log collected f.
-    always-ok c.nothing_left.result (none-follows side log collected c.args.self.now c.args.self.now f (sym c.in-None.is ∙ c.in_ok-asked.ensures))
+pub returns-in-Some-clause-driver : goal.returns-in-Some-clause-driver
+returns-in-Some-clause-driver c = search rules
+
+pub returns-in-Some-clause-delivers : goal.returns-in-Some-clause-delivers
+returns-in-Some-clause-delivers c = accept_session_law _ c.args.self.now _ (returns-in-Some-clause-answer c) (returns-in-Some-clause-driver c)
+
+pub returns-in-Some-clause-fresh : goal.returns-in-Some-clause-fresh
+returns-in-Some-clause-fresh c = accepted_fresh_law _ c.args.self.now (returns-in-Some-clause-answer c)
+
+pub returns-in-Some-clause-pieces : goal.returns-in-Some-clause-pieces
+returns-in-Some-clause-pieces c = request_pieces c.args.self.now _ (returns-in-Some-clause-driver c)
+
+pub returns-in-None-clause-answer : goal.returns-in-None-clause-answer
+returns-in-None-clause-answer c = search rules
+
+pub returns-in-None-clause-driver : goal.returns-in-None-clause-driver
+returns-in-None-clause-driver c = search rules
+
+pub returns-in-None-clause-delivers : goal.returns-in-None-clause-delivers
+returns-in-None-clause-delivers c = accept_session_law _ c.args.self.now _ (returns-in-None-clause-answer c) (returns-in-None-clause-driver c)
+
+pub returns-in-None-clause-fresh : goal.returns-in-None-clause-fresh
+returns-in-None-clause-fresh c = accepted_fresh_law _ c.args.self.now (returns-in-None-clause-answer c)
+
+pub returns-in-None-clause-pieces : goal.returns-in-None-clause-pieces
+returns-in-None-clause-pieces c = request_pieces c.args.self.now _ (returns-in-None-clause-driver c)

@@ -1,18 +1,13 @@
-use Rattle.std.proofs.Common.{false, refl}
-use Rattle.std.specs.Prelude.{None}
-use Rattle.wt_driver_state.proofs.Beginning.{begins}
+use Rattle.std.proofs.Common.{rules}
+use Rattle.wt_driver_laws.proofs.PieceLaws.{init_pieces}
+use Rattle.wt_driver_laws.proofs.TurnLaws.{init_law}
 use Rattle.wt_driver.proofs.driver.Driver.init.Goals as goal
 
+pub returns-clause-value : goal.returns-clause-value
+returns-clause-value c = search rules
+
 pub returns-clause-log : goal.returns-clause-log
-returns-clause-log c = begins c.args.side _ c.new.ensures.now
-    (λ i. record {
-      unis = c.new-2.ensures.items i;
-      bis = c.new-3.ensures.items i;
-      dispatched = c.new-4.ensures i;
-      progress = c.new-5.ensures i;
-      control_sent = record { opened = false; sent = 0 };
-      datagrams = 0;
-      session = None;
-      is_open = (c.new.ensures.now i).transport.is_open;
-    })
-    c.new-6.ensures.items refl
+returns-clause-log c = init_law c.args.side _ (returns-clause-value c)
+
+pub returns-clause-pieces : goal.returns-clause-pieces
+returns-clause-pieces c = init_pieces c.args.side _ (returns-clause-value c)

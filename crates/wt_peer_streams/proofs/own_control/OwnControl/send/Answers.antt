@@ -1,7 +1,7 @@
 use Rattle.std.proofs.Common.{◌∙◌, ap, length, sym, List, ℕ}
 use Rattle.wt_kept.specs.Kept.{OwnControlNow}
 use Rattle.wt_kept.specs.Moment.{own_sent}
-use Rattle.wt_next_transport.specs.Step.{after_send, covered_now}
+use Rattle.wt_transport.specs.Step.{after_send, covered_now}
 use Rattle.wt_peer_streams.proofs.Head.{head-rest, sent-so}
 use Rattle.wt_peer_streams.proofs.own_control.OwnControl.send.Goals as goal
 

@@ -3,7 +3,7 @@ use Rattle.std.proofs.lemmas.Bool.Decides.{nat_tests}
 use Rattle.std.specs.Prelude.{◌&&◌, ◌==◌, not}
 use Rattle.wt_kept.specs.Counting.{CountsRead}
 use Rattle.wt_kept.specs.Readers.{Slot, noted_if, reads_on_if}
-use Rattle.wt_next_transport.specs.Step.{end_now, unread_now}
+use Rattle.wt_transport.specs.Step.{end_now, unread_now}
 use Rattle.wt_peer_streams.proofs.Counts.{counts-more, counts-noted}
 use Rattle.wt_peer_streams.proofs.ReadLoop.{Joins, both-goes, either-over, goes-on, read-whole, shorter}
 use Rattle.wt_peer_streams.specs.Feeding.{Took}

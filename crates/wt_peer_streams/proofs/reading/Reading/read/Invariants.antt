@@ -1,6 +1,6 @@
 use Rattle.std.proofs.Common.{◌≡◌, length}
 use Rattle.wt_kept.specs.Counting.{CountsRead}
-use Rattle.wt_next_transport.specs.Step.{unread_now}
+use Rattle.wt_transport.specs.Step.{unread_now}
 use Rattle.wt_peer_streams.proofs.ReadLoop.{ReadSoFar}
 use Rattle.wt_peer_streams.proofs.reading.Reading.read.Given as goal
 

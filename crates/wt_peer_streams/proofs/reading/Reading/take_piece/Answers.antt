@@ -1,7 +1,7 @@
 use Rattle.std.proofs.Common.{◌<◌, ◌∙◌, ap, length, subst, sym}
 use Rattle.wt_kept.specs.Counting.{CountsRead}
 use Rattle.wt_kept.specs.Readers.{Slot}
-use Rattle.wt_next_transport.specs.Step.{unread_now}
+use Rattle.wt_transport.specs.Step.{unread_now}
 use Rattle.wt_peer_streams.proofs.Counts.{counts-took}
 use Rattle.wt_peer_streams.proofs.ReadLoop.{took}
 use Rattle.wt_peer_streams.specs.Feeding.{Took}

@@ -1,22 +1,49 @@
-use Rattle.std.proofs.Common.{◌≡◌, ◌≤◌, length, sym, subst, ◌∙◌}
+use Rattle.std.proofs.Common.{◌≡◌, length, take, drop, min, ◌++◌, ap, sym, subst, ◌∙◌}
 use Rattle.wt_seam_spec.specs.Unread.{position_after}
-use Rattle.wt_transport.specs.State.{TransportState, Refines}
-use Rattle.wt_transport.specs.Step.{unread_now}
-use Rattle.wt_streams.specs.HalfRules.{ReceivingHalf, read_answer, read_count}
+use Rattle.wt_transport.specs.State.{Refines}
+use Rattle.wt_transport.specs.Step.{after_consume, unread_now}
+use Rattle.wt_transport.specs.HalfRules.{ReceivingHalf, read_answer, read_count}
+use Rattle.wt_transport.specs.Deciding.{read_of, read_decision, taken}
 use Rattle.wt_transport.specs.Rules.{receiving_half_now}
+use Rattle.wt_transport.proofs.Results.{moved}
 use Rattle.wt_transport.proofs.Refining.{consume_refines}
-use Rattle.wt_transport.proofs.HalfLaws.{receiving_answer, receiving_kept, front_kept, read_within}
+use Rattle.wt_transport.proofs.Decisions.{read_is, read_taken}
+use Rattle.wt_transport.proofs.HalfLaws.{front_kept, receiving_answer, receiving_kept, read_within}
 use Rattle.wt_transport.proofs.halves.QuicRecvStream.read.Goals as goal
 
+pub returns-clause-answer : goal.returns-clause-answer
+returns-clause-answer c =
+    let d : c.read.result ≡ read_decision c.args.t.now.is_open (receiving_half_now c.args.t.now c.args.self.now.id) (min (length c.args.buffer.now) 1) (length c.args.buffer.now) = c.read.ensures.decision ∙ ap (λ least. read_decision c.args.t.now.is_open (receiving_half_now c.args.t.now c.args.self.now.id) least (length c.args.buffer.now)) c.min.ensures in
+    let answer : c.into_read.result ≡ read_answer c.args.t.now.is_open (receiving_half_now c.args.t.now c.args.self.now.id) (length c.args.buffer.now) = c.into_read.ensures ∙ (ap (read_of (length c.args.buffer.now)) d ∙ sym (read_is c.args.t.now.is_open (receiving_half_now c.args.t.now c.args.self.now.id) (length c.args.buffer.now))) in
+    answer
+
+pub returns-clause-bytes : goal.returns-clause-bytes
+returns-clause-bytes c =
+    let d : c.read.result ≡ read_decision c.args.t.now.is_open (receiving_half_now c.args.t.now c.args.self.now.id) (min (length c.args.buffer.now) 1) (length c.args.buffer.now) = c.read.ensures.decision ∙ ap (λ least. read_decision c.args.t.now.is_open (receiving_half_now c.args.t.now c.args.self.now.id) least (length c.args.buffer.now)) c.min.ensures in
+    let n : taken c.read.result ≡ read_count (receiving_half_now c.args.t.now c.args.self.now.id) (length c.args.buffer.now) = ap taken d ∙ read_taken c.args.t.now.is_open (receiving_half_now c.args.t.now c.args.self.now.id) (length c.args.buffer.now) in
+    c.read.ensures.bytes ∙ ap (λ k. take k (unread_now c.args.t.now c.args.self.now.id) ++ drop k c.args.buffer.now) n
+
+pub returns-clause-state : goal.returns-clause-state
+returns-clause-state c =
+    let d : c.read.result ≡ read_decision c.args.t.now.is_open (receiving_half_now c.args.t.now c.args.self.now.id) (min (length c.args.buffer.now) 1) (length c.args.buffer.now) = c.read.ensures.decision ∙ ap (λ least. read_decision c.args.t.now.is_open (receiving_half_now c.args.t.now c.args.self.now.id) least (length c.args.buffer.now)) c.min.ensures in
+    let n : taken c.read.result ≡ read_count (receiving_half_now c.args.t.now c.args.self.now.id) (length c.args.buffer.now) = ap taken d ∙ read_taken c.args.t.now.is_open (receiving_half_now c.args.t.now c.args.self.now.id) (length c.args.buffer.now) in
+    c.read.ensures.state ∙ ap (after_consume c.args.t.now c.args.self.now.id) n
+
 pub returns-clause-log_answer : goal.returns-clause-log_answer
-returns-clause-log_answer c = λ side log position uncollected r. c.read.ensures.answer ∙ receiving_answer side c.args.t.now log position uncollected r (λ o h. read_answer o h (length c.args.buffer.now)) c.args.self.now.id
+returns-clause-log_answer c = λ side log position uncollected r.
+    let d : c.read.result ≡ read_decision c.args.t.now.is_open (receiving_half_now c.args.t.now c.args.self.now.id) (min (length c.args.buffer.now) 1) (length c.args.buffer.now) = c.read.ensures.decision ∙ ap (λ least. read_decision c.args.t.now.is_open (receiving_half_now c.args.t.now c.args.self.now.id) least (length c.args.buffer.now)) c.min.ensures in
+    let answer : c.into_read.result ≡ read_answer c.args.t.now.is_open (receiving_half_now c.args.t.now c.args.self.now.id) (length c.args.buffer.now) = c.into_read.ensures ∙ (ap (read_of (length c.args.buffer.now)) d ∙ sym (read_is c.args.t.now.is_open (receiving_half_now c.args.t.now c.args.self.now.id) (length c.args.buffer.now))) in
+    answer ∙ receiving_answer side c.args.t.now log position uncollected r (λ o h. read_answer o h (length c.args.buffer.now)) c.args.self.now.id
 
 pub returns-clause-log_bytes : goal.returns-clause-log_bytes
-returns-clause-log_bytes c = λ side log position uncollected r. c.read.ensures.bytes ∙ front_kept side c.args.t.now log position uncollected r (λ h. read_count h (length c.args.buffer.now)) c.args.self.now.id c.args.buffer.now
+returns-clause-log_bytes c = λ side log position uncollected r.
+    let d : c.read.result ≡ read_decision c.args.t.now.is_open (receiving_half_now c.args.t.now c.args.self.now.id) (min (length c.args.buffer.now) 1) (length c.args.buffer.now) = c.read.ensures.decision ∙ ap (λ least. read_decision c.args.t.now.is_open (receiving_half_now c.args.t.now c.args.self.now.id) least (length c.args.buffer.now)) c.min.ensures in
+    let n : taken c.read.result ≡ read_count (receiving_half_now c.args.t.now c.args.self.now.id) (length c.args.buffer.now) = ap taken d ∙ read_taken c.args.t.now.is_open (receiving_half_now c.args.t.now c.args.self.now.id) (length c.args.buffer.now) in
+    (c.read.ensures.bytes ∙ ap (λ k. take k (unread_now c.args.t.now c.args.self.now.id) ++ drop k c.args.buffer.now) n) ∙ front_kept side c.args.t.now log position uncollected r (λ h. read_count h (length c.args.buffer.now)) c.args.self.now.id c.args.buffer.now
 
 pub returns-clause-log : goal.returns-clause-log
 returns-clause-log c = λ side log position uncollected r.
-    let n = read_count (receiving_half_now c.args.t.now c.args.self.now.id) (length c.args.buffer.now) in
-    let within : n ≤ length (unread_now c.args.t.now c.args.self.now.id) = read_within (receiving_half_now c.args.t.now c.args.self.now.id) (length c.args.buffer.now) in
+    let d : c.read.result ≡ read_decision c.args.t.now.is_open (receiving_half_now c.args.t.now c.args.self.now.id) (min (length c.args.buffer.now) 1) (length c.args.buffer.now) = c.read.ensures.decision ∙ ap (λ least. read_decision c.args.t.now.is_open (receiving_half_now c.args.t.now c.args.self.now.id) least (length c.args.buffer.now)) c.min.ensures in
+    let n : taken c.read.result ≡ read_count (receiving_half_now c.args.t.now c.args.self.now.id) (length c.args.buffer.now) = ap taken d ∙ read_taken c.args.t.now.is_open (receiving_half_now c.args.t.now c.args.self.now.id) (length c.args.buffer.now) in
     subst (λ (h : ReceivingHalf). Refines side c.read.new.self log (position_after position c.args.self.now.id (read_count h (length c.args.buffer.now))) uncollected) (receiving_kept side c.args.t.now log position uncollected r c.args.self.now.id)
-    (subst (λ (u : TransportState). Refines side u log (position_after position c.args.self.now.id n) uncollected) (sym c.read.ensures.state) (consume_refines side c.args.t.now log position uncollected r c.args.self.now.id n within))
+    (moved c.read.new.self (c.read.ensures.state ∙ ap (after_consume c.args.t.now c.args.self.now.id) n) (consume_refines side c.args.t.now log position uncollected r c.args.self.now.id (read_count (receiving_half_now c.args.t.now c.args.self.now.id) (length c.args.buffer.now)) (read_within (receiving_half_now c.args.t.now c.args.self.now.id) (length c.args.buffer.now))))

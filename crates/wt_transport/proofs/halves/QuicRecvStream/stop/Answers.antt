@@ -1,13 +1,17 @@
-use Rattle.std.proofs.Common.{sym, subst}
-use Rattle.std.proofs.lemmas.Result.{on_ok_weaker}
-use Rattle.wt_turn.specs.Log.{with_actions}
-use Rattle.wt_turn.specs.declared.action.Action.TheVariants as actions
-use Rattle.wt_seam_spec.specs.Joined.{newest_first}
-use Rattle.wt_seam_spec.specs.Outgoing.{if_open}
-use Rattle.wt_seam_spec.specs.Unread.{given_up}
-use Rattle.wt_transport.specs.State.{TransportState, Refines}
-use Rattle.wt_transport.proofs.HalfLaws.{stop_half_refines}
+use Rattle.std.proofs.Common.{ap, ◌∙◌}
+use Rattle.wt_transport.specs.State.{TransportState}
+use Rattle.wt_transport.specs.Step.{after_give_up, can_receive_now}
+use Rattle.wt_transport.proofs.Results.{moved}
+use Rattle.wt_transport.proofs.HalfLaws.{stop_half_refines, stop_keeps}
 use Rattle.wt_transport.proofs.halves.QuicRecvStream.stop.Goals as goal
 
+pub returns-clause-state : goal.returns-clause-state
+returns-clause-state c =
+    let can = ap (λ (u : TransportState). can_receive_now u c.args.self.id) c.in_ok-stop.ensures.now ∙ (stop_keeps c.args.t.now c.args.self.id c.args.code ∙ c.requires) in
+    c.give_up.ensures.now can ∙ ap (λ (u : TransportState). after_give_up u c.args.self.id) c.in_ok-stop.ensures.now
+
 pub returns-clause-log : goal.returns-clause-log
-returns-clause-log c = λ side log position uncollected r. on_ok_weaker c.stop_half.result (λ e. subst (λ (u : TransportState). Refines side u (with_actions (if_open log (actions.StopOut c.args.self.id c.args.code)) log) (given_up position c.args.self.id) (newest_first (if_open log (actions.StopOut c.args.self.id c.args.code)) uncollected)) (sym e) (stop_half_refines side c.args.t.now log position uncollected r c.args.self.id c.args.code c.requires)) c.stop_half.ensures.state
+returns-clause-log c = λ side log position uncollected r.
+    let can = ap (λ (u : TransportState). can_receive_now u c.args.self.id) c.in_ok-stop.ensures.now ∙ (stop_keeps c.args.t.now c.args.self.id c.args.code ∙ c.requires) in
+    moved _ (c.give_up.ensures.now can ∙ ap (λ (u : TransportState). after_give_up u c.args.self.id) c.in_ok-stop.ensures.now)
+    (stop_half_refines side c.args.t.now log position uncollected r c.args.self.id c.args.code c.requires)

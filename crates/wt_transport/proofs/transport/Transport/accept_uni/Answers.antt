@@ -1,12 +1,9 @@
-use Rattle.std.proofs.Common.{sym, subst, ◌∙◌}
-use Rattle.wt_transport.specs.Accepting.{after_accept_uni}
-use Rattle.wt_transport.specs.State.{Refines, TransportState}
-use Rattle.wt_transport.proofs.AcceptLaws.{accepting_refines, refined_next_uni}
+use Rattle.std.proofs.Common.{rules, ◌∙◌}
+use Rattle.wt_transport.proofs.AcceptLaws.{refined_next_uni}
 use Rattle.wt_transport.proofs.transport.Transport.accept_uni.Goals as goal
 
-pub returns-clause-log_stream : goal.returns-clause-log_stream
-returns-clause-log_stream c = λ side log position uncollected r. c.accept_uni_now.ensures.stream ∙ refined_next_uni side c.args.self.now log position uncollected r
+pub returns-in_err-id-clause-log_stream : goal.returns-in_err-id-clause-log_stream
+returns-in_err-id-clause-log_stream c = λ side log position uncollected r. search rules ∙ refined_next_uni side c.args.self.now log position uncollected r
 
-pub returns-clause-log : goal.returns-clause-log
-returns-clause-log c = λ side log position uncollected r. subst (λ (t : TransportState). Refines side t log position uncollected)
-    (sym c.accept_uni_now.ensures.count) (accepting_refines side c.args.self.now log position uncollected r (after_accept_uni c.args.self.now).accepted)
+pub returns-clause-log_stream : goal.returns-clause-log_stream
+returns-clause-log_stream c = λ side log position uncollected r. search rules ∙ refined_next_uni side c.args.self.now log position uncollected r

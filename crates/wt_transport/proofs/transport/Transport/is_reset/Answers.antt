@@ -1,6 +1,9 @@
-use Rattle.std.proofs.Common.{◌∙◌}
+use Rattle.std.proofs.Common.{rules, ◌∙◌}
 use Rattle.wt_transport.proofs.Asking.{refined_reset}
 use Rattle.wt_transport.proofs.transport.Transport.is_reset.Goals as goal
 
-pub returns-clause-log : goal.returns-clause-log
-returns-clause-log c = λ side log position uncollected r. c.is_reset_now.ensures ∙ refined_reset side c.args.self.now log position uncollected r c.args.id
+pub returns-then-has-clause-log : goal.returns-then-has-clause-log
+returns-then-has-clause-log c = λ side log position uncollected r. search rules ∙ refined_reset side c.args.self.now log position uncollected r c.args.id
+
+pub returns-else-has-clause-log : goal.returns-else-has-clause-log
+returns-else-has-clause-log c = λ side log position uncollected r. search rules ∙ refined_reset side c.args.self.now log position uncollected r c.args.id

@@ -1,6 +1,6 @@
-use Rattle.std.proofs.Common.{◌∙◌}
+use Rattle.std.proofs.Common.{rules, ◌∙◌}
 use Rattle.wt_transport.proofs.Asking.{refined_peer_unis}
 use Rattle.wt_transport.proofs.transport.Transport.peer_unis.Goals as goal
 
 pub returns-clause-log : goal.returns-clause-log
-returns-clause-log c = λ side log position uncollected r. c.peer_unis_now.ensures ∙ refined_peer_unis side c.args.self.now log position uncollected r
+returns-clause-log c = λ side log position uncollected r. search rules ∙ refined_peer_unis side c.args.self.now log position uncollected r

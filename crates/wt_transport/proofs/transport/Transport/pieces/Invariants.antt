@@ -1,5 +1,5 @@
 use Rattle.std.proofs.Common.{◌≡◌, ◌^◌, ◌-◌, min, take}
-use Rattle.wt_streams.specs.StreamState.{piece_count}
+use Rattle.wt_transport.specs.StreamState.{piece_count}
 use Rattle.wt_transport.proofs.transport.Transport.pieces.Given as goal
 
 abbrev pub invariant-loop-row : goal.invariant-loop-row

@@ -1,6 +1,0 @@
-use Rattle.std.proofs.Common.{refl, sym}
-use Rattle.wt_driver.proofs.driver.Driver.check_end.Goals as goal
-
-pub returns-clause-log : goal.returns-clause-log
-returns-clause-log c = rw (← c.self.view_is)
-    (λ side log stage uncollected r. rw (sym (c.end.ensures.log side log stage uncollected r), c.fault_unless_ended.ensures, c.is_running-is_ended.ensures) refl)

@@ -1,7 +1,0 @@
-use Rattle.wt_driver.proofs.driver.Driver.feed_bi.Goals as goal
-
-pub returns-clause-running : goal.returns-clause-running
-returns-clause-running c = rw (← c.self.view_is) (λ side log stage uncollected r a. c.feed_bi.ensures.running side log stage uncollected r a)
-
-pub returns-clause-stopped : goal.returns-clause-stopped
-returns-clause-stopped c = rw (← c.self.view_is) (λ side log stage uncollected r a. c.feed_bi.ensures.stopped side log stage uncollected r a)

@@ -1,0 +1,5 @@
+pub mod BiChannel
+pub mod Frames
+pub mod Opening
+pub mod Poll
+pub mod SharedResult

@@ -1,9 +1,0 @@
-use Rattle.std.proofs.Common.{rules}
-use Rattle.wt_driver_laws.proofs.QuestionLaws.{is_connected_law}
-use Rattle.wt_next_driver.proofs.driver.Driver.is_connected.Goals as goal
-
-pub returns-clause-now : goal.returns-clause-now
-returns-clause-now c = search rules
-
-pub returns-clause-log : goal.returns-clause-log
-returns-clause-log c = is_connected_law _ _ (returns-clause-now c)

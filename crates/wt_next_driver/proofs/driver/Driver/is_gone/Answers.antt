@@ -1,9 +1,0 @@
-use Rattle.std.proofs.Common.{rules}
-use Rattle.wt_driver_laws.proofs.QuestionLaws.{is_gone_law}
-use Rattle.wt_next_driver.proofs.driver.Driver.is_gone.Goals as goal
-
-pub returns-clause-now : goal.returns-clause-now
-returns-clause-now c = search rules
-
-pub returns-clause-log : goal.returns-clause-log
-returns-clause-log c = is_gone_law _ _ _ (returns-clause-now c)

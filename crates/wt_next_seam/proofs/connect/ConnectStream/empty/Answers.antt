@@ -1,5 +1,0 @@
-use Rattle.wt_next_seam.proofs.SessionReadOn.{was-nothing}
-use Rattle.wt_next_seam.proofs.connect.ConnectStream.empty.Goals as goal
-
-pub returns-clause-read : goal.returns-clause-read
-returns-clause-read c = was-nothing _ c.for_session.ensures.value

@@ -1,9 +1,0 @@
-use Rattle.std.proofs.Common.{rules, ◌∙◌}
-use Rattle.wt_next_transport.proofs.AcceptLaws.{refined_next_uni}
-use Rattle.wt_next_transport.proofs.transport.Transport.accept_uni.Goals as goal
-
-pub returns-in_err-id-clause-log_stream : goal.returns-in_err-id-clause-log_stream
-returns-in_err-id-clause-log_stream c = λ side log position uncollected r. search rules ∙ refined_next_uni side c.args.self.now log position uncollected r
-
-pub returns-clause-log_stream : goal.returns-clause-log_stream
-returns-clause-log_stream c = λ side log position uncollected r. search rules ∙ refined_next_uni side c.args.self.now log position uncollected r

@@ -1,8 +1,0 @@
-use Rattle.std.proofs.Common.{arith}
-use Rattle.std.proofs.lemmas.Grind.{common_steps}
-use Rattle.wt_next_transport.proofs.Results.{moved}
-use Rattle.wt_next_transport.proofs.Refining.{finish_refines}
-use Rattle.wt_next_transport.proofs.transport.Transport.finish.Goals as goal
-
-pub returns-clause-log : goal.returns-clause-log
-returns-clause-log c = λ side log position uncollected r. moved _ (grind (arith, common_steps)) (finish_refines side c.args.self.now log position uncollected r c.args.id c.requires)
