@@ -1,5 +1,10 @@
-pub mod Keeping
-pub mod Walking
+pub mod Answering
+pub mod Calls
 pub mod CoreState
-pub mod Trace
-pub mod Laws
+pub mod Held
+pub mod HeldNow
+pub mod Keeping
+pub mod Rows
+pub mod Shakes
+pub mod Running
+pub mod Told

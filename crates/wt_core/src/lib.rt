@@ -1,16 +1,16 @@
 //! One connection, driven turn by turn, and runs: a list of turns in, the one answer to each out.
 //!
-//! A [`Core`] answers one turn after another. Its contract says each answer by a definition over the
-//! whole log of the connection. Below it [`session`] keeps what the application's calls did: which calls may come, and how
-//! each is answered over a driver. [`run_trace`] answers a list of turns; the laws of the session layer hold of its answers at
-//! every length of the list.
+//! A [`Core`] is a driver and what its application has: the handshake that goes on, the sessions that were established and
+//! the streams that were handed out, each a value of the public types of wt_session. A turn that is a call is one call of a
+//! public type, whose answer becomes the reply. [`run_trace`] answers a list of turns.
 #![tactic(auto)]
 
-pub mod admission;
+pub mod calls;
+pub mod handshake;
+pub mod held;
 pub mod machine;
-pub mod perform;
+pub mod rows;
 pub mod send;
-pub mod session;
 pub mod trace;
 
 pub use machine::Core;

@@ -1,200 +1,259 @@
--- What a client's connect is planned to do, and what stands once that is done.
-use Rattle.std.specs.Prelude.{[], ◌++◌, ◌∷◌, ◌≡◌, Bool, IfOk, List, None, Option, Result, Some, false, if◌then◌else◌, not, true, ℕ}
+-- A client's connect: by what its driver answers, it does what the definitions say.
 use Rattle.std.proofs.Common.{◌∙◌, ap, refl, subst, sym}
-use Rattle.wt_session.proofs.Over.{establishes}
-use Rattle.wt_session.specs.Connecting.{Connect, IsConnectReply, IsConnecting, StandsWith}
-use Rattle.wt_driver_state.specs.DriverValue.{DriverValue}
-use Rattle.wt_driver_state.specs.Tie.{Follows, uncollected_since}
-use Rattle.wt_driver_spec.specs.Asking.{AwaitsResponse}
-use Rattle.wt_driver_spec.specs.Uses.{role_of, use_of}
-use Rattle.wt_laws.specs.Reachable.{IsReachable}
-use Rattle.wt_plan.proofs.FactsSame.{facts-same}
-use Rattle.wt_plan.proofs.PlansSame.{connect-same}
-use Rattle.wt_plan.specs.DriverAnswers.{answers_now, error_now}
-use Rattle.wt_plan.specs.FactsNow.{DriverAnswers, facts_now}
-use Rattle.wt_plan.specs.Planned.{defined_plan}
-use Rattle.wt_plan.specs.PlansAgree.{TellsFacts, driver_facts}
-use Rattle.wt_plan.specs.declared.plan.Plan as code
+use Rattle.std.specs.Prelude.{[], ◌++◌, ◌∷◌, ◌≡◌, Bool, Err, List, None, Ok, Option, Some, false, if◌then◌else◌, is_some, not, true, ℕ}
+use Rattle.wt_meaning.specs.Handshakes.{is_nothing}
+use Rattle.wt_meaning.specs.Lawful.{is_client}
+use Rattle.wt_message.specs.Responses.{status_of}
+use Rattle.wt_driver_laws.specs.Calling.{Did, log_record}
+use Rattle.wt_driver_laws.specs.Driving.{Follows, IsWithin}
+use Rattle.wt_kept.specs.Kept.{DriverNow}
+use Rattle.wt_driver_laws.specs.Handing.{BeginsSession, MayBegin, write_actions, write_answer}
+use Rattle.wt_session.proofs.Acceptances.{answer-by, covered-all, own-by}
+use Rattle.wt_session.proofs.Middle.{sent-more}
+use Rattle.wt_session.proofs.Sessions.{Rests}
+use Rattle.wt_session.specs.Connects.{MayRespond, establish_if_open}
 use Rattle.wt_proto.specs.ResponseWalk.{response_walk_of}
 use Rattle.wt_proto.specs.declared.response_walk.ResponseWalk.{ResponseWalk}
 use Rattle.wt_proto.specs.declared.response_walk.ResponseWalk.TheVariants as responses
-use Rattle.wt_laws.proofs.ReachTheorems.{record_facts_theorem}
-use Rattle.wt_transport.specs.State.{TransportState}
-use Rattle.wt_transport.specs.Step.{unread_now}
-use Rattle.wt_seam_spec.specs.Reports.{end_of}
-use Rattle.wt_seam_spec.specs.Streams.{contents, local_bi}
-use Rattle.wt_session_spec.specs.RecordFacts.{Connects}
-use Rattle.wt_session_spec.proofs.Theorems.{planned_theorem}
-use Rattle.wt_session_spec.specs.CallFacts.{CallFacts, facts_of}
-use Rattle.wt_session_spec.specs.HandshakePlans.{AllOut, Ended, HeadProgress, abandon_plan, actions_of_head, wait_plan, continued_by, continued_connect, failed_connect, left_of, lost_connect, head_progress_of, request_left, request_plan, request_sent, request_unless, response_read}
-use Rattle.wt_session_spec.specs.Plan.{Establish, Plan, Step, only_reply, perform, send_and_reply}
-use Rattle.wt_session_spec.specs.Plans.{plan_of}
-use Rattle.wt_session_spec.specs.SessionState.{is_answering, session_state}
-use Rattle.wt_spec.specs.Answers.{call_effect, is_first, may_call}
-use Rattle.wt_spec.specs.Effect.{Effect, is_empty, log_call}
-use Rattle.wt_spec.specs.Handshake.{HandshakeState, handshake_state, has_success, is_continuable}
-use Rattle.wt_spec.specs.Handshake as handshake
-use Rattle.wt_agreement.proofs.DriverTheorems.{drivers_tell_theorem}
-use Rattle.wt_agreement.proofs.Theorems.{logged_theorem}
-use Rattle.wt_turn.specs.Log.{CallRecord, HandshakeOver, Log, Polled, calls_of, events_of}
+use Rattle.wt_seam_spec.specs.Joined.{send_of}
+use Rattle.wt_seam_spec.specs.Outgoing.{bytes_within_credit, credit_left, if_open}
+use Rattle.wt_seam_spec.specs.Reports.{end_of, stop_of}
+use Rattle.wt_seam_spec.specs.Streams.{contents}
+use Rattle.wt_sessions.specs.Driver.{stream_table}
+use Rattle.wt_sessions.specs.Effect.{Effect, close_when_open, driver_error, is_covered, poll_only, poll_sending}
+use Rattle.wt_sessions.specs.Handshake.{abandon, await_or_fail, await_response, establish, fail_connect, has_success, loss_to_connect, read_response, send_request}
+use Rattle.wt_turn.specs.Log.{HandshakeOver, Log, Polled, Sent, events_of, is_open, with_actions}
 use Rattle.wt_turn.specs.declared.action.Action.{Action}
 use Rattle.wt_turn.specs.declared.action.Action.TheVariants as actions
-use Rattle.wt_turn.specs.declared.call.Call.TheVariants as calls
+use Rattle.wt_turn.specs.declared.connecting_error.ConnectingError.{ConnectingError}
+use Rattle.wt_turn.specs.declared.connecting_error.ConnectingError.TheVariants as connects
+use Rattle.wt_turn.specs.declared.connection_error.ConnectionError.{ConnectionError}
+use Rattle.wt_turn.specs.declared.connection_error.ConnectionError.TheVariants as reported
+use Rattle.wt_turn.specs.declared.poll.Poll.TheVariants.{Pending, Ready}
+use Rattle.wt_turn.specs.declared.proto_error.ProtoWriteError.TheVariants as writes
 use Rattle.wt_turn.specs.declared.reply.Reply.{Reply}
 use Rattle.wt_turn.specs.declared.reply.Reply.TheVariants as replies
-use Rattle.wt_turn.specs.declared.connecting_error.ConnectingError.TheVariants as failures
-use Rattle.wt_turn.specs.declared.connection_error.ConnectionError.{ConnectionError}
-use Rattle.wt_wire.specs.declared.error.OutOfMemory.{OutOfMemory}
+use Rattle.wt_wire.specs.Codes.{code_of}
+use Rattle.wt_wire.specs.HeaderList.{Fields}
+use Rattle.wt_wire.specs.Status.{is_successful}
 use Rattle.wt_wire.specs.declared.side.Side.{Side}
-use Rattle.wt_wire.specs.declared.side.Side.TheVariants.{Client}
 
--- ---- the plan by what a driver keeps is the one by the log
+-- a log in the middle of a call stays one with more actions
+pub more-within : (side : Side) (log : Log) (more : List Action) → IsWithin side log → IsWithin side (with_actions more log)
+more-within side log more w = record {
+  before = w.before;
+  own = w.own ++ more;
+  reached = w.reached;
+  is = ap (with_actions more) w.is ∙ sym (sent-more w.own more w.before);
+}
 
-connecting-answers-none : (side : Side) (log : Log) (c : Connect) → IsConnecting log c → is_answering (handshake_state (calls_of log)) ≡ true → ⊥
-connecting-answers-none side log c s a = absurd (let x : is_answering (handshake.Connecting c.reserved c.head) ≡ true = ap is_answering (sym s.state) ∙ a in cc)
+module _ (side : Side) (log : Log) (collected : ℕ) (later : DriverNow) where
+  -- the connect fails, and the connection is closed where it is open
+  pub fails : (code : ℕ) (e : ConnectingError) → Rests later → IsWithin side log → Follows side later (with_actions (if_open log (actions.Close code [])) log) collected
+      → Did side later collected (replies.ConnectFailed e) (fail_connect side log (close_when_open log code) e)
+  fails code e rests w f = record { reply = refl; log = rests HandshakeOver refl side _ collected f (more-within side log (if_open log (actions.Close code [])) w) }
 
-module _ (side : Side) (log : Log) (reach : IsReachable side log) (c : Connect) (s : IsConnecting log c) where
-  connects : Connects side log
-  connects = (record_facts_theorem side log reach).connecting c.reserved c.head s.state
+  -- a step waits, or fails with the connection
+  pub waits-or-fails : (e : ConnectionError) (b : Bool) → is_open log ≡ b → Rests later → IsWithin side log → Follows side later log collected
+      → Did side later collected (if b then replies.Pending else replies.ConnectFailed (connects.ConnectionError e)) (await_or_fail side log e)
+  waits-or-fails e b o rests w f = by (is_open log) b o
+    where
+      by : (x y : Bool) → x ≡ y → Did side later collected (if y then replies.Pending else replies.ConnectFailed (connects.ConnectionError e)) (if x then poll_only side log replies.Pending else fail_connect side log [] (connects.ConnectionError e))
+      by true true h = record { reply = refl; log = rests Polled refl side log collected f w }
+      by false false h = record { reply = refl; log = rests HandshakeOver refl side log collected f w }
+      by true false h = absurd cc
+      by false true h = absurd cc
 
-  pub is_client_side : side ≡ Client
-  is_client_side = connects.client
+  -- nothing is closed where the connection isn't open
+  pub abandoned-closed : (e : ConnectingError) → is_open log ≡ false → abandon side log [] e ≡ fail_connect side log [] e
+  abandoned-closed e o = by (is_open log) o
+    where
+      by : (x : Bool) → x ≡ false → fail_connect side log (if x then actions.Close 0 [] ∷ [] else []) e ≡ fail_connect side log [] e
+      by false h = refl
+      by true h = absurd cc
 
-  first-bi : (id : ℕ) → id ≡ 0 → id ≡ local_bi side
-  first-bi id z = z ∙ sym (ap local_bi is_client_side)
+  -- ---- the response
 
-  -- the response is awaited on the client's first bidirectional stream
-  pub awaits_response : (id : ℕ) → id ≡ 0 → AwaitsResponse side log id
-  awaits_response id z = record {
-    role = ap (λ (x : Side). role_of x id) is_client_side ∙ ap (role_of Client) z;
-    unestablished = connects.unestablished;
-    still_going = ap (λ (k : ℕ). (use_of k (calls_of log)).is_over) (first-bi id z) ∙ connects.still_going;
-  }
+  pub response-awaited : (id : ℕ) (w : ResponseWalk) → w ≡ response_walk_of (contents log id) (end_of (events_of log) id) → w ≡ responses.Waiting → is_open log ≡ true → Rests later → IsWithin side log
+      → Follows side later log collected → Did side later collected replies.Pending (await_response side log id [])
+  response-awaited id w e n o rests within f =
+      subst (λ (x : ResponseWalk). Did side later collected replies.Pending (read_response side log id [] x)) (sym n ∙ e) (by (is_open log) o)
+    where
+      by : (x : Bool) → x ≡ true → Did side later collected replies.Pending (if x then poll_sending side log [] replies.Pending else fail_connect side log [] (loss_to_connect log))
+      by true h = record { reply = refl; log = rests Polled refl side log collected f within }
+      by false h = absurd cc
 
-  -- and what comes of it is what the log says
-  pub walk_is : (id : ℕ) → id ≡ 0 → response_walk_of (contents log id) (end_of (events_of log) id) ≡ (driver_facts side log).response
-  walk_is id z = ap (λ (j : ℕ). response_walk_of (contents log j) (end_of (events_of log) j)) (first-bi id z)
+  -- the answer to the response's outcome is the definitions'
+  pub response-is : (id : ℕ) (answer : Reply) (w : ResponseWalk) → w ≡ response_walk_of (contents log id) (end_of (events_of log) id) → Did side later collected answer (read_response side log id [] w)
+      → Did side later collected answer (await_response side log id [])
+  response-is id answer w e done = subst (λ (x : ResponseWalk). Did side later collected answer (read_response side log id [] x)) e done
 
-  module _ (d : DriverValue) (collected : ℕ) (f : Follows side d log collected) where
-    pub side_now : d.inbox.transport.side ≡ Client
-    side_now = ap (λ (t : TransportState). t.side) f.refines.inbox.transport.state ∙ is_client_side
+  pub waiting-open : (id : ℕ) → is_open log ≡ true → Rests later → IsWithin side log → Follows side later log collected → Did side later collected replies.Pending (read_response side log id [] responses.Waiting)
+  waiting-open id o rests within f = by (is_open log) o
+    where
+      by : (x : Bool) → x ≡ true → Did side later collected replies.Pending (if x then poll_sending side log [] replies.Pending else fail_connect side log [] (loss_to_connect log))
+      by true h = record { reply = refl; log = rests Polled refl side log collected f within }
+      by false h = absurd cc
 
-    pub connect_by_log : (walk : ResponseWalk) → walk ≡ (driver_facts side log).response
-        → continued_connect (facts_now d.inbox.transport (answers_now d.inbox.transport d.state (is_first log) 0 walk)) c.reserved c.head ≡ continued_connect (facts_of side log) c.reserved c.head
-    connect_by_log walk w =
-        let answered : DriverAnswers = answers_now d.inbox.transport d.state (is_first log) 0 walk in
-        let says : TellsFacts side log d.inbox.transport answered =
-        drivers_tell_theorem side d log (uncollected_since collected log) (is_first log) 0 walk f.refines refl (λ a. absurd (connecting-answers-none side log c s a)) (λ r h e. w) reach in
-        ap (λ (x : CallFacts). continued_connect x c.reserved c.head) (facts-same side d.inbox.transport log says.position says.uncollected says.refines answered says.answers says.lawful)
-        ∙ connect-same (facts_of side log) 0 walk (unread_now d.inbox.transport) w c.reserved c.head
+  pub waiting-closed : (id : ℕ) (answer : Reply) → is_open log ≡ false → Did side later collected answer (abandon side log [] (loss_to_connect log)) → Did side later collected answer (read_response side log id [] responses.Waiting)
+  waiting-closed id answer o done = by (is_open log) o (subst (λ (x : Effect). Did side later collected answer x) (abandoned-closed (loss_to_connect log) o) done)
+    where
+      by : (x : Bool) → x ≡ false → Did side later collected answer (fail_connect side log [] (loss_to_connect log)) → Did side later collected answer (if x then poll_sending side log [] replies.Pending else fail_connect side log [] (loss_to_connect log))
+      by false h g = g
+      by true h g = absurd cc
 
--- ---- the call of a poll
+  pub response-accepted : (id offset : ℕ) (fields : Fields) (answer : Reply) → has_success fields ≡ true → Did side later collected answer (establish_if_open side log id offset)
+      → Did side later collected answer (read_response side log id [] (responses.Response fields offset))
+  response-accepted id offset fields answer s done = by (has_success fields) s
+    where
+      by : (x : Bool) → x ≡ true → Did side later collected answer (if not x then abandon side log [] connects.SessionRejected else establish_if_open side log id offset)
+      by true h = done
+      by false h = absurd cc
 
-module _ (side : Side) (log : Log) (c : Connect) (s : IsConnecting log c) where
-  pub poll_plan : plan_of (facts_of side log) (session_state log) calls.Handshake ≡ continued_connect (facts_of side log) c.reserved c.head
-  unfolding plan_of
-  poll_plan = ap (λ (h : HandshakeState). continued_by h (facts_of side log) (session_state log)) s.state
+  pub response-refused : (id offset : ℕ) (fields : Fields) (answer : Reply) → has_success fields ≡ false → Did side later collected answer (abandon side log [] connects.SessionRejected)
+      → Did side later collected answer (read_response side log id [] (responses.Response fields offset))
+  response-refused id offset fields answer s done = by (has_success fields) s
+    where
+      by : (x : Bool) → x ≡ false → Did side later collected answer (if not x then abandon side log [] connects.SessionRejected else establish_if_open side log id offset)
+      by false h = done
+      by true h = absurd cc
 
-  pub poll_may : may_call side log calls.Handshake ≡ true
-  poll_may = ap is_continuable s.state
+  pub establishes : (id offset : ℕ) → BeginsSession side log collected id offset later → Did side later collected (replies.Session id) (establish_if_open side log id offset)
+  establishes id offset b = by (is_open log) b.is_open
+    where
+      by : (x : Bool) → x ≡ true → Did side later collected (replies.Session id) (if x then establish side log [] id offset else fail_connect side log [] (connects.ConnectionError (driver_error side log)))
+      by true h = record { reply = refl; log = b.follows }
+      by false h = absurd cc
 
--- ---- what a connect may be planned as
+  pub establishes-not : (id offset : ℕ) (answer : Reply) → is_open log ≡ false → Rests later → IsWithin side log → Follows side later log collected → answer ≡ replies.ConnectFailed (connects.ConnectionError (driver_error side log))
+      → Did side later collected answer (establish_if_open side log id offset)
+  establishes-not id offset answer o rests w f is = by (is_open log) o
+    where
+      by : (x : Bool) → x ≡ false → Did side later collected answer (if x then establish side log [] id offset else fail_connect side log [] (connects.ConnectionError (driver_error side log)))
+      by false h = record { reply = is; log = rests HandshakeOver refl side log collected f w }
+      by true h = absurd cc
 
-abbrev IsConnectPlan : Plan → Type 0
-IsConnectPlan (Step own r replies.Pending) = r ≡ Polled
-IsConnectPlan (Step own r (replies.ConnectFailed e)) = r ≡ HandshakeOver
-IsConnectPlan (Establish own id offset) = Unit {0}
-IsConnectPlan _ = ⊥
+-- ---- what a call sent first
 
--- one of two plans
-either : (b : Bool) (x y : Plan) → IsConnectPlan x → IsConnectPlan y → IsConnectPlan (if b then x else y)
-either true x y p q = p
-either false x y p q = q
+module _ (side : Side) (log : Log) (id : ℕ) where
+  -- the response is read alike in the middle of the call
+  moved : (a : Action) (more : List Action) → is_open (Sent a ∷ log) ≡ is_open log → (w : ResponseWalk) → read_response side log id (a ∷ more) w ≡ read_response side (Sent a ∷ log) id more w
+  unfolding stream_table
+  moved a more o (responses.Fault code) =
+      ap (λ (x : Bool). fail_connect side (Sent a ∷ log) (more ++ (if x then actions.Close (code_of code) [] ∷ [] else [])) (connects.ConnectionError (reported.LocalH3Error code))) (sym o)
+  moved a more o responses.Ended =
+      ap (λ (x : Bool). fail_connect side (Sent a ∷ log) (more ++ (if x then actions.Close 0 [] ∷ [] else [])) (loss_to_connect log)) (sym o)
+  moved a more o responses.Waiting =
+      ap (λ (x : Bool). if x then poll_sending side (Sent a ∷ log) more replies.Pending else fail_connect side (Sent a ∷ log) more (loss_to_connect log)) (sym o)
+  moved a more o (responses.Response fields offset) =
+      ap (λ (x : Bool). if not (has_success fields) then fail_connect side (Sent a ∷ log) (more ++ (if x then actions.Close 0 [] ∷ [] else [])) connects.SessionRejected else
+      (if x then establish side (Sent a ∷ log) more id offset else fail_connect side (Sent a ∷ log) more (connects.ConnectionError (driver_error side log)))) (sym o)
 
-module _ (f : CallFacts) where
-  read-planned : (id : ℕ) (own : List Action) (w : ResponseWalk) → IsConnectPlan (response_read f id own w)
-  read-planned id own (responses.Fault code) = refl
-  read-planned id own responses.Ended = refl
-  read-planned id own responses.Waiting = either f.is_open (send_and_reply own replies.Pending) (failed_connect own (lost_connect f)) refl refl
-  read-planned id own (responses.Response fields offset) =
-      either (not (has_success fields)) (abandon_plan f own failures.SessionRejected) _ refl
-      (either f.is_open (Establish own id offset) (failed_connect own (failures.ConnectionError f.driver_error)) tt refl)
+  pub await-moved : (bytes : List ℕ) → await_response side log id (send_of id bytes) ≡ await_response side (with_actions (send_of id bytes) log) id []
+  await-moved [] = refl
+  await-moved (b ∷ bytes) = moved (actions.Send id (b ∷ bytes)) [] refl (response_walk_of (contents log id) (end_of (events_of log) id))
 
-  sent-planned : (p : HeadProgress) (id : ℕ) (own out : List Action) → IsConnectPlan (request_sent p f id own out)
-  sent-planned AllOut id own out = read-planned id (own ++ out) f.response
-  sent-planned _ id own out = refl
+  -- and so does the request go out
+  pub send-moved : (n : ℕ) (left : List ℕ) → send_request side log id (actions.Opened n ∷ []) left ≡ send_request side (Sent (actions.Opened n) ∷ log) id [] left
+  send-moved n left = by (is_nothing left) (is_open log) (is_some (stop_of (events_of log) id)) (is_covered log id left)
+    where
+      a : Action
+      a = actions.Opened n
 
-  left-planned : (id : ℕ) (own : List Action) (left : List ℕ) → IsConnectPlan (request_left f id own left)
-  left-planned id own left = either (is_empty left) _ _ (read-planned id own f.response) (sent-planned (head_progress_of f id left) id own (actions_of_head f id left))
+      l : Log
+      l = Sent (actions.Opened n) ∷ log
 
-  request-planned : (kind : ℕ) (head : List ℕ) → IsConnectPlan (request_plan f kind head)
-  request-planned kind head =
-      either f.has_request_stream (request_left f kind [] (left_of f kind head)) _ (left-planned kind [] (left_of f kind head))
-      (either (not f.is_open) (failed_connect [] (lost_connect f)) _ refl
-      (either (f.may_open kind) (request_left f kind (actions.Opened (f.next_id kind) ∷ []) (left_of f kind head)) (only_reply replies.Pending)
-      (left-planned kind (actions.Opened (f.next_id kind) ∷ []) (left_of f kind head)) refl))
+      by : (x o s c : Bool)
+          → (if x then await_response side log id (actions.Opened n ∷ []) else
+          (if not o then fail_connect side log (actions.Opened n ∷ []) (loss_to_connect log) else
+          (if s then abandon side log (actions.Opened n ∷ []) connects.SessionRejected else
+          (if c then await_response side log id (actions.Opened n ∷ send_of id left)
+          else poll_sending side log (actions.Opened n ∷ send_of id (bytes_within_credit log id left)) replies.Pending))))
+          ≡ (if x then await_response side (Sent (actions.Opened n) ∷ log) id [] else
+          (if not o then fail_connect side (Sent (actions.Opened n) ∷ log) [] (loss_to_connect log) else
+          (if s then abandon side (Sent (actions.Opened n) ∷ log) [] connects.SessionRejected else
+          (if c then await_response side (Sent (actions.Opened n) ∷ log) id (send_of id left)
+          else poll_sending side (Sent (actions.Opened n) ∷ log) (send_of id (bytes_within_credit log id left)) replies.Pending))))
+      by true o s c = moved (actions.Opened n) [] refl (response_walk_of (contents log id) (end_of (events_of log) id))
+      by false false s c = refl
+      by false true true c = refl
+      by false true false true = moved (actions.Opened n) (send_of id left) refl (response_walk_of (contents log id) (end_of (events_of log) id))
+      by false true false false = refl
 
-  unless-planned : (reserved : Option (List ℕ)) (head : List ℕ) → IsConnectPlan (request_unless f reserved head)
-  unless-planned (Some name) head = refl
-  unless-planned None head = request-planned (local_bi f.side) head
+-- ---- a poll of a request on its stream
 
-  connect-planned : (reserved : Option (List ℕ)) (head : List ℕ) → IsConnectPlan (continued_connect f reserved head)
-  connect-planned reserved head =
-      either (not f.is_connected) (wait_plan f f.transport_error) _
-      (either f.is_open (only_reply replies.Pending) (failed_connect [] (failures.ConnectionError f.transport_error)) refl refl)
-      (either f.settings_came (request_unless f reserved head) (wait_plan f f.driver_error) (unless-planned reserved head)
-      (either f.is_open (only_reply replies.Pending) (failed_connect [] (failures.ConnectionError f.driver_error)) refl refl))
+module _ (side : Side) (log : Log) (collected id : ℕ) (left : List ℕ) (later : DriverNow) where
+  abbrev request-by : Bool → Bool → Bool → Bool → Effect
+  request-by n o s c =
+      if n then await_response side log id [] else
+      (if not o then fail_connect side log [] (loss_to_connect log) else
+      (if s then abandon side log [] connects.SessionRejected else
+      (if c then await_response side log id (send_of id left)
+      else poll_sending side log (send_of id (bytes_within_credit log id left)) replies.Pending)))
 
--- ---- what stands afterwards
+  -- a rest lacks credit
+  pub request-pending : is_nothing left ≡ false → Rests later → IsWithin side log → Follows side later (with_actions (write_actions log id left) log) collected
+      → Pending ≡ write_answer log id left → Did side later collected replies.Pending (send_request side log id [] left)
+  request-pending n rests w f e =
+      by (is_nothing left) (is_open log) (is_some (stop_of (events_of log) id)) (is_covered log id left) n
+      (rests Polled refl side _ collected f (more-within side log (write_actions log id left) w)) e
+    where
+      by : (n o s c : Bool) → n ≡ false → Follows side later (log_record side (with_actions (own-by side log collected id left later o s) log) [] Polled) collected
+          → Pending ≡ answer-by side log collected id left later o s c → Did side later collected replies.Pending (request-by n o s c)
+      by true o s c en g h = absurd cc
+      by false false s c en g h = absurd cc
+      by false true true c en g h = absurd cc
+      by false true false true en g h = absurd cc
+      by false true false false en g h = record { reply = refl; log = g }
 
-reply-of-plan : (side : Side) (log : Log) (p : Plan) → IsConnectPlan p → IsConnectReply (perform side log p).reply
-reply-of-plan side log (Step own r replies.Pending) k = tt
-reply-of-plan side log (Step own r (replies.ConnectFailed e)) k = tt
-reply-of-plan side log (Establish own id offset) k = tt
-reply-of-plan side log _ k = absurd k
+  -- the connection isn't open
+  pub request-closed : (answer : Reply) → is_nothing left ≡ false → Did side later collected answer (abandon side log [] (loss_to_connect log)) → Ready (Err writes.NotConnected) ≡ write_answer log id left
+      → Did side later collected answer (send_request side log id [] left)
+  request-closed answer n done e =
+      by (is_nothing left) (is_open log) (is_some (stop_of (events_of log) id)) (is_covered log id left) n refl e
+    where
+      by : (n o s c : Bool) → n ≡ false → is_open log ≡ o → Ready (Err writes.NotConnected) ≡ answer-by side log collected id left later o s c → Did side later collected answer (request-by n o s c)
+      by true o s c en eo h = absurd cc
+      by false false s c en eo h = subst (λ (x : Effect). Did side later collected answer x) (abandoned-closed side log collected later (loss_to_connect log) eo) done
+      by false true true c en eo h = absurd cc
+      by false true false true en eo h = absurd cc
+      by false true false false en eo h = absurd cc
 
-stands-by : (side : Side) (log : Log) (c : Connect) → IsConnecting log c → (p : Plan) → IsConnectPlan p → StandsWith (perform side log p).log c (perform side log p).reply
-stands-by side log c s (Step own r replies.Pending) k =
-    let made : calls_of (log_call side log own r) ≡ Polled ∷ calls_of log = logged_theorem side log own r ∙ ap (λ (x : CallRecord). x ∷ calls_of log) k in
-    record { state = ap handshake_state made ∙ s.state }
-stands-by side log c s (Step own r (replies.ConnectFailed e)) k = tt
-stands-by side log c s (Establish own id offset) k = establishes side log own id offset
-stands-by side log c s _ k = absurd k
+  -- the peer stopped the stream
+  pub request-stopped : (answer : Reply) → is_nothing left ≡ false → Did side later collected answer (abandon side log [] connects.SessionRejected) → Ready (Err writes.Stopped) ≡ write_answer log id left
+      → Did side later collected answer (send_request side log id [] left)
+  request-stopped answer n done e = by (is_nothing left) (is_open log) (is_some (stop_of (events_of log) id)) (is_covered log id left) n e
+    where
+      by : (n o s c : Bool) → n ≡ false → Ready (Err writes.Stopped) ≡ answer-by side log collected id left later o s c → Did side later collected answer (request-by n o s c)
+      by true o s c en h = absurd cc
+      by false false s c en h = absurd cc
+      by false true true c en h = done
+      by false true false true en h = absurd cc
+      by false true false false en h = absurd cc
 
-module _ (side : Side) (log : Log) (c : Connect) (s : IsConnecting log c) where
-  effect-of-poll : call_effect side log calls.Handshake ≡ perform side log (continued_connect (facts_of side log) c.reserved c.head)
-  effect-of-poll = planned_theorem side log calls.Handshake ∙ ap (perform side log) (poll_plan side log c s)
+  -- all of it is out
+  pub request-out : (answer : Reply) → is_nothing left ≡ false → Did side later collected answer (await_response side (with_actions (write_actions log id left) log) id []) → Ready (Ok tt) ≡ write_answer log id left
+      → Did side later collected answer (send_request side log id [] left)
+  request-out answer n done e = by (is_nothing left) (is_open log) (is_some (stop_of (events_of log) id)) (is_covered log id left) n refl done e
+    where
+      by : (n o s c : Bool) → n ≡ false → is_covered log id left ≡ c → Did side later collected answer (await_response side (with_actions (own-by side log collected id left later o s) log) id [])
+          → Ready (Ok tt) ≡ answer-by side log collected id left later o s c → Did side later collected answer (request-by n o s c)
+      by true o s c en ec g h = absurd cc
+      by false false s c en ec g h = absurd cc
+      by false true true c en ec g h = absurd cc
+      by false true false false en ec g h = absurd cc
+      by false true false true en ec g h =
+          subst (λ (x : Effect). Did side later collected answer x)
+          (ap (λ (bs : List ℕ). await_response side (with_actions (send_of id bs) log) id []) (covered-all (credit_left log id) left ec) ∙ sym (await-moved side log id left)) g
 
-  -- a poll replies as a connect does
-  pub poll_reply : (reply : Reply) → reply ≡ (call_effect side log calls.Handshake).reply → IsConnectReply reply
-  poll_reply reply e =
-      subst IsConnectReply (sym (e ∙ ap (λ (x : Effect). x.reply) effect-of-poll))
-      (reply-of-plan side log (continued_connect (facts_of side log) c.reserved c.head) (connect-planned (facts_of side log) c.reserved c.head))
+-- ---- a client's session begins
 
-  -- and this stands then
-  pub poll_stands : (reply : Reply) → reply ≡ (call_effect side log calls.Handshake).reply → StandsWith (call_effect side log calls.Handshake).log c reply
-  poll_stands reply e =
-      subst (StandsWith (call_effect side log calls.Handshake).log c) (sym e)
-      (subst (λ (x : Effect). StandsWith x.log c x.reply) (sym effect-of-poll)
-      (stands-by side log c s (continued_connect (facts_of side log) c.reserved c.head) (connect-planned (facts_of side log) c.reserved c.head)))
+pub client-begins : (side : Side) (log : Log) (id offset : ℕ) (fields : Fields) → MayRespond id side log → response_walk_of (contents log id) (end_of (events_of log) id) ≡ responses.Response fields offset
+    → MayBegin (is_client side) side log id offset
+client-begins side log id offset fields may e =
+    subst (λ (b : Bool). MayBegin b side log id offset) (sym may.client)
+    (may.first, may.unestablished, (fields, e), may.may)
 
--- ---- as the code plans it
-
-module _ (p : Result code.Plan OutOfMemory) (side : Side) (log : Log) (c : Connect) (s : IsConnecting log c) where
-  -- what is planned by what a driver keeps is planned by the log
-  pub planned_by_log : (d : DriverValue) (collected : ℕ) → Follows side d log collected → IsReachable side log → (t : TransportState) → t ≡ d.inbox.transport → (has_come : Bool) → has_come ≡ d.state.progress.settings
-      → (error : ConnectionError) → error ≡ error_now t d.state.progress.ending → (walk : ResponseWalk) → walk ≡ (driver_facts side log).response → (head : List ℕ) → head ≡ c.head
-      → ((f : DriverAnswers) → t.side ≡ Client → f.settings_came ≡ has_come → f.driver_error ≡ error → f.response ≡ walk → IfOk p (λ q. defined_plan q ≡ continued_connect (facts_now t f) c.reserved head))
-      → IfOk p (λ q. defined_plan q ≡ continued_connect (facts_of side log) c.reserved c.head)
-  planned_by_log d collected f reach t there has_come came_is error error_is walk walk_reported head same g =
-      let now =
-      g (answers_now d.inbox.transport d.state (is_first log) 0 walk) (ap (λ (u : TransportState). u.side) there ∙ side_now side log reach c s d collected f) (sym came_is)
-      (ap (λ (u : TransportState). error_now u d.state.progress.ending) (sym there) ∙ sym error_is) refl in
-      let by_transport = subst (λ (u : TransportState). IfOk p (λ q. defined_plan q ≡ continued_connect (facts_now u (answers_now d.inbox.transport d.state (is_first log) 0 walk)) c.reserved head)) there now in
-      let by_head = subst (λ (h : List ℕ). IfOk p (λ q. defined_plan q ≡ continued_connect (facts_now d.inbox.transport (answers_now d.inbox.transport d.state (is_first log) 0 walk)) c.reserved h)) same by_transport in
-      subst (λ (x : Plan). IfOk p (λ q. defined_plan q ≡ x)) (connect_by_log side log reach c s d collected f walk walk_reported) by_head
-
-  module _ (g : IfOk p (λ q. defined_plan q ≡ continued_connect (facts_of side log) c.reserved c.head)) where
-    -- it is the plan of the poll's call
-    pub planned_call : IfOk p (λ q. defined_plan q ≡ plan_of (facts_of side log) (session_state log) calls.Handshake)
-    planned_call = subst (λ (x : Plan). IfOk p (λ q. defined_plan q ≡ x)) (sym (poll_plan side log c s)) g
+-- the status of a response tells whether it succeeds
+pub success-is : (fields : Fields) (code : ℕ) → status_of fields ≡ Some code → has_success fields ≡ is_successful code
+success-is fields code e = ap (λ (o : Option ℕ). elim o [ Some c ↦ is_successful c | None ↦ false ]) e

@@ -1,3 +1,9 @@
-pub mod Connecting
-pub mod Incoming
-pub mod Responding
+pub mod Errors
+pub mod Replies
+pub mod Handshakes
+pub mod Connects
+pub mod Stages
+pub mod ConnectOptions
+pub mod ConnectTarget
+pub mod Halves
+pub mod Lending

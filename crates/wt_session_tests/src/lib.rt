@@ -1,4 +1,4 @@
-//! Tests of the public types. There are tests here and no code.
+//! Tests of the public types for several sessions. There are tests here and no code.
 #![tactic(auto)]
 
 #[cfg(test)]

@@ -1,7 +1,11 @@
-//! What the contracts leave open: that memory suffices where there is enough, and worked cases.
+//! Worked connections, call by call, as scripts that [`script`] runs.
+mod application;
+mod clients;
 mod drivers;
-mod halves;
-mod handshakes;
-mod sessions;
+mod ends;
+mod machine;
+mod script;
+mod servers;
 mod streams;
+mod targets;
 mod values;

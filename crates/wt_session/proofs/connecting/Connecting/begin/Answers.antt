@@ -1,38 +1,38 @@
-use Rattle.std.proofs.Common.{◌∙◌, List, ap, subst, sym, ℕ}
-use Rattle.wt_connect.specs.ConnectTarget.{target_of}
-use Rattle.wt_session.proofs.Beginning.{dialled_begins, dialled_effect, dialled_log, failed_effect}
-use Rattle.wt_session.proofs.Over.{over_may}
+use Rattle.std.proofs.Common.{◌∙◌, ap, subst, sym, ℕ}
+use Rattle.std.specs.Prelude.{Err, List, Ok}
+use Rattle.wt_session.proofs.Dials.{begin-dials, begin-fails, begin-goes-on, first-of-client, new-connect, target-by, whole-target}
+use Rattle.wt_session.specs.ConnectTarget.{target_of}
+use Rattle.wt_session.specs.Connects.{IsNewConnect, IsRequestFor}
+use Rattle.wt_wire.specs.HeaderList.{Fields}
 use Rattle.wt_session.proofs.connecting.Connecting.begin.Goals as goal
-use Rattle.wt_driver_state.specs.Tie.{Follows}
-use Rattle.wt_spec.specs.Effect.{Effect}
 
-pub returns-in-Ok-clause-reply : goal.returns-in-Ok-clause-reply
-returns-in-Ok-clause-reply c = λ side log collected f reach may.
-    let found = sym c.in-Ok.is ∙ c.in_ok-target.ensures.target ∙ ap (λ (text : List ℕ). target_of text c.args.lookup c.args.outcome) c.url.ensures in
-    sym (ap (λ (x : Effect). x.reply) (dialled_effect side log c.args.options.url c.args.options.headers c.args.lookup c.args.outcome c.in-Ok.target found))
+pub returns-in-Err-clause-does : goal.returns-in-Err-clause-does
+returns-in-Err-clause-does c side log collected f r may =
+    let e = sym c.in-Err.is ∙ c.in_ok-target.ensures.target ∙ ap (λ (u : List ℕ). target_of u c.args.lookup c.args.outcome) c.url.ensures in
+    begin-fails c.args.options.url c.args.options.headers c.args.lookup c.args.outcome side log collected c.args.d.now c.rests.ensures r c.in-Err.error
+    (target-by c.args.options.url c.args.options.headers c.args.lookup c.args.outcome (Err c.in-Err.error) e) f
 
-pub returns-in-Ok-clause-log : goal.returns-in-Ok-clause-log
-returns-in-Ok-clause-log c = λ side log collected f reach may.
-    let found = sym c.in-Ok.is ∙ c.in_ok-target.ensures.target ∙ ap (λ (text : List ℕ). target_of text c.args.lookup c.args.outcome) c.url.ensures in
-    dialled_log side log c.args.options.url c.args.options.headers c.args.lookup c.args.outcome c.in-Ok.target found c.args.d.now c.dial.new.d collected f reach may c.additional_headers-headers.result.now c.additional_headers-headers.ensures
-    (λ send can. c.in_ok-connecting-in-Ok.ensures.log side log collected f send can)
+pub returns-clause-does : goal.returns-clause-does
+returns-clause-does c side log collected f r may =
+    let e = sym c.in-Ok.is ∙ c.in_ok-target.ensures.target ∙ ap (λ (u : List ℕ). target_of u c.args.lookup c.args.outcome) c.url.ensures in
+    let p = first-of-client side log may in
+    begin-dials c.args.options.url c.args.options.headers c.args.lookup c.args.outcome side log collected c.dial_where_open.new.d c.rests-2.ensures r (whole-target c.in-Ok.target c.args.options.headers)
+    (target-by c.args.options.url c.args.options.headers c.args.lookup c.args.outcome (Ok c.in-Ok.target) e) (c.in_ok-dial_where_open.ensures.log side log collected f r p.0 p.1)
 
-pub returns-in-Ok-clause-in_log : goal.returns-in-Ok-clause-in_log
-returns-in-Ok-clause-in_log c = λ side log collected f reach may.
-    let found = sym c.in-Ok.is ∙ c.in_ok-target.ensures.target ∙ ap (λ (text : List ℕ). target_of text c.args.lookup c.args.outcome) c.url.ensures in
-    dialled_begins side log c.args.options.url c.args.options.headers c.args.lookup c.args.outcome c.in-Ok.target found c.in_ok-connecting-in-Ok.connecting c.additional_headers-headers.result.now c.additional_headers-headers.ensures
-    c.in_ok-connecting-in-Ok.ensures.connecting
+pub returns-clause-connect : goal.returns-clause-connect
+returns-clause-connect c =
+    let e = sym c.in-Ok.is ∙ c.in_ok-target.ensures.target ∙ ap (λ (u : List ℕ). target_of u c.args.lookup c.args.outcome) c.url.ensures in
+    let asked = subst (λ (h : Fields). IsRequestFor c.in-Ok.target.authority c.in-Ok.target.path h c.in_ok-request.request) c.additional_headers.ensures c.in_ok-request.ensures in (
+      whole-target c.in-Ok.target c.args.options.headers,
+      target-by c.args.options.url c.args.options.headers c.args.lookup c.args.outcome (Ok c.in-Ok.target) e,
+      subst (IsNewConnect (whole-target c.in-Ok.target c.args.options.headers)) (sym c.stage_of-stage.ensures) (new-connect c.in-Ok.target c.args.options.headers c.in_ok-request.request asked),
+    )
 
-pub returns-clause-reply : goal.returns-clause-reply
-returns-clause-reply c = λ side log collected f reach may.
-    let found = sym c.in-Err.is ∙ c.in_ok-target.ensures.target ∙ ap (λ (text : List ℕ). target_of text c.args.lookup c.args.outcome) c.url.ensures in
-    sym (ap (λ (x : Effect). x.reply) (failed_effect side log c.args.options.url c.args.options.headers c.args.lookup c.args.outcome c.in-Err.error found))
-
-pub returns-clause-log : goal.returns-clause-log
-returns-clause-log c = λ side log collected f reach may.
-    let found = sym c.in-Err.is ∙ c.in_ok-target.ensures.target ∙ ap (λ (text : List ℕ). target_of text c.args.lookup c.args.outcome) c.url.ensures in
-    subst (λ (x : Effect). Follows side c.record_call.new.self x.log collected) (sym (failed_effect side log c.args.options.url c.args.options.headers c.args.lookup c.args.outcome c.in-Err.error found))
-    (c.in_ok-record_call-in-Err.ensures.log side log collected f (over_may side c.args.d.now log collected f))
-
-pub returns-clause-in_log : goal.returns-clause-in_log
-returns-clause-in_log c = λ side log collected f reach may. tt
+pub returns-clause-goes_on : goal.returns-clause-goes_on
+returns-clause-goes_on c side log collected f r may =
+    let e = sym c.in-Ok.is ∙ c.in_ok-target.ensures.target ∙ ap (λ (u : List ℕ). target_of u c.args.lookup c.args.outcome) c.url.ensures in
+    let asked = subst (λ (h : Fields). IsRequestFor c.in-Ok.target.authority c.in-Ok.target.path h c.in_ok-request.request) c.additional_headers.ensures c.in_ok-request.ensures in
+    let p = first-of-client side log may in
+    begin-goes-on c.args.options.url c.args.options.headers c.args.lookup c.args.outcome side log collected c.dial_where_open.new.d c.rests-2.ensures r (whole-target c.in-Ok.target c.args.options.headers)
+    (target-by c.args.options.url c.args.options.headers c.args.lookup c.args.outcome (Ok c.in-Ok.target) e) (c.in_ok-dial_where_open.ensures.log side log collected f r p.0 p.1) _
+    (subst (IsNewConnect (whole-target c.in-Ok.target c.args.options.headers)) (sym c.stage_of-stage.ensures) (new-connect c.in-Ok.target c.args.options.headers c.in_ok-request.request asked)) p.0 p.1

@@ -1,5 +1,0 @@
-use Rattle.std.proofs.Common.{◌∙◌, ap, refl, subst, sym, ℕ}
-use Rattle.wt_next_session.proofs.rejecting.Rejecting.begin_finish.Goals as goal
-
-pub returns-clause-finishes : goal.returns-clause-finishes
-returns-clause-finishes c = rw (← c.self.view_is) (λ side log collected f w can apart dead. ((c.in_ok-_pending).ensures.finishes side log collected f w can apart dead).follows)

@@ -1,9 +1,0 @@
-pub mod Errors
-pub mod Replies
-pub mod Handshakes
-pub mod Connects
-pub mod Stages
-pub mod ConnectOptions
-pub mod ConnectTarget
-pub mod Halves
-pub mod Lending

@@ -1,8 +1,0 @@
-//! Worked connections, call by call, as scripts that [`script`] runs.
-mod application;
-mod clients;
-mod drivers;
-mod ends;
-mod script;
-mod servers;
-mod streams;

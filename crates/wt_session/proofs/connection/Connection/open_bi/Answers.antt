@@ -1,0 +1,29 @@
+use Rattle.std.proofs.Common.{◌∙◌, ap, subst, sym, ℕ}
+use Rattle.wt_driver_laws.specs.Having.{HasSession}
+use Rattle.wt_session.specs.Errors.{reported_error}
+use Rattle.wt_driver_laws.specs.Driving.{Follows}
+use Rattle.wt_kept.specs.Kept.{DriverNow}
+use Rattle.wt_driver_laws.specs.Having.{IsNewOpening}
+use Rattle.wt_turn.specs.declared.reply.Reply.TheVariants as replies
+use Rattle.wt_session.proofs.Sessions.{bi-opened, bi-refused, bi-waits}
+use Rattle.wt_session.proofs.connection.Connection.open_bi.Goals as goal
+
+pub returns-in-Ready-Ok-clause-does : goal.returns-in-Ready-Ok-clause-does
+returns-in-Ready-Ok-clause-does c side log collected f r =
+    rw (← c.self.view_is) (λ has. let h = c.in_ok-answer.ensures.opens side log collected f r has in let g = rw (c.in-Ready-Ok.is, c.in-Ready-Ok.field-0-is) at h in
+    bi-opened side log c.self.inside.session collected c.open_bi.new.self _ has g)
+
+pub returns-in_ok-error-in-Ready-Err-clause-does : goal.returns-in_ok-error-in-Ready-Err-clause-does
+returns-in_ok-error-in-Ready-Err-clause-does c side log collected f r =
+    rw (← c.self.view_is) (λ has. let h = c.in_ok-answer.ensures.opens side log collected f r has in let n = rw (c.in-Ready-Err.is, c.in-Ready-Err.field-0-is) at h in
+    bi-refused side log c.self.inside.session collected c.open_bi.new.self c.args.d.now c.in-Ready-Err.e _ has r c.rests.ensures f n
+    (ap replies.Failed (c.in_ok-error-in-Ready-Err.ensures side log collected (subst (λ (x : DriverNow). Follows side x log collected) (sym n.same) f) (subst (λ (s : ℕ). HasSession s side log) c.self.view_is has)
+    ∙ ap (λ (s : ℕ). reported_error side log s c.in-Ready-Err.e) (sym c.self.view_is))))
+
+pub returns-in-Pending-clause-does : goal.returns-in-Pending-clause-does
+returns-in-Pending-clause-does c side log collected f r =
+    rw (← c.self.view_is) (λ has. let h = c.in_ok-answer.ensures.opens side log collected f r has in let n = rw c.in-Pending.is at h in
+    bi-waits side log c.self.inside.session collected c.open_bi.new.self c.args.d.now has r c.rests.ensures f n)
+
+pub returns-in-Ready-Ok-clause-opening : goal.returns-in-Ready-Ok-clause-opening
+returns-in-Ready-Ok-clause-opening c = let h = c.in_ok-answer.ensures.opening in let g = rw (c.in-Ready-Ok.is, c.in-Ready-Ok.field-0-is) at h in subst (λ (s : ℕ). IsNewOpening s c.in-Ready-Ok.opening) c.self.view_is g
