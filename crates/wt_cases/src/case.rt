@@ -1,7 +1,7 @@
 //! A recorded case, and whether the program answers it so.
 ghost use Rattle.std.specs.Prelude.{◌≡◌, [], IfOk, OnOk, All, IsTrue, false};
 ghost use Rattle.wt_cases.specs.Cases.{IsAnswered};
-ghost use Rattle.wt_trace.specs.Program.{is_cut_short};
+ghost use Rattle.wt_trace.specs.Asked.{is_cut_short};
 
 use std::alloc::{AllocError, Global};
 use wt_trace::outside::mem::{MemSink, MemSource};

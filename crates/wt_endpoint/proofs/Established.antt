@@ -2,14 +2,15 @@
 use Rattle.std.proofs.Common.{◌≡◌, ◌<◌, ◌∷◌, Bool, List, [], ap, arith, false, length, refl, subst, sym, true, ◌∙◌, ℕ}
 use Rattle.std.proofs.lemmas.Bool.Decides.{nat_tests}
 use Rattle.std.specs.Prelude.{Option, Some, nat_lt}
-use Rattle.wt_endpoint.proofs.Apart.{apart_theorem, begun-all, own_log_theorem}
-use Rattle.wt_endpoint.proofs.Logs.{begun-get}
-use Rattle.wt_endpoint.specs.Endpoints.{AllMayCome, accept_answer, accept_next, endpoint_log, no_connections}
+use Rattle.wt_endpoint.proofs.Apart.{apart_theorem, begun-all, own_history_theorem}
+use Rattle.wt_endpoint.proofs.ByNumber.{begun-get}
+use Rattle.wt_endpoint.specs.Endpoints.{AllMayCome, accept_answer, accept_next, endpoint_history, no_connections}
 use Rattle.wt_endpoint.specs.Isolation.{begin_established, own_turns}
 use Rattle.wt_endpoint.specs.declared.turn.EndpointTurn.{EndpointTurn}
-use Rattle.wt_laws.specs.Reachable.{AllLawful}
-use Rattle.wt_spec.specs.Answers.{is_first, is_lawful, log_from, may_call}
-use Rattle.wt_turn.specs.Log.{Log}
+use Rattle.wt_meaning.specs.History.{History}
+use Rattle.wt_meaning.specs.Lawful.{is_first, is_lawful, may_call}
+use Rattle.wt_promise.specs.Lists.{history_of}
+use Rattle.wt_promise.specs.Promise.{AllLawful}
 use Rattle.wt_turn.specs.declared.call.Call.{Call}
 use Rattle.wt_turn.specs.declared.call.Call.TheVariants as calls
 use Rattle.wt_turn.specs.declared.poll.Poll.{Poll}
@@ -28,14 +29,14 @@ first-turn (turns.Connected uni bi credit datagrams) later l = refl
 first-turn (turns.Call call) later l = no-call call l
 first-turn turn later l = l
 
-first-of : (own : List Turn) → AllLawful Server [] own → is_first (log_from Server [] own) ≡ false → begin_established own ≡ true
+first-of : (own : List Turn) → AllLawful Server [] own → is_first (history_of Server [] own) ≡ false → begin_established own ≡ true
 first-of [] a f = sym f
 first-of (turn ∷ later) a f = first-turn turn later a.0
 
-begun-established : (all : List EndpointTurn) (n : ℕ) → AllMayCome Server no_connections all → n < length (endpoint_log Server all).logs → begin_established (own_turns Server n all) ≡ true
+begun-established : (all : List EndpointTurn) (n : ℕ) → AllMayCome Server no_connections all → n < length (endpoint_history Server all).histories → begin_established (own_turns Server n all) ≡ true
 begun-established all n c l =
-    let begun = begun-get (endpoint_log Server all).logs n (begun-all Server no_connections all c tt) l in
-    first-of (own_turns Server n all) (apart_theorem Server all c n).1 (subst (λ (log : Log). is_first log ≡ false) (own_log_theorem Server all n c) begun)
+    let begun = begun-get (endpoint_history Server all).histories n (begun-all Server no_connections all c tt) l in
+    first-of (own_turns Server n all) (apart_theorem Server all c n).1 (subst (λ (h : History). is_first h ≡ false) (own_history_theorem Server all n c) begun)
 
 abbrev number-of : Option (Poll ℕ) → ℕ
 number-of (Some (Ready n)) = n
@@ -50,8 +51,8 @@ given-by false accepted count n true q e =
 given-by false accepted count n false q e = let none : Some Pending ≡ Some (Ready n) = rw q at e in absurd (cc)
 
 -- the connection that an accept gives
-pub accepted_established : (all : List EndpointTurn) (n : ℕ) → AllMayCome Server no_connections all → accept_answer (endpoint_log Server all) ≡ Some (Ready n)
+pub accepted_established : (all : List EndpointTurn) (n : ℕ) → AllMayCome Server no_connections all → accept_answer (endpoint_history Server all) ≡ Some (Ready n)
     → begin_established (own_turns Server n all) ≡ true
 accepted_established all n c e =
-    let log = endpoint_log Server all in
-    begun-established all n c (given-by log.closed log.accepted (length log.logs) n (nat_lt log.accepted (length log.logs)) refl e)
+    let after = endpoint_history Server all in
+    begun-established all n c (given-by after.closed after.accepted (length after.histories) n (nat_lt after.accepted (length after.histories)) refl e)

@@ -1,7 +1,9 @@
 pub mod Apart
 pub mod Closing
 pub mod Established
+pub mod Histories
 pub mod Keeping
-pub mod Logs
+pub mod Kept
+pub mod ByNumber
 pub mod Running
 pub mod Standing

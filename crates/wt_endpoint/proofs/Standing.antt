@@ -1,18 +1,18 @@
 -- What stands for a list of turns answers by it, and goes on.
-use Rattle.std.proofs.Common.{◌≡◌, ◌+◌, ◌<◌, ◌≤◌, ◌==◌, ◌&&◌, ◌||◌, ◌∷◌, ◌++◌, Bool, List, [], ap, arith, false, length, not, refl, subst, suc, sym, true, zero, ◌∙◌, ℕ, ◌^◌}
+use Rattle.std.proofs.Common.{◌≡◌, ◌||◌, ◌∷◌, ◌++◌, Bool, List, [], ap, arith, length, not, refl, subst, sym, true, ◌∙◌, ℕ, ◌^◌}
 use Rattle.std.proofs.lemmas.Bool.{eq-eqb}
 use Rattle.std.proofs.lemmas.Option.{slice_get_past}
-use Rattle.std.specs.Prelude.{Err, IfOk, IsTrue, None, OnOk, Ok, Option, Result, Some, nat_lt, slice_get}
-use Rattle.wt_core.specs.CoreState.{CoreState}
-use Rattle.wt_endpoint.proofs.Apart.{and-right, closed_theorem, own_log_theorem}
-use Rattle.wt_endpoint.proofs.Keeping.{accept_is, accept_refines, may_take_is, next_log, stands_more}
-use Rattle.wt_endpoint.specs.Connections.{ConnectionsState, Refines, StandsFor, accept_now, after_accept, may_connect, may_take, takes}
-use Rattle.wt_endpoint.specs.Endpoints.{EndpointLog, accept_answer, closings, connection_log, endpoint_after, endpoint_log, may_come_next, may_name, may_start, stops}
-use Rattle.wt_endpoint.specs.Isolation.{ClosedApart, own_log}
+use Rattle.std.specs.Prelude.{Err, IfOk, IsTrue, None, OnOk, Ok, Result, nat_lt, slice_get}
+use Rattle.wt_endpoint.proofs.Apart.{and-right, closed_theorem, own_history_theorem}
+use Rattle.wt_endpoint.proofs.Keeping.{accept_refines, lives_are, may_take_is, next_history, stands_more}
+use Rattle.wt_endpoint.specs.Connections.{ConnectionsState, Refines, StandsFor, after_accept, lives_by, may_connect, may_take}
+use Rattle.wt_endpoint.specs.Endpoints.{EndpointHistory, closings, connection_history, endpoint_after, endpoint_history, may_come_next, stops}
+use Rattle.wt_endpoint.specs.Isolation.{ClosedApart, own_history}
 use Rattle.wt_endpoint.specs.declared.turn.EndpointTurn.{EndpointTurn}
 use Rattle.wt_endpoint.specs.declared.turn.EndpointTurn.TheVariants as events
-use Rattle.wt_spec.specs.Answers.{answer_to, is_lawful}
-use Rattle.wt_turn.specs.Log.{Log}
+use Rattle.wt_meaning.specs.Calls.{is_living}
+use Rattle.wt_meaning.specs.History.{History}
+use Rattle.wt_meaning.specs.Meaning.{answer_to}
 use Rattle.wt_turn.specs.declared.answer.Answer.{Answer}
 use Rattle.wt_turn.specs.declared.call.Call.TheVariants as calls
 use Rattle.wt_turn.specs.declared.turn.Turn.{Turn}
@@ -26,32 +26,37 @@ use Rattle.wt_wire.specs.declared.side.Side.TheVariants.{Client, Server}
 -- ---- a turn of a connection
 
 pub turn_apart : (side s : Side) (k : ConnectionsState) (all : List EndpointTurn) (n : ℕ) (turn : Turn) (given : Result Answer OutOfMemory) → s ≡ side → StandsFor side k all
-    → ((e : EndpointLog) → Refines s k e → IfOk given (λ a. a ≡ answer_to s (connection_log e n) turn)) → IfOk given (λ a. a ≡ answer_to side (own_log side n all) turn)
+    → ((e : EndpointHistory) → Refines s k e → IfOk given (λ a. a ≡ answer_to s (connection_history e n) turn)) → IfOk given (λ a. a ≡ answer_to side (own_history side n all) turn)
 turn_apart side s k all n turn given q st f =
-    let g = subst (λ (x : Side). (e : EndpointLog) → Refines x k e → IfOk given (λ a. a ≡ answer_to x (connection_log e n) turn)) q f in
-    subst (λ (log : Log). IfOk given (λ a. a ≡ answer_to side log turn)) (own_log_theorem side all n st.may_come) (g (endpoint_log side all) st.refines)
+    let g = subst (λ (x : Side). (e : EndpointHistory) → Refines x k e → IfOk given (λ a. a ≡ answer_to x (connection_history e n) turn)) q f in
+    subst (λ (h : History). IfOk given (λ a. a ≡ answer_to side h turn)) (own_history_theorem side all n st.may_come) (g (endpoint_history side all) st.refines)
 
 pub taken_stands : {X : Type 0} (side s : Side) (k m : ConnectionsState) (all : List EndpointTurn) (t : EndpointTurn) (given : Result X OutOfMemory) → s ≡ side → StandsFor side k all
-    → may_come_next side (endpoint_log side all) t ≡ true → ((e : EndpointLog) → Refines s k e → OnOk given (Refines s m (endpoint_after s e t))) → OnOk given (StandsFor side m (all ++ t ∷ []))
+    → may_come_next side (endpoint_history side all) t ≡ true → ((e : EndpointHistory) → Refines s k e → OnOk given (Refines s m (endpoint_after s e t))) → OnOk given (StandsFor side m (all ++ t ∷ []))
 taken_stands side s k m all t (Ok a) q st may f =
-    let g = subst (λ (x : Side). (e : EndpointLog) → Refines x k e → Refines x m (endpoint_after x e t)) q f in
-    stands_more side k m all t st may (g (endpoint_log side all) st.refines)
+    let g = subst (λ (x : Side). (e : EndpointHistory) → Refines x k e → Refines x m (endpoint_after x e t)) q f in
+    stands_more side k m all t st may (g (endpoint_history side all) st.refines)
 taken_stands side s k m all t (Err x) q st may f = tt
 
 pub turn_may : (side : Side) (k : ConnectionsState) (all : List EndpointTurn) (n : ℕ) (turn : Turn) → StandsFor side k all → IsTrue (may_take side k n turn)
-    → may_come_next side (endpoint_log side all) (events.Connection n turn) ≡ true
-turn_may side k all n turn st t = sym (may_take_is side k (endpoint_log side all) n turn st.refines) ∙ t
+    → may_come_next side (endpoint_history side all) (events.Connection n turn) ≡ true
+turn_may side k all n turn st t = sym (may_take_is side k (endpoint_history side all) n turn st.refines) ∙ t
+
+-- ---- which sessions live
+
+pub lives_own : (side : Side) (k : ConnectionsState) (all : List EndpointTurn) (n s : ℕ) (lives : Bool) → StandsFor side k all → lives ≡ lives_by s (slice_get k.cores n) → lives ≡ is_living side (own_history side n all) s
+lives_own side k all n s lives st e = e ∙ lives_are side k (endpoint_history side all) n s st.refines ∙ ap (λ (h : History). is_living side h s) (own_history_theorem side all n st.may_come)
 
 -- ---- close
 
 pub close_given : (side s : Side) (k : ConnectionsState) (all : List EndpointTurn) (code : ℕ) (reason : List ℕ) (given : Result (List (ℕ × Answer)) OutOfMemory) → s ≡ side → StandsFor side k all
-    → ((e : EndpointLog) → Refines s k e → IfOk given (λ x. x ≡ closings s e code reason)) → IfOk given (λ x. x ≡ closings side (endpoint_log side all) code reason)
+    → ((e : EndpointHistory) → Refines s k e → IfOk given (λ x. x ≡ closings s e code reason)) → IfOk given (λ x. x ≡ closings side (endpoint_history side all) code reason)
 close_given side s k all code reason given q st f =
-    let g = subst (λ (y : Side). (e : EndpointLog) → Refines y k e → IfOk given (λ x. x ≡ closings y e code reason)) q f in
-    g (endpoint_log side all) st.refines
+    let g = subst (λ (y : Side). (e : EndpointHistory) → Refines y k e → IfOk given (λ x. x ≡ closings y e code reason)) q f in
+    g (endpoint_history side all) st.refines
 
 pub close_apart : (side : Side) (k : ConnectionsState) (all : List EndpointTurn) (code : ℕ) (reason : List ℕ) (given : Result (List (ℕ × Answer)) OutOfMemory) → StandsFor side k all
-    → IfOk given (λ x. x ≡ closings side (endpoint_log side all) code reason) → IfOk given (ClosedApart side all code reason)
+    → IfOk given (λ x. x ≡ closings side (endpoint_history side all) code reason) → IfOk given (ClosedApart side all code reason)
 close_apart side k all code reason (Ok x) st e = subst (ClosedApart side all code reason) (sym e) (closed_theorem side all code reason st.may_come)
 close_apart side k all code reason (Err x) st e = tt
 
@@ -60,7 +65,7 @@ close_apart side k all code reason (Err x) st e = tt
 pub accept_stands : (k m : ConnectionsState) (all : List EndpointTurn) → StandsFor Server k all → m ≡ after_accept k → StandsFor Server m (all ++ events.Accept ∷ [])
 accept_stands k m all st e =
     stands_more Server k m all events.Accept st refl
-    (subst (λ (x : ConnectionsState). Refines Server x (endpoint_after Server (endpoint_log Server all) events.Accept)) (sym e) (accept_refines Server k (endpoint_log Server all) st.refines))
+    (subst (λ (x : ConnectionsState). Refines Server x (endpoint_after Server (endpoint_history Server all) events.Accept)) (sym e) (accept_refines Server k (endpoint_history Server all) st.refines))
 
 -- ---- connect
 
@@ -72,9 +77,9 @@ connect_may k n options lookup outcome e m =
     rw (none, eq-eqb n (length k.cores) e) may
 
 pub connect_apart : (k : ConnectionsState) (all : List EndpointTurn) (n : ℕ) (turn : Turn) (given : Result Answer OutOfMemory) → n ≡ length k.cores → StandsFor Client k all
-    → ((e : EndpointLog) → Refines Client k e → IfOk given (λ a. a ≡ answer_to Client (connection_log e n) turn)) → IfOk given (λ a. a ≡ answer_to Client [] turn)
+    → ((e : EndpointHistory) → Refines Client k e → IfOk given (λ a. a ≡ answer_to Client (connection_history e n) turn)) → IfOk given (λ a. a ≡ answer_to Client [] turn)
 connect_apart k all n turn given i st f =
-    subst (λ (log : Log). IfOk given (λ a. a ≡ answer_to Client log turn)) (next_log Client k (endpoint_log Client all) n st.refines (omega (arith, i))) (f (endpoint_log Client all) st.refines)
+    subst (λ (h : History). IfOk given (λ a. a ≡ answer_to Client h turn)) (next_history Client k (endpoint_history Client all) n st.refines (omega (arith, i))) (f (endpoint_history Client all) st.refines)
 
 -- a pair is that of its parts
 pub pair_is : (o : List ℕ × List (List ℕ × List ℕ)) (url : List ℕ) (headers : List (List ℕ × List ℕ)) → o.0 ≡ url → o.1 ≡ headers → o ≡ (url, headers)

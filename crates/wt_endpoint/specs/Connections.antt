@@ -1,15 +1,14 @@
 -- What an endpoint keeps of its connections, as data, and which list of turns it stands for.
 use Rattle.std.specs.Prelude.{ℕ, ◌&&◌, ◌==◌, ◌≡◌, ◌∷◌, Bool, List, None, Option, Some, [], count_by, false, if◌then◌else◌, length, nat_lt, not, slice_get, true, ◌^◌, ◌||◌}
-use Rattle.wt_core.specs.CoreState.{CoreState, connected_now, may_turn, open_now}
-use Rattle.wt_core.specs.CoreState as core
-use Rattle.wt_spec.specs.Answers.{is_first, is_lawful}
-use Rattle.wt_turn.specs.Log.{Log}
+use Rattle.wt_meaning.specs.History.{History}
+use Rattle.wt_meaning.specs.Lawful.{is_first, is_lawful}
+use Rattle.wt_core.specs.CoreState.{CoreState, KeepsHistory, connected_now, living_now, may_turn, open_now}
 use Rattle.wt_turn.specs.declared.poll.Poll.{Poll}
 use Rattle.wt_turn.specs.declared.poll.Poll.TheVariants.{Pending, Ready}
 use Rattle.wt_turn.specs.declared.turn.Turn.{Turn}
 use Rattle.wt_wire.specs.declared.lookup.ConnectOutcome.{ConnectOutcome}
 use Rattle.wt_wire.specs.declared.side.Side.{Side}
-use Rattle.wt_endpoint.specs.Endpoints.{AllMayCome, EndpointLog, accept_next, accepted_after, endpoint_log, may_name, may_start, no_connections, stops}
+use Rattle.wt_endpoint.specs.Endpoints.{AllMayCome, EndpointHistory, accept_next, accepted_after, endpoint_history, may_name, may_start, no_connections, stops}
 use Rattle.wt_endpoint.specs.declared.turn.EndpointTurn.{EndpointTurn}
 use Rattle.wt_endpoint.specs.declared.turn.EndpointTurn.TheVariants as events
 
@@ -58,13 +57,18 @@ accept_now k = accept_next k.closed k.accepted (length k.cores)
 abbrev pub after_accept : ConnectionsState → ConnectionsState
 after_accept k = record k { accepted = accepted_after k.closed k.accepted (length k.cores) }
 
--- the connection is established and open, by its core
+-- the connection is open and established, by its core, whose word on the latter counts while it is open
 unfoldable pub is_live_now : CoreState → Bool
-is_live_now c = connected_now c && open_now c
+is_live_now c = open_now c && connected_now c
 
 -- how many connections are established and open, by what is kept
 abbrev pub live_now : ConnectionsState → ℕ
 live_now k = count_by is_live_now k.cores
+
+-- the session lives, by its connection's core
+abbrev pub lives_by : ℕ → Option CoreState → Bool
+lives_by s (Some c) = living_now c s
+lives_by s None = false
 
 -- a wait is over where no connection is left
 abbrev pub idle_poll : ℕ → Poll Unit
@@ -72,25 +76,24 @@ idle_poll count = if count == 0 then Ready tt else Pending
 
 -- ---- what it stands for
 
--- the core keeps this log of a connection that has begun, on this side
-pub record KeepsLog (side : Side) (c : CoreState) (log : Log) : Type 0 where
-  pub refines : core.Refines c log
-  pub side_is : c.side ≡ side
-  pub begun : is_first log ≡ false
+-- the core keeps this history, and the connection has begun
+pub record KeepsBegun (side : Side) (c : CoreState) (h : History) : Type 0 where
+  pub keeps : KeepsHistory side c h
+  pub begun : is_first h ≡ false
 
--- the cores keep these logs, by number
-abbrev pub AllKeep : Side → List CoreState → List Log → Type 0
+-- the cores keep these histories, by number
+abbrev pub AllKeep : Side → List CoreState → List History → Type 0
 AllKeep side [] [] = Unit {0}
-AllKeep side (c ∷ cs) (log ∷ logs) = KeepsLog side c log × AllKeep side cs logs
+AllKeep side (c ∷ cs) (h ∷ hs) = KeepsBegun side c h × AllKeep side cs hs
 AllKeep side _ _ = ⊥
 
--- what is kept is that of this endpoint's log
-pub record Refines (side : Side) (k : ConnectionsState) (e : EndpointLog) : Type 0 where
-  pub each : AllKeep side k.cores e.logs
+-- what is kept is that of an endpoint to which this happened
+pub record Refines (side : Side) (k : ConnectionsState) (e : EndpointHistory) : Type 0 where
+  pub each : AllKeep side k.cores e.histories
   pub accepted_is : k.accepted ≡ e.accepted
   pub closed_is : k.closed ≡ e.closed
 
 -- What is kept stands for a list of turns: they may come, one after another, and it is kept what they lead to.
 pub record StandsFor (side : Side) (k : ConnectionsState) (all : List EndpointTurn) : Type 0 where
   pub may_come : AllMayCome side no_connections all
-  pub refines : Refines side k (endpoint_log side all)
+  pub refines : Refines side k (endpoint_history side all)

@@ -1,13 +1,14 @@
 -- The turns of one connection of an endpoint, and the answers to it (this repository's own).
 use Rattle.std.specs.Prelude.{ℕ, ◌&&◌, ◌==◌, ◌++◌, ◌≡◌, ◌∷◌, Bool, List, [], false, if◌then◌else◌, true}
-use Rattle.wt_laws.specs.Reachable.{AllLawful}
-use Rattle.wt_spec.specs.Answers.{answers_from, answers_to, log_from}
-use Rattle.wt_turn.specs.Log.{Log, is_open}
+use Rattle.wt_meaning.specs.History.{History, is_open}
+use Rattle.wt_meaning.specs.Meaning.{meaning, meaning_from}
+use Rattle.wt_promise.specs.Lists.{history_of}
+use Rattle.wt_promise.specs.Promise.{AllLawful}
 use Rattle.wt_turn.specs.declared.answer.Answer.{Answer}
 use Rattle.wt_turn.specs.declared.turn.Turn.{Turn}
 use Rattle.wt_turn.specs.declared.turn.Turn.TheVariants as turns
 use Rattle.wt_wire.specs.declared.side.Side.{Side}
-use Rattle.wt_endpoint.specs.Endpoints.{EndpointLog, closing, connection_log, endpoint_after, endpoint_log, endpoint_replies, has_begun, no_connections}
+use Rattle.wt_endpoint.specs.Endpoints.{EndpointHistory, closing, connection_history, endpoint_after, endpoint_history, has_begun, no_connections}
 use Rattle.wt_endpoint.specs.declared.turn.EndpointReply.{EndpointReply}
 use Rattle.wt_endpoint.specs.declared.turn.EndpointReply.TheVariants as replies
 use Rattle.wt_endpoint.specs.declared.turn.EndpointTurn.{EndpointTurn}
@@ -17,13 +18,13 @@ use Rattle.wt_endpoint.specs.declared.turn.EndpointTurn.TheVariants as events
 
 -- the turn of this connection that a turn of the endpoint is: its own, or that it is closed where the endpoint is and it has
 -- begun and is open
-abbrev pub own_turn : EndpointLog → ℕ → EndpointTurn → List Turn
+abbrev pub own_turn : EndpointHistory → ℕ → EndpointTurn → List Turn
 own_turn e n (events.Connection m turn) = if n == m then turn ∷ [] else []
-own_turn e n (events.Close code reason) = if has_begun e n && is_open (connection_log e n) then closing code reason ∷ [] else []
+own_turn e n (events.Close code reason) = if has_begun e n && is_open (connection_history e n) then closing code reason ∷ [] else []
 own_turn e n _ = []
 
 -- the turns of this connection from there on
-abbrev pub own_turns_from : Side → EndpointLog → ℕ → List EndpointTurn → List Turn
+abbrev pub own_turns_from : Side → EndpointHistory → ℕ → List EndpointTurn → List Turn
 own_turns_from side e n [] = []
 own_turns_from side e n (turn ∷ later) = own_turn e n turn ++ own_turns_from side (endpoint_after side e turn) n later
 
@@ -31,9 +32,9 @@ own_turns_from side e n (turn ∷ later) = own_turn e n turn ++ own_turns_from s
 abbrev pub own_turns : Side → ℕ → List EndpointTurn → List Turn
 own_turns side n all = own_turns_from side no_connections n all
 
--- what the turns of this connection lead to, when they come alone
-abbrev pub own_log : Side → ℕ → List EndpointTurn → Log
-own_log side n all = log_from side [] (own_turns side n all)
+-- the history to which the turns of this connection lead, when they come alone
+abbrev pub own_history : Side → ℕ → List EndpointTurn → History
+own_history side n all = history_of side [] (own_turns side n all)
 
 -- the first of these turns establishes the connection
 abbrev pub begin_established : List Turn → Bool
@@ -60,13 +61,13 @@ own_answers n _ _ = []
 
 -- ---- connections are apart
 
--- The replies give each connection the answers to its own turns alone, and those turns are lawful by themselves.
+-- The replies give each connection what its own turns mean, and those turns are lawful by themselves.
 abbrev pub AreApart : Side → List EndpointTurn → List EndpointReply → Type 0
 AreApart side all given =
-    (n : ℕ) → (own_answers n all given ≡ answers_to side (own_turns side n all)) × AllLawful side [] (own_turns side n all)
+    (n : ℕ) → (own_answers n all given ≡ meaning side (own_turns side n all)) × AllLawful side [] (own_turns side n all)
 
--- As the endpoint closes after these turns, each connection's answer is that to its own turns alone and the close, and one that
+-- As the endpoint closes after these turns, each connection's answer is that to the close after its own turns alone, and one that
 -- hasn't begun or isn't open has none.
 abbrev pub ClosedApart : Side → List EndpointTurn → ℕ → List ℕ → List (ℕ × Answer) → Type 0
 ClosedApart side all code reason given =
-    (n : ℕ) → of_number n given ≡ answers_from side (own_log side n all) (own_turn (endpoint_log side all) n (events.Close code reason))
+    (n : ℕ) → of_number n given ≡ meaning_from side (own_history side n all) (own_turn (endpoint_history side all) n (events.Close code reason))

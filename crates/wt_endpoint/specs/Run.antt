@@ -1,7 +1,7 @@
 -- What a run of an endpoint's turns answers.
-use Rattle.std.specs.Prelude.{ℕ, ◌≡◌, Err, List, Ok, Result, Some, false, length, slice_get, take}
+use Rattle.std.specs.Prelude.{ℕ, ◌≡◌, Err, List, Ok, Result, Some, false, slice_get, take}
 use Rattle.wt_wire.specs.declared.side.Side.{Side}
-use Rattle.wt_endpoint.specs.Endpoints.{AllMayCome, endpoint_log, endpoint_replies, may_come_next, no_connections}
+use Rattle.wt_endpoint.specs.Endpoints.{AllMayCome, endpoint_history, endpoint_replies, may_come_next, no_connections}
 use Rattle.wt_endpoint.specs.declared.run.EndpointError.{EndpointError}
 use Rattle.wt_endpoint.specs.declared.run.EndpointError.TheVariants as errors
 use Rattle.wt_endpoint.specs.declared.turn.EndpointReply.{EndpointReply}
@@ -17,7 +17,7 @@ pub record StopsAt (side : Side) (all : List EndpointTurn) (index : ℕ) (given 
   pub before : AllAnswered side (take index all) given
   pub turn : EndpointTurn
   pub is_there : slice_get all index ≡ Some turn
-  pub may_not : may_come_next side (endpoint_log side (take index all)) turn ≡ false
+  pub may_not : may_come_next side (endpoint_history side (take index all)) turn ≡ false
 
 -- The answer of `run_endpoint`: a reply to each turn, or those to the turns before the first that may not come; nothing is said
 -- where memory ran out.

@@ -1,10 +1,11 @@
 //! The connections of an endpoint, by number.
 ghost use Rattle.std.specs.Prelude.{◌≡◌, ◌<◌, ◌≤◌, ◌^◌, [], ◌+◌, ◌-◌, IfOk, IsTrue, OnOk, count_by, if◌then◌else◌, length, map, slice_get, true, ◌++◌, ◌∷◌, List, ℕ};
-ghost use Rattle.wt_core.specs.CoreState as cores;
-ghost use Rattle.wt_endpoint.specs.Connections.{AllKeep, ConnectionsState, Refines, accept_now, after_accept, is_live_now, live_now, may_connect, may_take, no_cores, takes};
-ghost use Rattle.wt_endpoint.specs.Endpoints.{EndpointLog, closed_at, closing, closings, closings_from, close_log, connection_log, endpoint_after, may_come_next, may_name, put_log, turned_if_open};
-ghost use Rattle.wt_spec.specs.Answers.{answer_to, is_lawful, log_after};
-ghost use Rattle.wt_turn.specs.Log.{Log};
+ghost use Rattle.wt_endpoint.specs.Connections.{AllKeep, ConnectionsState, Refines, accept_now, after_accept, is_live_now, live_now, lives_by, may_connect, may_take, no_cores, takes};
+ghost use Rattle.wt_endpoint.specs.Endpoints.{EndpointHistory, closed_at, closing, closings, closings_from, connection_history, endpoint_after, may_come_next, may_name, put_history, turned_if_open};
+ghost use Rattle.wt_meaning.specs.History.{History};
+ghost use Rattle.wt_meaning.specs.Lawful.{is_lawful};
+ghost use Rattle.wt_meaning.specs.Meaning.{answer_to, history_after};
+ghost use Rattle.wt_core.specs.CoreState.{KeepsHistory};
 ghost use Rattle.wt_wire.specs.declared.side.Side.{Side};
 
 use crate::first::{is_stopping, may_begin};
@@ -16,6 +17,7 @@ use wt_turn::piece::Piece;
 use wt_turn::poll::Poll;
 use wt_turn::{Answer, Call, Turn};
 use wt_wire::error::OutOfMemory;
+use wt_wire::ids::SessionId;
 use wt_wire::lookup::ConnectOutcome;
 use wt_wire::side::Side;
 use wt_wire::varint::VarInt;
@@ -75,7 +77,7 @@ impl Connections {
     /// Whether this turn of this connection may come next. It takes no memory.
     pub fn is_lawful(&self, side: Side, number: u32, turn: &Turn) -> bool
         ensures state { result ≡ may_take side self.now number turn.now }
-        ensures log { (e : EndpointLog) → Refines side self.now e → result ≡ may_come_next side e (EndpointTurn.Connection number turn.now) }
+        ensures history { (e : EndpointHistory) → Refines side self.now e → result ≡ may_come_next side e (EndpointTurn.Connection number turn.now) }
     {
         self.may_name(side, number, turn) && self.takes(side, number, turn)
     }
@@ -103,8 +105,8 @@ impl Connections {
     /// The answer to a turn of this connection, which begins with it where it is the next.
     pub fn turn(&mut self, side: Side, number: u32, turn: &Turn) -> Result<Answer, OutOfMemory>
         requires { IsTrue (may_take side self.old number turn.now) }
-        ensures answer { (e : EndpointLog) → Refines side self.old e → IfOk result (λ answer. answer ≡ answer_to side (connection_log e number) turn.now) }
-        ensures log { (e : EndpointLog) → Refines side self.old e → OnOk result (Refines side self.new (endpoint_after side e (EndpointTurn.Connection number turn.now))) }
+        ensures answer { (e : EndpointHistory) → Refines side self.old e → IfOk result (λ answer. answer ≡ answer_to side (connection_history e number) turn.now) }
+        ensures history { (e : EndpointHistory) → Refines side self.old e → OnOk result (Refines side self.new (endpoint_after side e (EndpointTurn.Connection number turn.now))) }
     {
         let index = number as usize;
         if index < self.cores.len() {
@@ -119,10 +121,10 @@ impl Connections {
         requires lawful { is_lawful side [] turn.now ≡ true }
         requires room { length self.old.cores < 2 ^ 32 }
         ensures answer { IfOk result (λ answer. answer ≡ answer_to side [] turn.now) }
-        ensures log { (logs : List Log) → AllKeep side self.old.cores logs → OnOk result (AllKeep side self.new.cores (put_log logs (length self.old.cores) (log_after side [] turn.now))) }
+        ensures history { (hs : List History) → AllKeep side self.old.cores hs → OnOk result (AllKeep side self.new.cores (put_history hs (length self.old.cores) (history_after side [] turn.now))) }
         ensures same { OnOk result (record self.new { cores = self.old.cores } ≡ self.old) }
     {
-        let mut core = Core::new(self.alloc, side)?;
+        let mut core = Core::new(self.alloc, side);
         let answer = core.turn(turn)?;
         self.cores.push(core)?;
         Ok(answer)
@@ -151,13 +153,23 @@ impl Connections {
         code: VarInt,
         reason: &[u8],
     ) -> Result<Closings, OutOfMemory>
-        ensures answer { (e : EndpointLog) → Refines side self.old e → IfOk result (λ given. given ≡ closings side e code reason.now) }
-        ensures log { (e : EndpointLog) → Refines side self.old e → OnOk result (Refines side self.new (endpoint_after side e (EndpointTurn.Close code reason.now))) }
+        ensures answer { (e : EndpointHistory) → Refines side self.old e → IfOk result (λ given. given ≡ closings side e code reason.now) }
+        ensures history { (e : EndpointHistory) → Refines side self.old e → OnOk result (Refines side self.new (endpoint_after side e (EndpointTurn.Close code reason.now))) }
     {
         let reason = Piece::from_slice(self.alloc, reason)?;
         let turn = Turn::Call(Call::EndpointClose { code, reason });
         self.closed = true;
         close_all(self.alloc, self.cores.as_mut_slice(), &turn)
+    }
+
+    /// Whether this session of this connection was established and isn't gone.
+    pub fn lives(&self, number: u32, session: SessionId) -> bool
+        ensures { result ≡ lives_by session (slice_get self.now.cores number) }
+    {
+        match self.cores.get(number as usize) {
+            Some(core) => core.lives(session),
+            None => false,
+        }
     }
 
     /// How many connections are established and open.
@@ -192,16 +204,16 @@ fn counted(count: usize, counts: bool) -> usize
 fn is_live(core: &Core) -> bool
     ensures { result ≡ is_live_now core.now }
 {
-    core.is_connected() && core.is_open()
+    core.is_open() && core.is_connected()
 }
 
 /// Closes each connection that is open by this turn, and gives the answers by number.
 fn close_all(alloc: Global, cores: &mut [Core], turn: &Turn) -> Result<Closings, OutOfMemory>
     requires numbered { length cores.old ≤ 2 ^ 32 }
-    ensures answer { (side : Side) (logs : List Log) (code : ℕ) (reason : List ℕ) → turn.now ≡ closing code reason → AllKeep side cores.old logs
-        → IfOk result (λ given. given ≡ closings_from side 0 code reason logs) }
-    ensures log { (side : Side) (logs : List Log) (code : ℕ) (reason : List ℕ) → turn.now ≡ closing code reason → AllKeep side cores.old logs
-        → OnOk result (AllKeep side cores.new (map (close_log side code reason) logs)) }
+    ensures answer { (side : Side) (hs : List History) (code : ℕ) (reason : List ℕ) → turn.now ≡ closing code reason → AllKeep side cores.old hs
+        → IfOk result (λ given. given ≡ closings_from side 0 turn.now hs) }
+    ensures history { (side : Side) (hs : List History) (code : ℕ) (reason : List ℕ) → turn.now ≡ closing code reason → AllKeep side cores.old hs
+        → OnOk result (AllKeep side cores.new (map (turned_if_open side turn.now) hs)) }
 {
     let mut closings = Closings::new(alloc);
     for (index, core) in cores.iter_mut().enumerate() {
@@ -217,17 +229,12 @@ fn close_next(
     turn: &Turn,
     closings: &mut Closings,
 ) -> Result<(), OutOfMemory>
-    ensures answer { (log : Log) → cores.Refines core.old log → is_lawful core.old.side log turn.now ≡ true
-        → OnOk result (closings.new ≡ closings.old ++ closed_at core.old.side number turn.now log) }
-    ensures log { (log : Log) → cores.Refines core.old log → is_lawful core.old.side log turn.now ≡ true
-        → OnOk result (cores.Refines core.new (turned_if_open core.old.side turn.now log)) }
-    ensures side { OnOk result (core.new.side ≡ core.old.side) }
+    ensures answer { (side : Side) (h : History) → KeepsHistory side core.old h → is_lawful side h turn.now ≡ true
+        → OnOk result (closings.new ≡ closings.old ++ closed_at side number turn.now h) }
+    ensures history { (side : Side) (h : History) → KeepsHistory side core.old h → is_lawful side h turn.now ≡ true
+        → OnOk result (KeepsHistory side core.new (turned_if_open side turn.now h)) }
 {
     if !core.is_open() {
-        return Ok(());
-    }
-    // Only a core that ran out of memory before may refuse it.
-    if !core.is_lawful(turn) {
         return Ok(());
     }
     let answer = core.turn(turn)?;

@@ -1,10 +1,11 @@
 //! Endpoints: what listens or dials, with its connections by number.
 ghost use Rattle.std.specs.Prelude.{◌≡◌, ◌++◌, ◌∷◌, [], IfOk, IsTrue, List, OnOk, Some, length, ℕ};
 ghost use Rattle.wt_endpoint.specs.Connections.{StandsFor, idle_poll, may_connect, may_take};
-ghost use Rattle.wt_endpoint.specs.Endpoints.{accept_answer, closings, endpoint_log, live_count, may_come_next, may_connect_next};
-ghost use Rattle.wt_endpoint.specs.Isolation.{ClosedApart, begin_established, own_log, own_turns};
+ghost use Rattle.wt_endpoint.specs.Endpoints.{accept_answer, closings, endpoint_history, live_count, may_come_next, may_connect_next};
+ghost use Rattle.wt_endpoint.specs.Isolation.{ClosedApart, begin_established, own_history, own_turns};
 ghost use Rattle.wt_endpoint.specs.declared.turn.EndpointTurn.{EndpointTurn};
-ghost use Rattle.wt_spec.specs.Answers.{answer_to};
+ghost use Rattle.wt_meaning.specs.Calls.{is_living};
+ghost use Rattle.wt_meaning.specs.Meaning.{answer_to};
 ghost use Rattle.wt_turn.specs.declared.call.Call.TheVariants as calls;
 ghost use Rattle.wt_turn.specs.declared.turn.Turn.TheVariants as turns;
 ghost use Rattle.wt_wire.specs.declared.side.Side.TheVariants as sides;
@@ -14,10 +15,11 @@ use crate::turn::Closings;
 use std::alloc::Global;
 use std::marker::Model;
 use wt_config::{ClientConfig, ServerConfig};
-use wt_connect::connect_options::ConnectOptions;
+use wt_session::connect_options::ConnectOptions;
 use wt_turn::poll::Poll;
 use wt_turn::{Answer, Call, Turn};
 use wt_wire::error::OutOfMemory;
+use wt_wire::ids::SessionId;
 use wt_wire::lookup::{ConnectOutcome, Lookup};
 use wt_wire::side::Side;
 use wt_wire::varint::VarInt;
@@ -90,7 +92,7 @@ impl<S: EndpointSide> Endpoint<S> {
     pub fn is_lawful(&self, number: u32, turn: &Turn) -> bool
         ensures state { result ≡ may_take S.side self.now.connections number turn.now }
         ensures turns { (all : List EndpointTurn) → StandsFor S.side self.now.connections all
-            → result ≡ may_come_next S.side (endpoint_log S.side all) (EndpointTurn.Connection number turn.now) }
+            → result ≡ may_come_next S.side (endpoint_history S.side all) (EndpointTurn.Connection number turn.now) }
     {
         self.connections.is_lawful(S::side(), number, turn)
     }
@@ -103,7 +105,7 @@ impl<S: EndpointSide> Endpoint<S> {
     pub fn turn(&mut self, number: u32, turn: &Turn) -> Result<Answer, OutOfMemory>
         requires { IsTrue (may_take S.side self.old.connections number turn.now) }
         ensures apart { (all : List EndpointTurn) → StandsFor S.side self.old.connections all
-            → IfOk result (λ answer. answer ≡ answer_to S.side (own_log S.side number all) turn.now) }
+            → IfOk result (λ answer. answer ≡ answer_to S.side (own_history S.side number all) turn.now) }
         ensures turns { (all : List EndpointTurn) → StandsFor S.side self.old.connections all
             → OnOk result (StandsFor S.side self.new.connections (all ++ EndpointTurn.Connection number turn.now ∷ [])) }
         ensures marker { self.new.marker ≡ self.old.marker }
@@ -119,7 +121,7 @@ impl<S: EndpointSide> Endpoint<S> {
     /// `OutOfMemory` may come at any close.
     pub fn close(&mut self, code: VarInt, reason: &[u8]) -> Result<Closings, OutOfMemory>
         ensures closings { (all : List EndpointTurn) → StandsFor S.side self.old.connections all
-            → IfOk result (λ given. given ≡ closings S.side (endpoint_log S.side all) code reason.now) }
+            → IfOk result (λ given. given ≡ closings S.side (endpoint_history S.side all) code reason.now) }
         ensures apart { (all : List EndpointTurn) → StandsFor S.side self.old.connections all
             → IfOk result (ClosedApart S.side all code reason.now) }
         ensures turns { (all : List EndpointTurn) → StandsFor S.side self.old.connections all
@@ -129,10 +131,18 @@ impl<S: EndpointSide> Endpoint<S> {
         self.connections.close(S::side(), code, reason)
     }
 
+    /// Whether this session of this connection was established and isn't gone, by the connection's own turns. It takes no memory.
+    pub fn lives(&self, number: u32, session: SessionId) -> bool
+        ensures { (all : List EndpointTurn) → StandsFor S.side self.now.connections all
+            → result ≡ is_living S.side (own_history S.side number all) session }
+    {
+        self.connections.lives(number, session)
+    }
+
     /// Ready where no connection is established and open.
     pub fn wait_idle(&self) -> Poll<()>
         ensures { (all : List EndpointTurn) → StandsFor S.side self.now.connections all
-            → result ≡ idle_poll (live_count (endpoint_log S.side all)) }
+            → result ≡ idle_poll (live_count (endpoint_history S.side all)) }
     {
         idle_poll(self.connections.open_connections())
     }
@@ -140,7 +150,7 @@ impl<S: EndpointSide> Endpoint<S> {
     /// How many connections are established and open.
     pub fn open_connections(&self) -> usize
         ensures { (all : List EndpointTurn) → StandsFor S.side self.now.connections all
-            → result ≡ live_count (endpoint_log S.side all) }
+            → result ≡ live_count (endpoint_history S.side all) }
     {
         self.connections.open_connections()
     }
@@ -169,7 +179,7 @@ impl Endpoint<Server> {
     /// is closed, Pending where each established one was accepted.
     pub fn accept(&mut self) -> Option<Poll<u32>>
         ensures answer { (all : List EndpointTurn) → StandsFor sides.Server self.old.connections all
-            → result ≡ accept_answer (endpoint_log sides.Server all) }
+            → result ≡ accept_answer (endpoint_history sides.Server all) }
         ensures established { (all : List EndpointTurn) (n : ℕ) → StandsFor sides.Server self.old.connections all
             → result ≡ Some (Poll.Ready n) → IsTrue (begin_established (own_turns sides.Server n all)) }
         ensures turns { (all : List EndpointTurn) → StandsFor sides.Server self.old.connections all
@@ -212,7 +222,7 @@ impl Endpoint<Client> {
     pub fn may_connect(&self, outcome: &ConnectOutcome) -> bool
         ensures state { result ≡ may_connect self.now.connections outcome.now }
         ensures turns { (all : List EndpointTurn) → StandsFor sides.Client self.now.connections all
-            → result ≡ may_connect_next (endpoint_log sides.Client all) outcome.now }
+            → result ≡ may_connect_next (endpoint_history sides.Client all) outcome.now }
     {
         self.connections.may_connect(outcome)
     }

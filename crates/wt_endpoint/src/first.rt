@@ -1,7 +1,7 @@
 //! The turn with which a connection begins.
 ghost use Rattle.std.specs.Prelude.{◌≡◌, ◌&&◌, ◌||◌, [], not};
 ghost use Rattle.wt_endpoint.specs.Endpoints.{may_start, stops};
-ghost use Rattle.wt_spec.specs.Answers.{is_lawful, may_call};
+ghost use Rattle.wt_meaning.specs.Lawful.{is_lawful, may_call};
 ghost use Rattle.wt_turn.specs.declared.turn.Turn.TheVariants as turns;
 ghost use Rattle.wt_wire.specs.declared.side.Side.TheVariants as sides;
 

@@ -1,7 +1,7 @@
 //! A whole list of an endpoint's turns.
 ghost use Rattle.std.specs.Prelude.{◌≡◌, [], IfErr, IfOk, IsTrue, OnOk};
 ghost use Rattle.wt_endpoint.specs.Connections.{Refines, StandsFor, may_take_turn};
-ghost use Rattle.wt_endpoint.specs.Endpoints.{AllMayCome, EndpointLog, accept_reply, endpoint_after, endpoint_reply, idle_reply, may_come_next, no_connections};
+ghost use Rattle.wt_endpoint.specs.Endpoints.{AllMayCome, EndpointHistory, accept_reply, endpoint_after, endpoint_reply, idle_reply, may_come_next, no_connections};
 ghost use Rattle.wt_endpoint.specs.Isolation.{AreApart};
 ghost use Rattle.wt_endpoint.specs.Run.{IsEndpointTrace, OfAnswered};
 
@@ -100,7 +100,7 @@ fn run_on(
 /// Whether the turn may come next.
 fn may_come(connections: &Connections, side: Side, turn: &EndpointTurn) -> bool
     ensures state { IsTrue result → IsTrue (may_take_turn side connections.now turn.now) }
-    ensures log { (e : EndpointLog) → Refines side connections.now e → result ≡ may_come_next side e turn.now }
+    ensures history { (e : EndpointHistory) → Refines side connections.now e → result ≡ may_come_next side e turn.now }
 {
     match turn {
         EndpointTurn::Connection { number, turn } => connections.is_lawful(side, *number, turn),
@@ -116,8 +116,8 @@ fn step(
     turn: &EndpointTurn,
 ) -> Result<EndpointReply, OutOfMemory>
     requires { IsTrue (may_take_turn side connections.old turn.now) }
-    ensures reply { (e : EndpointLog) → Refines side connections.old e → IfOk result (λ reply. reply ≡ endpoint_reply side e turn.now) }
-    ensures log { (e : EndpointLog) → Refines side connections.old e → OnOk result (Refines side connections.new (endpoint_after side e turn.now)) }
+    ensures reply { (e : EndpointHistory) → Refines side connections.old e → IfOk result (λ reply. reply ≡ endpoint_reply side e turn.now) }
+    ensures history { (e : EndpointHistory) → Refines side connections.old e → OnOk result (Refines side connections.new (endpoint_after side e turn.now)) }
 {
     match turn {
         EndpointTurn::Connection { number, turn } => {

@@ -6,12 +6,12 @@ ghost use Rattle.wt_script.specs.Script.{no_lines, read_lines, script_at_end, sc
 
 mod addresses;
 mod calls;
-mod events;
+pub mod events;
 mod headers;
 pub mod lines;
 pub mod numbers;
 mod pairs;
-mod words;
+pub mod words;
 
 use crate::script::lines::{read_side, read_turn};
 use memchr::memchr;
@@ -166,7 +166,7 @@ pub fn read_more_turns(
 }
 
 /// The first line that a line feed ends, and what stands after that.
-fn split_line(script: &[u8]) -> Option<(&[u8], &[u8])>
+pub fn split_line(script: &[u8]) -> Option<(&[u8], &[u8])>
     ensures lines { MatchOption result (lines script.now ≡ last_line script.now) (λ p. lines script.now ≡ p.0.now ∷ lines p.1.now) }
     ensures shorter { IfSome result (λ p. length p.1.now < length script.now) }
 {

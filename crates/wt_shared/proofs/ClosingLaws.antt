@@ -1,9 +1,9 @@
 -- The calls of a history, compared one by one with the entries of its handles.
-use Rattle.std.proofs.Common.{◌≡◌, ◌+◌, ◌-◌, ◌<◌, ◌≤◌, ◌∷◌, ◌++◌, Bool, List, [], add-one, ap, append-nil, append_assoc, arith, drop, drop-cons, false, get_or, inl, inr, length, length-append, refl, rules, suc, subst, sym, take, true, zero, ◌∙◌, ℕ}
+use Rattle.std.proofs.Common.{◌≡◌, ◌+◌, ◌-◌, ◌<◌, ◌≤◌, ◌∷◌, ◌++◌, List, [], add-one, ap, append-nil, append_assoc, arith, drop, drop-cons, false, get_or, inl, inr, length, length-append, refl, suc, sym, take, true, ◌∙◌, ℕ}
 use Rattle.std.proofs.lemmas.List.{drop_all, length-take-le, take_all, take_more}
 use Rattle.std.proofs.lemmas.Bool.{cases_eq}
 use Rattle.std.proofs.lemmas.Option.{slice_get_read, slice_get_within}
-use Rattle.std.specs.Prelude.{None, Option, Some, ◌⊎◌, if◌then◌else◌, slice_get}
+use Rattle.std.specs.Prelude.{None, Option, Some, ◌⊎◌, slice_get}
 use Rattle.wt_turn.specs.Turns.{is_call}
 use Rattle.wt_turn.specs.declared.answer.Answer.{Answer}
 use Rattle.wt_turn.specs.declared.turn.Turn.{Turn}

@@ -15,7 +15,6 @@ may_come_later calls.Forbidden = false
 may_come_later calls.NotFound = false
 may_come_later calls.TooManyRequests = false
 may_come_later calls.Handshake = false
-may_come_later (calls.EndSession session) = false
 may_come_later _ = true
 
 -- the call was made: it is stored with its one answer, and the handle's list has that pair, with its place, at the end

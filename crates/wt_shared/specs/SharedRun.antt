@@ -1,12 +1,11 @@
--- What the command `shared` answers, and what the command line answers: a status and a text (this repository's own).
-use Rattle.std.specs.Prelude.{ℕ, ◌==◌, ◌||◌, ◌++◌, ◌∷◌, Bool, List, None, Option, Some, [], codes, false, if◌then◌else◌}
+-- What the command `shared` answers: a status and a text (this repository's own).
+use Rattle.std.specs.Prelude.{ℕ, ◌==◌, ◌||◌, ◌++◌, ◌∷◌, Bool, List, None, Option, Some, [], codes, if◌then◌else◌}
 use Rattle.std.specs.Fmt.{decimal}
+use Rattle.wt_meaning.specs.Meaning.{run}
 use Rattle.wt_script.specs.Words.{is_word}
-use Rattle.wt_spec.specs.Answers.{run}
 use Rattle.wt_trace.specs.Command.{streams_of}
 use Rattle.wt_trace.specs.Generate.{generated_turns}
 use Rattle.wt_trace.specs.Outcome.{Outcome, usage}
-use Rattle.wt_trace.specs.Program.{outcome}
 use Rattle.wt_trace.specs.Summary.{summary_of}
 use Rattle.wt_trace.specs.declared.summary.Summary.{Summary}
 use Rattle.wt_wire.specs.declared.side.Side.TheVariants.{Server}
@@ -18,7 +17,7 @@ shared_count_of (word ∷ []) = None
 shared_count_of (word ∷ streams ∷ []) = if is_word word (codes "shared") then streams_of streams else None
 shared_count_of (word ∷ streams ∷ other ∷ more) = None
 
--- what the answers of one thread to the generated run come to
+-- what one thread's answers to the generated run come to
 abbrev pub numbers_of : ℕ → Summary
 numbers_of streams = summary_of (run Server (generated_turns streams)).answers
 
@@ -38,12 +37,3 @@ shared_outcome words = shared_by (shared_count_of words)
 -- writing failed, or the program ran out of memory
 abbrev pub is_stopped : ℕ → Bool
 is_stopped status = status == 5 || status == 6
-
--- the first word is `shared`
-abbrev pub asks_shared : List (List ℕ) → Bool
-asks_shared [] = false
-asks_shared (word ∷ more) = is_word word (codes "shared")
-
--- the outcome of the command line for these words and this input: that of `shared`, which reads none, or of the other commands
-abbrev pub command_outcome : List (List ℕ) → List ℕ → Outcome
-command_outcome words input = if asks_shared words then shared_outcome words else outcome words input

@@ -1,11 +1,12 @@
 -- What a shared connection stores under its lock, and what one turn adds to it (this repository's own).
 use Rattle.std.specs.Prelude.{ℕ, ◌<◌, ◌≡◌, ◌∷◌, ◌++◌, Bool, [], false, length}
-use Rattle.wt_core.specs.CoreState.{CoreState, Refines}
-use Rattle.wt_spec.specs.Answers.{answer_to, is_first, is_lawful}
+use Rattle.wt_meaning.specs.Lawful.{is_lawful}
+use Rattle.wt_meaning.specs.Meaning.{answer_to}
+use Rattle.wt_core.specs.CoreState.{CoreState, KeepsHistory}
 use Rattle.wt_turn.specs.declared.answer.Answer.{Answer}
 use Rattle.wt_turn.specs.declared.turn.Turn.{Turn}
 use Rattle.wt_wire.specs.declared.side.Side.{Side}
-use Rattle.wt_shared.specs.History.{Pairs, Replays, changes_in, log_of}
+use Rattle.wt_shared.specs.History.{Pairs, Replays, changes_in, past_of}
 use Rattle.wt_shared.specs.declared.told.Told.{Told}
 
 -- what callers see of the locked value: its side, its history, and whether a step ran out of memory
@@ -20,11 +21,11 @@ told_at place turn answer = record { place = place; turn = turn; answer = answer
 
 -- the turn is lawful after the history
 abbrev pub may_come : Stored → Turn → Bool
-may_come s turn = is_lawful s.side (log_of s.side s.history) turn
+may_come s turn = is_lawful s.side (past_of s.side s.history) turn
 
 -- the one answer to a turn after the history
 abbrev pub next_answer : Stored → Turn → Answer
-next_answer s turn = answer_to s.side (log_of s.side s.history) turn
+next_answer s turn = answer_to s.side (past_of s.side s.history) turn
 
 -- the turn and that answer, at the place after the history's last
 abbrev pub next_told : Stored → Turn → Told
@@ -40,9 +41,8 @@ nothing_stored side = record { side = side; history = []; failed = false }
 
 -- What the lock's value always keeps: its history has a first turn and replays to every stored answer; unless a step ran out of
 -- memory the core is where the history leads to; and the count of changes is the history's.
-pub record ReplaysTo (core : CoreState) (history : Pairs) (changes : ℕ) (failed : Bool) : Type 0 where
+pub record ReplaysTo (side : Side) (core : CoreState) (history : Pairs) (changes : ℕ) (failed : Bool) : Type 0 where
   pub some : 0 < length history
-  pub replays : Replays core.side history
-  pub begun : is_first (log_of core.side history) ≡ false
-  pub follows : failed ≡ false → Refines core (log_of core.side history)
+  pub replays : Replays side history
+  pub keeps : failed ≡ false → KeepsHistory side core (past_of side history)
   pub counted : changes ≡ changes_in history

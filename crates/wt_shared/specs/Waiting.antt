@@ -1,6 +1,6 @@
 -- What a call that waits leaves in its handle's list, and how often its gate gave up (this repository's own).
 use Rattle.std.specs.Prelude.{All, ℕ, ◌≡◌, ◌⊎◌, ◌∷◌, ◌++◌, Err, List, Ok, Result, [], false, true}
-use Rattle.wt_laws.specs.Left.{is_pending}
+use Rattle.wt_meaning.specs.Lawful.{is_pending}
 use Rattle.wt_trace.specs.Outside.{Rose}
 use Rattle.wt_turn.specs.declared.answer.Answer.{Answer}
 use Rattle.wt_turn.specs.declared.call.Call.{Call}

@@ -18,7 +18,7 @@ use thiserror::Error;
 use wt_turn::piece::Piece;
 use wt_turn::{Answer, Call, Turn};
 use wt_wire::error::OutOfMemory;
-use wt_wire::ids::StreamId;
+use wt_wire::ids::{SessionId, StreamId};
 
 /// Why a call that waits has no answer.
 #[derive(Clone, Copy, PartialEq, Eq, Debug, Error)]
@@ -106,60 +106,70 @@ impl Connection {
         make_call(self.alloc, &mut self.told, kept, call)
     }
 
-    /// Accepts the next unidirectional stream of the session, once there is one.
+    /// Accepts the next unidirectional stream of this session, once there is one. None means the first session, here and in
+    /// the other calls that name one.
     pub fn accept_uni<R: Wait, G: Gate>(
         &mut self,
         rt: &R,
         gate: &mut G,
+        session: Option<SessionId>,
     ) -> Result<Answer, SharedError>
-        ensures waited { Waited (calls.AcceptUni None) self.old self.new result }
+        ensures waited { Waited (calls.AcceptUni session) self.old self.new result }
         ensures gate { RefusalsAfter (G.refused gate.old) (G.refused gate.new) result }
     {
-        self.wait(rt, gate, &Call::AcceptUni { session: None })
+        self.wait(rt, gate, &Call::AcceptUni { session })
     }
 
-    /// Accepts the next bidirectional stream of the session, once there is one.
+    /// Accepts the next bidirectional stream of this session, once there is one.
     pub fn accept_bi<R: Wait, G: Gate>(
         &mut self,
         rt: &R,
         gate: &mut G,
+        session: Option<SessionId>,
     ) -> Result<Answer, SharedError>
-        ensures waited { Waited (calls.AcceptBi None) self.old self.new result }
+        ensures waited { Waited (calls.AcceptBi session) self.old self.new result }
         ensures gate { RefusalsAfter (G.refused gate.old) (G.refused gate.new) result }
     {
-        self.wait(rt, gate, &Call::AcceptBi { session: None })
+        self.wait(rt, gate, &Call::AcceptBi { session })
     }
 
-    /// Begins to open a unidirectional stream of the session, once the peer allows one more.
+    /// Begins to open a unidirectional stream of this session, once the peer allows one more.
     pub fn open_uni<R: Wait, G: Gate>(
         &mut self,
         rt: &R,
         gate: &mut G,
+        session: Option<SessionId>,
     ) -> Result<Answer, SharedError>
-        ensures waited { Waited (calls.OpenUni None) self.old self.new result }
+        ensures waited { Waited (calls.OpenUni session) self.old self.new result }
         ensures gate { RefusalsAfter (G.refused gate.old) (G.refused gate.new) result }
     {
-        self.wait(rt, gate, &Call::OpenUni { session: None })
+        self.wait(rt, gate, &Call::OpenUni { session })
     }
 
-    /// Begins to open a bidirectional stream of the session, once the peer allows one more.
-    pub fn open_bi<R: Wait, G: Gate>(&mut self, rt: &R, gate: &mut G) -> Result<Answer, SharedError>
-        ensures waited { Waited (calls.OpenBi None) self.old self.new result }
+    /// Begins to open a bidirectional stream of this session, once the peer allows one more.
+    pub fn open_bi<R: Wait, G: Gate>(
+        &mut self,
+        rt: &R,
+        gate: &mut G,
+        session: Option<SessionId>,
+    ) -> Result<Answer, SharedError>
+        ensures waited { Waited (calls.OpenBi session) self.old self.new result }
         ensures gate { RefusalsAfter (G.refused gate.old) (G.refused gate.new) result }
     {
-        self.wait(rt, gate, &Call::OpenBi { session: None })
+        self.wait(rt, gate, &Call::OpenBi { session })
     }
 
-    /// Takes the next datagram of the session, once there is one.
+    /// Takes the next datagram of this session, once there is one.
     pub fn receive_datagram<R: Wait, G: Gate>(
         &mut self,
         rt: &R,
         gate: &mut G,
+        session: Option<SessionId>,
     ) -> Result<Answer, SharedError>
-        ensures waited { Waited (calls.ReceiveDatagram None) self.old self.new result }
+        ensures waited { Waited (calls.ReceiveDatagram session) self.old self.new result }
         ensures gate { RefusalsAfter (G.refused gate.old) (G.refused gate.new) result }
     {
-        self.wait(rt, gate, &Call::ReceiveDatagram { session: None })
+        self.wait(rt, gate, &Call::ReceiveDatagram { session })
     }
 
     /// How the connection ended, once it has.

@@ -1,12 +1,13 @@
 //! What lies under the lock of a shared connection.
 ghost use Rattle.std.specs.Prelude.{◌≡◌, ◌≢◌, ◌<◌, ◌^◌, ◌++◌, ◌∷◌, [], Err, IfOk, IsTrue, OnErr, OnOk, false, length, true};
-ghost use Rattle.wt_core.specs.CoreState.{Refines, may_turn};
-ghost use Rattle.wt_core.specs.Laws.{KeepsLaws};
-ghost use Rattle.wt_spec.specs.Answers.{answer_to, is_lawful, log_after};
-ghost use Rattle.wt_turn.specs.Log.{Log};
+ghost use Rattle.wt_meaning.specs.History as meanings;
+ghost use Rattle.wt_meaning.specs.Lawful.{is_lawful};
+ghost use Rattle.wt_meaning.specs.Meaning.{answer_to, history_after};
+ghost use Rattle.wt_core.specs.CoreState.{KeepsHistory};
 ghost use Rattle.wt_turn.specs.declared.call.Call.{Call};
+ghost use Rattle.wt_wire.specs.declared.side.Side.{Side};
 ghost use Rattle.wt_shared.specs.Calls.{may_come_later};
-ghost use Rattle.wt_shared.specs.History.{Replays, answers_in, changes_in, turns_in};
+ghost use Rattle.wt_shared.specs.History.{Replays, changes_in};
 ghost use Rattle.wt_shared.specs.Stored.{after_turn, may_come, next_told, nothing_stored, told_at};
 
 use crate::history::History;
@@ -47,6 +48,7 @@ impl From<OutOfMemory> for StepError {
 #[derive(Drop)]
 pub struct Kept {
     alloc: Global,
+    side: Side,
     core: Core,
     history: History,
     changes: u64,
@@ -58,9 +60,9 @@ impl Model for Kept {
 
     ghost Value = { Stored };
 
-    ghost view = { λ k. record { side = k.core.side; history = k.history; failed = k.failed } };
+    ghost view = { λ k. record { side = k.side; history = k.history; failed = k.failed } };
 
-    ghost invariant = { λ k. ReplaysTo k.core k.history k.changes k.failed };
+    ghost invariant = { λ k. ReplaysTo k.side k.core k.history k.changes k.failed };
 }
 
 impl Kept {
@@ -70,12 +72,13 @@ impl Kept {
         ensures kept { IfOk result (λ r. r.0 ≡ after_turn (nothing_stored side) first.now) }
         ensures told { IfOk result (λ r. r.1 ≡ next_told (nothing_stored side) first.now) }
     {
-        let mut core = Core::new(alloc, side)?;
+        let mut core = Core::new(alloc, side);
         let mut history = History::new(alloc);
         let told = advance(alloc, &mut core, &mut history, first)?;
         let changes = changes_by(&told.answer);
         let kept = Kept {
             alloc,
+            side,
             core,
             history,
             changes,
@@ -91,12 +94,11 @@ impl Kept {
         self.changes
     }
 
-    /// The history. Its turns are lawful, each has its one answer, and these answers keep the laws of every run.
+    /// The history. Its turns are lawful, and each has its one answer: so all that `wt_promise` says of lawful turns holds of it.
     pub fn history(&self) -> &History
         ensures value { result.now ≡ self.now.history }
         ensures some { 0 < length self.now.history }
         ensures replays { Replays self.now.side self.now.history }
-        ensures laws { KeepsLaws self.now.side (turns_in self.now.history) (answers_in self.now.history) }
     {
         &self.history
     }
@@ -128,13 +130,21 @@ impl Kept {
         if self.failed {
             return Err(StepError::OutOfMemory);
         }
-        if !self.core.is_lawful(turn) {
+        if !self.is_lawful(turn) {
             return Err(StepError::Unlawful);
         }
         match self.advance(turn) {
             Ok(told) => Ok(told),
             Err(_) => Err(StepError::OutOfMemory),
         }
+    }
+
+    /// Whether the turn is lawful after the history.
+    fn is_lawful(&self, turn: &Turn) -> bool
+        requires { self.now.failed ≡ false }
+        ensures { result ≡ may_come self.now turn.now }
+    {
+        self.core.is_lawful(turn)
     }
 
     /// Makes a lawful turn.
@@ -166,13 +176,12 @@ fn advance(
     history: &mut History,
     turn: &Turn,
 ) -> Result<Told, OutOfMemory>
-    requires { IsTrue (may_turn core.old turn.now) }
-    ensures told { (log : Log) → Refines core.old log → IfOk result (λ told. told ≡ told_at (length history.old) turn.now (answer_to core.old.side log turn.now)) }
-    ensures stored { (log : Log) → Refines core.old log → OnOk result (history.new ≡ history.old ++ (turn.now, answer_to core.old.side log turn.now) ∷ []) }
-    ensures core { (log : Log) → Refines core.old log → OnOk result (Refines core.new (log_after core.old.side log turn.now)) }
+    ensures told { IfOk result (λ told. told ≡ told_at (length history.old) turn.now told.answer) }
+    ensures stored { IfOk result (λ told. history.new ≡ history.old ++ (turn.now, told.answer) ∷ []) }
+    ensures answer { (side : Side) (h : meanings.History) → KeepsHistory side core.old h → is_lawful side h turn.now ≡ true → IfOk result (λ told. told.answer ≡ answer_to side h turn.now) }
+    ensures core { (side : Side) (h : meanings.History) → KeepsHistory side core.old h → is_lawful side h turn.now ≡ true → OnOk result (KeepsHistory side core.new (history_after side h turn.now)) }
     ensures room { OnOk result (length history.new < 2 ^ 64) }
     ensures same { OnErr result (history.new ≡ history.old) }
-    ensures side { core.new.side ≡ core.old.side }
 {
     // What is told is copied before the core moves on, and the history's copies are made in one call: each way out of this
     // function drops what it owns, and more of them would outgrow the borrow checker's part of the proof.

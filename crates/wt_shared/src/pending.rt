@@ -1,6 +1,6 @@
 //! Whether something came of a turn.
 ghost use Rattle.std.specs.Prelude.{◌≡◌, if◌then◌else◌};
-ghost use Rattle.wt_laws.specs.Left.{is_pending};
+ghost use Rattle.wt_meaning.specs.Lawful.{is_pending};
 
 use wt_turn::{Answer, Reply};
 

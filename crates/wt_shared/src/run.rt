@@ -1,7 +1,7 @@
 //! The command `shared`.
 ghost use Rattle.std.specs.Prelude.{◌≡◌, ◌≢◌, ◌<◌, ◌⊎◌, IfOk, None, false, map, string_bytes};
 ghost use Rattle.std.specs.Io.KnownBytes.{Appends};
-ghost use Rattle.wt_spec.specs.Answers.{run};
+ghost use Rattle.wt_meaning.specs.Meaning.{run};
 ghost use Rattle.wt_trace.specs.Outcome.{usage};
 ghost use Rattle.wt_trace.specs.Outside.{AppendsPart, Rose};
 ghost use Rattle.wt_wire.specs.declared.side.Side.TheVariants.{Server};

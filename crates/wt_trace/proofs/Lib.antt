@@ -2,4 +2,3 @@ pub mod OutsideLaws
 pub mod GenerateLaws
 pub mod SummaryLaws
 pub mod CommandLaws
-pub mod ProgramLaws

@@ -4,4 +4,6 @@ pub mod Generate
 pub mod Command
 pub mod Summary
 pub mod Outcome
+pub mod Asked
+pub mod Answer
 pub mod Program

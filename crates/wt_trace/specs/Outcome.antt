@@ -1,16 +1,8 @@
--- What a command answers to an input: a status and a text (this repository's own).
-use Rattle.std.specs.Prelude.{ℕ, Bool, ◌==◌, ◌||◌, nat_lt, List, [], ◌++◌, length, codes, Result, Ok, Err, if◌then◌else◌}
+-- What a program answers to an input: a status and a text (this repository's own).
+use Rattle.std.specs.Prelude.{ℕ, Bool, ◌==◌, ◌||◌, nat_lt, List, ◌++◌, length, codes, Option, Some, None, Result, Ok, Err, if◌then◌else◌}
 use Rattle.std.specs.Fmt.{decimal}
-use Rattle.wt_turn.specs.declared.answer.Answer.{Answer}
-use Rattle.wt_script.specs.declared.script.Script.{Script}
 use Rattle.wt_script.specs.declared.script.ScriptRefused.{ScriptRefused}
-use Rattle.wt_spec.specs.Answers.{AtUnlawful, Finished, Run, RunEnd, run}
-use Rattle.wt_script.specs.Print.{print}
 use Rattle.wt_trace.specs.Input.{script_limit}
-use Rattle.wt_trace.specs.declared.command.Command.{Command}
-use Rattle.wt_trace.specs.declared.command.Command.TheVariants.{Large, Trace}
-use Rattle.wt_trace.specs.Command.{command_script}
-use Rattle.wt_trace.specs.Summary.{summary_line, summary_of}
 
 -- a status, and the text that is written
 pub record Outcome : Type 0 where
@@ -29,41 +21,27 @@ too_long = record { status = 7; text = codes "script too long\n" }
 abbrev pub refused_at : ℕ → Outcome
 refused_at line = record { status = 2; text = codes "line " ++ decimal line ++ codes " refused\n" }
 
--- the first turn that has no answer stands after these answers
-abbrev pub stop_line : List Answer → List ℕ → List ℕ
-stop_line answers reason = codes "turn " ++ decimal (length answers) ++ reason
+-- a script that is refused is answered by its line, another one as its program answers it
+abbrev pub read_outcome : {Script : Type 0} → (Script → Outcome) → Result Script ScriptRefused → Outcome
+read_outcome outcome_of (Err refused) = refused_at refused.line
+read_outcome outcome_of (Ok script) = outcome_of script
 
--- what a command writes of the answers to a whole run: a line for each, or one that sums them up
-abbrev pub finished_text : Command → List Answer → List ℕ
-finished_text Trace answers = print answers
-finished_text (Large streams) answers = summary_line (summary_of answers)
+-- the outcome of an input for a program that reads scripts so and answers them so: too long, or that of the script that it is
+abbrev pub input_outcome : {Script : Type 0} → (List ℕ → Result Script ScriptRefused) → (Script → Outcome) → List ℕ → Outcome
+input_outcome script_of outcome_of input = if nat_lt script_limit (length input) then too_long else read_outcome outcome_of (script_of input)
 
--- what a command writes of the answers to a run that stopped: a line for each, or nothing
-abbrev pub stopped_text : Command → List Answer → List ℕ
-stopped_text Trace answers = print answers
-stopped_text (Large streams) answers = []
+-- the outcome of an input for the program that is asked for, by the outcome that it gives each; the usage line where none is
+abbrev pub asked_outcome : Option (List ℕ → Outcome) → List ℕ → Outcome
+asked_outcome None input = usage
+asked_outcome (Some outcome_of) input = outcome_of input
 
--- a run that ended so after these answers: status 0 or 3
-abbrev pub stop_outcome : Command → RunEnd → List Answer → Outcome
-stop_outcome command Finished answers = record { status = 0; text = finished_text command answers }
-stop_outcome command AtUnlawful answers = record { status = 3; text = stopped_text command answers ++ stop_line answers (codes " unlawful\n") }
-
--- the outcome of a run
-abbrev pub run_outcome : Command → Run → Outcome
-run_outcome command r = stop_outcome command r.stop r.answers
-
--- a script that is refused is answered by its line, another by its run
-abbrev pub script_outcome : Command → Result Script ScriptRefused → Outcome
-script_outcome command (Err refused) = refused_at refused.line
-script_outcome command (Ok script) = run_outcome command (run script.side script.turns)
-
--- the outcome of an input: too long, or that of the script that the command makes of it
-abbrev pub input_outcome : Command → List ℕ → Outcome
-input_outcome command input = if nat_lt script_limit (length input) then too_long else script_outcome command (command_script command input)
+-- a status that a program gives a script: it ran to its end, stopped, or is a record that isn't safe
+abbrev pub is_run_status : ℕ → Bool
+is_run_status status = status == 0 || status == 3 || status == 9
 
 -- a status of a script that was read to its end
 abbrev pub is_script_status : ℕ → Bool
-is_script_status status = status == 0 || status == 2 || status == 3
+is_script_status status = is_run_status status || status == 2
 
 -- a status of an input
 abbrev pub is_input_status : ℕ → Bool

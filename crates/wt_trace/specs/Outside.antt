@@ -25,6 +25,10 @@ pub record Outside : Type 0 where
   pub bytes : Option (List ℕ)
   pub faults : ℕ
 
+-- these bytes are reported, and so many faults
+abbrev pub seen : Option (List ℕ) → ℕ → Outside
+seen bytes faults = record { bytes = bytes; faults = faults }
+
 -- a count of 64 bits after one more: it stays at its type's greatest number
 abbrev pub counted : ℕ → ℕ
 counted n = min (n + 1) (2 ^ 64 - 1)

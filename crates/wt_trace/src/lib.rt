@@ -7,6 +7,7 @@
 #![tactic(auto)]
 
 pub mod answer;
+pub mod asked;
 pub mod command;
 pub mod command_script;
 pub mod cut_short;

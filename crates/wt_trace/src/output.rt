@@ -101,6 +101,21 @@ fn gather_answer<K: Sink>(
     ensures causes { result ≢ Err cuts.SourceFailed }
 {
     push_line(alloc, answer, gathered)?;
+    pass_on(gathered, sink)
+}
+
+/// Writes what was gathered, where that makes a piece by now.
+///
+/// # Errors
+///
+/// `SinkFailed` where the sink failed.
+pub fn pass_on<K: Sink>(gathered: &mut String, sink: &mut K) -> Result<(), CutShort>
+    ensures text { OnOk result (Passes (K.took sink.old) (K.took sink.new) (string_bytes gathered.old) (string_bytes gathered.new)) }
+    ensures part { AppendsPart (K.took sink.old) (K.took sink.new) (string_bytes gathered.old) }
+    ensures same { OnOk result (K.faults sink.new ≡ K.faults sink.old) }
+    ensures cause { IfErr result (λ failure. failure ≡ cuts.SinkFailed) }
+    ensures fault { IsErr result → Rose (K.faults sink.old) (K.faults sink.new) }
+{
     if gathered.len() >= PIECE_SIZE {
         write_all(sink, gathered.as_bytes())?;
         gathered.clear();

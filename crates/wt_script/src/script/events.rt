@@ -124,7 +124,8 @@ fn connected_with(uni: &[u8], bi: &[u8], credit: &[u8], datagrams: &[u8]) -> Opt
     })
 }
 
-fn read_connected(fields: &Parts) -> Option<Turn>
+/// The event `connected`, by its fields.
+pub fn read_connected(fields: &Parts) -> Option<Turn>
     ensures { result ≡ connected_of fields.now }
 {
     let (uni, fields) = fields.split_first()?;

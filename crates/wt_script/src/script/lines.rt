@@ -20,14 +20,21 @@ fn turn_from(alloc: Global, name: &[u8], fields: &Parts) -> Result<Option<Turn>,
     Ok(call.map(Turn::Call))
 }
 
+/// The turn that these words spell.
+pub fn read_words(alloc: Global, words: &Parts) -> Result<Option<Turn>, OutOfMemory>
+    ensures { IfOk result (λ turn. turn ≡ turn_of_words words.now) }
+{
+    match words.split_first() {
+        Some((name, fields)) => turn_from(alloc, name, &fields),
+        None => Ok(None),
+    }
+}
+
 /// The turn that a line spells; None exactly where the line is no line of a turn or a call.
 pub fn read_turn(alloc: Global, line: &[u8]) -> Result<Option<Turn>, OutOfMemory>
     ensures { IfOk result (λ turn. turn ≡ turn_of line.now) }
 {
-    match Parts::of_line(line).split_first() {
-        Some((name, fields)) => turn_from(alloc, name, &fields),
-        None => Ok(None),
-    }
+    read_words(alloc, &Parts::of_line(line))
 }
 
 /// The side that a line spells; None exactly where the line is neither `server` nor `client`.

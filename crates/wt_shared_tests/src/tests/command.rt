@@ -4,11 +4,10 @@ use std::alloc::Global;
 use std::process::Abort;
 use std::sync::Wait;
 use std::thread::Threads;
-use wt_shared::ended::run;
 use wt_shared::rounds::shared_history;
 use wt_shared::{Gate, History, OpenGate, run_shared};
 use wt_trace::generate::generate;
-use wt_trace::outside::mem::{MemSink, MemSource};
+use wt_trace::outside::mem::MemSink;
 use wt_trace::summary::Summary;
 use wt_turn::Answers;
 
@@ -112,17 +111,4 @@ fn its_threads_run_beside_each_other(rt: HostRuntime) {
     assert!(&rt; sink.written() == b"streams 1 bytes 1\n".as_slice());
     assert!(&rt; feed_gate.refusals() == 0 && read_gate.refusals() == 0);
     assert!(&rt; flags.is_set(Flag::First) && flags.is_set(Flag::Second));
-}
-
-#[test]
-fn a_command_line_names_it(rt: HostRuntime) {
-    let alloc = rt.alloc();
-    let mut source = MemSource::new(Vec::new(alloc), Vec::new(alloc));
-    let mut sink = MemSink::new(alloc, Vec::new(alloc));
-    for line in ["shared 1", "large 1", "other"] {
-        let words = Ok(words(&rt, alloc, line));
-        let _ended = run(&rt, alloc, words, &mut source, &mut sink);
-    }
-    let text = "streams 1 bytes 1\nstreams 1 bytes 1 turns 13\nusage: trace | large <n>\n";
-    assert!(&rt; sink.written() == text.as_bytes());
 }

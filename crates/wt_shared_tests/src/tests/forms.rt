@@ -1,6 +1,6 @@
 //! Each call that waits, where it needn't, with its answer as a trace prints it.
 use super::gates::ShutGate;
-use super::session::{play, session};
+use super::session::{play, request_on, session};
 use std::alloc::Global;
 use std::process::Abort;
 use std::sync::Wait;
@@ -8,7 +8,7 @@ use wt_script::print::push_answer;
 use wt_shared::{Connection, Gate, OpenGate, Shared, SharedError};
 use wt_turn::Answer;
 use wt_turn::piece::Piece;
-use wt_wire::ids::StreamId;
+use wt_wire::ids::{SessionId, StreamId};
 use wt_wire::varint::VarInt;
 
 /// The answer is printed so.
@@ -40,9 +40,9 @@ datagram 006869
 /// What comes of the peer.
 fn receives<R: Abort + Wait>(rt: &R, alloc: Global, handle: &mut Connection) {
     let gate = &mut OpenGate;
-    is(rt, alloc, handle.accept_uni(rt, gate), "uni 6");
+    is(rt, alloc, handle.accept_uni(rt, gate, None), "uni 6");
     is(rt, alloc, handle.read(rt, gate, stream(6), 16), "read 6869");
-    is(rt, alloc, handle.accept_bi(rt, gate), "bi 4");
+    is(rt, alloc, handle.accept_bi(rt, gate, None), "bi 4");
     is(
         rt,
         alloc,
@@ -52,7 +52,7 @@ fn receives<R: Abort + Wait>(rt: &R, alloc: Global, handle: &mut Connection) {
     is(
         rt,
         alloc,
-        handle.receive_datagram(rt, gate),
+        handle.receive_datagram(rt, gate, None),
         "datagram 6869",
     );
 }
@@ -60,8 +60,18 @@ fn receives<R: Abort + Wait>(rt: &R, alloc: Global, handle: &mut Connection) {
 /// Two streams are opened.
 fn opens<R: Abort + Wait>(rt: &R, alloc: Global, shared: &Shared, handle: &mut Connection) {
     let gate = &mut OpenGate;
-    is(rt, alloc, handle.open_bi(rt, gate), "opening 1 ; opened 1");
-    is(rt, alloc, handle.open_uni(rt, gate), "opening 7 ; opened 7");
+    is(
+        rt,
+        alloc,
+        handle.open_bi(rt, gate, None),
+        "opening 1 ; opened 1",
+    );
+    is(
+        rt,
+        alloc,
+        handle.open_uni(rt, gate, None),
+        "opening 7 ; opened 7",
+    );
     play(rt, alloc, shared, handle, "server\npoll_opening 7\n");
 }
 
@@ -120,4 +130,51 @@ fn calls_that_need_not_wait(rt: HostRuntime) {
         handle.closed(&rt, &mut OpenGate),
         "closed timed_out",
     );
+}
+
+/// The session of this stream.
+fn named(id: u32) -> Option<SessionId> {
+    SessionId::try_from_session_stream(stream(id))
+}
+
+/// A second session, and what its peer sends for it alone.
+const SECOND: &str = "\
+server
+incoming
+accept
+peer_uni
+bytes 6 40540461
+peer_bi
+bytes 8 40410462
+datagram 0163
+";
+
+/// Whether a call that names no session gives up: nothing of the first session's waits.
+fn waits<R: Wait>(rt: &R, handle: &mut Connection) -> bool {
+    let mut shut = ShutGate::new();
+    let answer = handle.accept_uni(rt, &mut shut, None);
+    matches!(answer, Err(SharedError::GaveUp))
+}
+
+#[test]
+fn a_call_names_its_session(rt: HostRuntime) {
+    let alloc = rt.alloc();
+    let (shared, mut handle) = session(&rt, alloc);
+    request_on(&rt, alloc, &shared, &mut handle, 4);
+    play(&rt, alloc, &shared, &mut handle, SECOND);
+    let gate = &mut OpenGate;
+    assert!(&rt; waits(&rt, &mut handle));
+    let answer = handle.accept_uni(&rt, gate, named(4));
+    is(&rt, alloc, answer, "uni 6");
+    let answer = handle.accept_bi(&rt, gate, named(4));
+    is(&rt, alloc, answer, "bi 8");
+    let answer = handle.receive_datagram(&rt, gate, named(4));
+    is(&rt, alloc, answer, "datagram 63");
+    let answer = handle.open_bi(&rt, gate, named(4));
+    is(&rt, alloc, answer, "opening 1 ; opened 1");
+    let answer = handle.open_uni(&rt, gate, named(4));
+    is(&rt, alloc, answer, "opening 7 ; opened 7");
+    // No session was ever established on this stream.
+    let answer = handle.accept_uni(&rt, gate, named(12));
+    is(&rt, alloc, answer, "no_session");
 }

@@ -8,17 +8,16 @@ use wt_turn::turn::Turns;
 use wt_turn::{DatagramFact, Turn};
 use wt_wire::side::Side;
 
-/// What comes after the first turn, up to a session.
-const HEAD: &str = "\
-server
-peer_uni
-bytes 2 000400
-peer_bi
-bytes 0 014050000027033a617574686f72697479016827003a6d6574686f6407434f4e4e454354253a70617468012f\
-    27023a70726f746f636f6c0c7765627472616e73706f727427003a736368656d65056874747073
-incoming
-accept
-";
+/// What the peer begins with: its control stream, with empty SETTINGS.
+const HEAD: &str = "server\npeer_uni\nbytes 2 000400\n";
+
+/// A CONNECT request for https://h/.
+const REQUEST: &str = "\
+    014050000027033a617574686f72697479016827003a6d6574686f6407434f4e4e454354253a70617468012f\
+    27023a70726f746f636f6c0c7765627472616e73706f727427003a736368656d65056874747073";
+
+/// The application accepts it.
+const ACCEPT: &str = "server\nincoming\naccept\n";
 
 /// The peer's stream 6, which carries two bytes, hi.
 pub const STREAM: &str = "server\npeer_uni\nbytes 6 4054006869\n";
@@ -84,10 +83,27 @@ pub fn play<R: Abort + Wait>(
     assert!(rt; make_turns(rt, shared, handle, turns.as_slice()));
 }
 
+/// The peer's request for a session comes on its next bidirectional stream, which has this id.
+pub fn request_on<R: Abort + Wait>(
+    rt: &R,
+    alloc: Global,
+    shared: &Shared,
+    handle: &mut Connection,
+    id: u32,
+) {
+    let script = format!(in alloc; "server\npeer_bi\nbytes {id} {REQUEST}\n").expect(
+        rt,
+        "no memory",
+    );
+    play(rt, alloc, shared, handle, script.as_str());
+}
+
 /// A shared connection with a session, and a handle that was told its two calls.
 pub fn session<R: Abort + Wait>(rt: &R, alloc: Global) -> (Shared, Connection) {
     let shared = Shared::new(alloc, connected(rt, alloc)).expect(rt, "no memory");
     let mut handle = shared.connection(alloc).expect(rt, "no memory");
     play(rt, alloc, &shared, &mut handle, HEAD);
+    request_on(rt, alloc, &shared, &mut handle, 0);
+    play(rt, alloc, &shared, &mut handle, ACCEPT);
     (shared, handle)
 }

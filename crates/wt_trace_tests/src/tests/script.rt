@@ -7,6 +7,7 @@ use wt_script::script::read_script;
 use wt_turn::{Call, ConnectionClose, DatagramFact, LossReason, Turn};
 use wt_wire::addr::Addr;
 use wt_wire::header_list::HeaderList;
+use wt_wire::ids::SessionId;
 use wt_wire::lookup::{ConnectOutcome, Lookup};
 use wt_wire::side::Side;
 use wt_wire::varint::VarInt;
@@ -19,6 +20,10 @@ fn spells(rt: &impl Abort, alloc: Global, line: &str, turn: Turn) {
 fn is_refused(rt: &impl Abort, alloc: Global, line: &str) {
     let read = read_turn(alloc, line.as_bytes()).expect(rt, "no memory");
     assert!(rt; read.is_none());
+}
+
+fn session(id: u32) -> Option<SessionId> {
+    SessionId::try_from_session_stream(stream(id))
 }
 
 #[test]
@@ -65,6 +70,34 @@ fn calls_are_read(rt: HostRuntime) {
     let id = stream(6);
     let read = Call::Read { id, size: 16 };
     spells(&rt, alloc, "read 6 16", Turn::Call(read));
+}
+
+/// The session's id comes last, and may be left out.
+#[test]
+fn calls_on_sessions_are_read(rt: HostRuntime) {
+    let alloc = rt.alloc();
+    let session = session(4);
+    spells(
+        &rt,
+        alloc,
+        "end_session 4",
+        Turn::Call(Call::EndSession { session }),
+    );
+    spells(
+        &rt,
+        alloc,
+        "end_session",
+        Turn::Call(Call::EndSession { session: None }),
+    );
+}
+
+#[test]
+fn payloads_on_sessions_are_read(rt: HostRuntime) {
+    let alloc = rt.alloc();
+    let payload = piece(&rt, alloc, b"hi");
+    let session = session(4);
+    let sent = Call::SendDatagram { payload, session };
+    spells(&rt, alloc, "send_datagram 6869 4", Turn::Call(sent));
 }
 
 #[test]
@@ -170,6 +203,12 @@ fn other_lines_are_refused(rt: HostRuntime) {
         "read 6",
         "read 6 1 1",
         "read 6 x",
+        "accept_uni 6",
+        "accept_uni 4 4",
+        "accept_uni ",
+        "send_datagram 6869 5",
+        "closed 4",
+        "poll_opening 7 4",
     ];
     for line in lines {
         is_refused(&rt, rt.alloc(), line);

@@ -1,4 +1,4 @@
-use Rattle.std.proofs.Common.{◌≡◌, ◌≤◌, length, take}
+use Rattle.std.proofs.Common.{◌≡◌, ◌≤◌, take}
 use Rattle.std.specs.Prelude.{count_by}
 use Rattle.wt_endpoint.proofs.connections.live_count.Given as goal
 use Rattle.wt_endpoint.specs.Connections.{is_live_now}

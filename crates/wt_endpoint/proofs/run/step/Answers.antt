@@ -1,4 +1,4 @@
-use Rattle.std.proofs.Common.{◌≡◌, ap, subst, sym, ◌∙◌}
+use Rattle.std.proofs.Common.{ap, subst, sym, ◌∙◌}
 use Rattle.wt_endpoint.proofs.Keeping.{accept_is, accept_refines, live_is}
 use Rattle.wt_endpoint.proofs.run.step.Goals as goal
 use Rattle.wt_endpoint.specs.Connections.{ConnectionsState, Refines}
@@ -11,8 +11,8 @@ pub returns-in-Accept-clause-reply : goal.returns-in-Accept-clause-reply
 returns-in-Accept-clause-reply c = λ e r.
     c.accept_reply.ensures ∙ ap accept_reply (c.accept.ensures.answer ∙ accept_is c.args.side c.args.connections.now e r) ∙ ap (endpoint_reply c.args.side e) (sym c.in-Accept.is)
 
-pub returns-in-Accept-clause-log : goal.returns-in-Accept-clause-log
-returns-in-Accept-clause-log c = λ e r.
+pub returns-in-Accept-clause-history : goal.returns-in-Accept-clause-history
+returns-in-Accept-clause-history c = λ e r.
     subst (λ (t : EndpointTurn). Refines c.args.side c.accept.new.self (endpoint_after c.args.side e t)) (sym c.in-Accept.is)
     (subst (λ (k : ConnectionsState). Refines c.args.side k (endpoint_after c.args.side e events.Accept)) (sym c.accept.ensures.state) (accept_refines c.args.side c.args.connections.now e r))
 

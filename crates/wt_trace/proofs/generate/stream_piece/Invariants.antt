@@ -1,7 +1,7 @@
-use Rattle.std.proofs.Common.{◌≡◌, [], ◌∷◌, ◌++◌}
+use Rattle.std.proofs.Common.{◌≡◌, ◌-◌, [], ◌∷◌, ◌++◌, replicate}
 use Rattle.wt_trace.specs.Generate.{counted_bytes}
 use Rattle.wt_trace.proofs.generate.stream_piece.Given as goal
 
--- the header, and the bytes at the places so far
+-- the header, the bytes at the places so far, and zeros at those after them
 abbrev pub invariant-loop-index : goal.invariant-loop-index
-invariant-loop-index l = l.bytes.items ≡ (0x40 ∷ 0x54 ∷ 0x00 ∷ []) ++ counted_bytes l.number l.index
+invariant-loop-index l = l.bytes.items ≡ (0x40 ∷ 0x54 ∷ 0x00 ∷ []) ++ counted_bytes l.number l.index ++ replicate (l.count - l.index) 0

@@ -4,7 +4,7 @@ use Rattle.wt_endpoint.proofs.Standing.{connect_apart, connect_may, pair_is, tak
 use Rattle.wt_endpoint.proofs.endpoint.Endpoint+Client.connect.Goals as goal
 use Rattle.wt_endpoint.specs.Connections.{StandsFor}
 use Rattle.wt_endpoint.specs.declared.turn.EndpointTurn.TheVariants as events
-use Rattle.wt_spec.specs.Answers.{answer_to}
+use Rattle.wt_meaning.specs.Meaning.{answer_to}
 use Rattle.wt_turn.specs.declared.call.Call.TheVariants as calls
 use Rattle.wt_turn.specs.declared.turn.Turn.TheVariants as turns
 use Rattle.wt_wire.specs.declared.side.Side.TheVariants.{Client}
@@ -25,4 +25,4 @@ returns-clause-turns c = λ all s.
     let may = connect_may c.self.inside.connections n c.into_parts-options.result c.args.lookup c.args.outcome c.count-number.ensures.count (rw (← c.self.view_is) at c.requires) in
     subst (λ (o : List ℕ × List (List ℕ × List ℕ)). StandsFor Client c.turn.new.self (all ++ events.Connection n (turns.Call (calls.Connect o c.args.lookup c.args.outcome)) ∷ [])) options_are
     (taken_stands Client Client c.self.inside.connections c.turn.new.self all (events.Connection n (turns.Call (calls.Connect c.into_parts-options.result c.args.lookup c.args.outcome))) (Ok c.in_ok-answer.answer) refl (rw (← c.self.view_is) at s)
-    (turn_may Client c.self.inside.connections all n (turns.Call (calls.Connect c.into_parts-options.result c.args.lookup c.args.outcome)) (rw (← c.self.view_is) at s) may) c.in_ok-answer.ensures.log)
+    (turn_may Client c.self.inside.connections all n (turns.Call (calls.Connect c.into_parts-options.result c.args.lookup c.args.outcome)) (rw (← c.self.view_is) at s) may) c.in_ok-answer.ensures.history)

@@ -13,4 +13,4 @@ returns-clause-apart g c = λ all s.
 
 pub returns-clause-turns : goal.returns-clause-turns
 returns-clause-turns g c = λ all s.
-    taken_stands g.S.EndpointSide.side c.side.result c.self.inside.connections c.close.new.self all _ _ c.side.ensures (rw (← c.self.view_is) at s) refl c.close.ensures.log
+    taken_stands g.S.EndpointSide.side c.side.result c.self.inside.connections c.close.new.self all _ _ c.side.ensures (rw (← c.self.view_is) at s) refl c.close.ensures.history

@@ -8,4 +8,4 @@ returns-clause-apart g c = λ all s.
 pub returns-clause-turns : goal.returns-clause-turns
 returns-clause-turns g c = λ all s.
     taken_stands g.S.EndpointSide.side c.side.result c.self.inside.connections c.turn.new.self all _ _ c.side.ensures (rw (← c.self.view_is) at s)
-    (turn_may g.S.EndpointSide.side c.args.self.now.connections all c.args.number c.args.turn.now s c.requires) c.turn.ensures.log
+    (turn_may g.S.EndpointSide.side c.args.self.now.connections all c.args.number c.args.turn.now s c.requires) c.turn.ensures.history

@@ -2,7 +2,7 @@ use Rattle.std.proofs.Common.{ap, ◌∙◌}
 use Rattle.wt_endpoint.proofs.Keeping.{live_is}
 use Rattle.wt_endpoint.proofs.endpoint.Endpoint.wait_idle.Goals as goal
 use Rattle.wt_endpoint.specs.Connections.{idle_poll}
-use Rattle.wt_endpoint.specs.Endpoints.{endpoint_log}
+use Rattle.wt_endpoint.specs.Endpoints.{endpoint_history}
 
 pub returns : goal.returns
-returns g c = λ all s. c.idle_poll.ensures ∙ ap idle_poll (c.open_connections.ensures ∙ live_is g.S.EndpointSide.side _ (endpoint_log g.S.EndpointSide.side all) (rw (← c.self.view_is) at s.refines))
+returns g c = λ all s. c.idle_poll.ensures ∙ ap idle_poll (c.open_connections.ensures ∙ live_is g.S.EndpointSide.side _ (endpoint_history g.S.EndpointSide.side all) (rw (← c.self.view_is) at s.refines))
