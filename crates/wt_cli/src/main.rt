@@ -6,9 +6,11 @@
 //! that went: see [`run_program`](wt_trace::run_program) and [`run_shared`](wt_shared::run_shared).
 #![tactic(auto)]
 
+mod ended;
+
+use crate::ended::{Ended, run};
 use std::env;
 use std::io::Error;
-use wt_shared::ended::{Ended, run};
 use wt_trace::outside::standard::{StdSink, StdSource};
 
 /// The words after the program's name. The error is a word that isn't UTF-8, or out of memory.

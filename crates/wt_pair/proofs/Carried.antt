@@ -17,9 +17,12 @@ use Rattle.wt_pair.proofs.Plain.{SendsDatagrams, SendsNone, SendsOne, act_datagr
 use Rattle.wt_pair.proofs.Sessions.{session-id}
 use Rattle.wt_pair.proofs.Views.{view-left, view-split}
 use Rattle.wt_pair.specs.Claims.{ReceivedAsSent, sent_by, sent_payload, sent_payloads, times}
-use Rattle.wt_pair.specs.Events.{CallAt, Credit, Deliver, Lose, PairEvent, PairFacts}
-use Rattle.wt_pair.specs.Link.{Item, first_of, item_at, item_of, left_of, may_deliver, taken_at}
-use Rattle.wt_pair.specs.Pair.{Ends, Happened, acknowledged, acknowledgement, arrived, at_end, at_first, brings_datagram, delivered, delivered_item, end_at, gives_credit, happens, if_dialled, is_datagram, lost, other, run_behind, run_from, run_pair, taken, turned, with_end}
+use Rattle.wt_pair.specs.declared.event.PairEvent.{PairEvent}
+use Rattle.wt_pair.specs.declared.event.PairEvent.TheVariants as pair_events
+use Rattle.wt_pair.specs.declared.event.PairFacts.{PairFacts}
+use Rattle.wt_pair.specs.Link.{brings_datagram, first_of, is_datagram, item_at, item_of, left_of, may_deliver, taken_at}
+use Rattle.wt_pair.specs.declared.item.Item.{Item}
+use Rattle.wt_pair.specs.Pair.{Ends, Happened, acknowledged, acknowledgement, arrived, at_end, at_first, delivered, delivered_item, end_at, gives_credit, happens, histories, if_dialled, lost, other, run_behind, run_from, run_pair, taken, turned, with_end}
 use Rattle.wt_promise.proofs.Came.{payloads_came}
 use Rattle.wt_promise.proofs.Waiting.{named-established}
 use Rattle.wt_promise.specs.Found.{IsSubsequence, LeftOut, Nil, Taken, said_by}
@@ -297,13 +300,13 @@ module _ (t : List ℕ → Bool) where
   credit-none turn q = refl
 
   happens-carried : (f : PairFacts) (event : PairEvent) (p : Ends) → AllCarried p → After (happens f event p)
-  happens-carried f (CallAt e call) p l = plain-carried f e (turns.Call call) p refl l (is_lawful e (end_at p e).history (turns.Call call))
-  happens-carried f (Credit e turn) p l = by (gives_credit turn) refl
+  happens-carried f (pair_events.Call e call) p l = plain-carried f e (turns.Call call) p refl l (is_lawful e (end_at p e).history (turns.Call call))
+  happens-carried f (pair_events.Credit e turn) p l = by (gives_credit turn) refl
     where
       by : (b : Bool) → gives_credit turn ≡ b → After (at_end f e turn p (b && is_lawful e (end_at p e).history turn))
       by true q = plain-carried f e turn p (credit-none turn q) l (is_lawful e (end_at p e).history turn)
       by false q = tt
-  happens-carried f (Deliver to place n) p l = by (item_at (end_at p to).waiting place) refl
+  happens-carried f (pair_events.Deliver to place n) p l = by (item_at (end_at p to).waiting place) refl
     where
       by : (o : Option Item) → item_at (end_at p to).waiting place ≡ o → After (delivered f to place n (delivered_item p to place n o) p)
       by None q = tt
@@ -312,7 +315,7 @@ module _ (t : List ℕ → Bool) where
           of : (b : Bool) → After (delivered f to place n (if b then Some x else None) p)
           of true = arrival-carried f to place n x p l q (is_lawful to (end_at (taken to place n x p) to).history (first_of n x.turn))
           of false = tt
-  happens-carried f (Lose to place) p l = by (item_at (end_at p to).waiting place) refl
+  happens-carried f (pair_events.Lose to place) p l = by (item_at (end_at p to).waiting place) refl
     where
       by : (o : Option Item) → item_at (end_at p to).waiting place ≡ o → After (lost to place p (is_datagram o))
       by None q = tt
@@ -335,7 +338,7 @@ module _ (t : List ℕ → Bool) where
   at-first-carried Server = omega arith
 
 -- whatever the events are
-pub received_as_sent : (f : PairFacts) (events : List PairEvent) → ReceivedAsSent (run_pair f events).ends
+pub received_as_sent : (f : PairFacts) (events : List PairEvent) → ReceivedAsSent (histories (run_pair f events).ends)
 received_as_sent f events e s payload =
     let p : Ends = (run_pair f events).ends in
     let l = all-held f events in

@@ -5,7 +5,7 @@ use Rattle.std.proofs.Common.{◌∙◌, ap, arith, refl, subst, sym}
 use Rattle.std.proofs.lemmas.Bool.{eqb-true, leb-false, leb-true, ltb-true}
 use Rattle.std.proofs.lemmas.List.Folds.{list_any-append}
 use Rattle.wt_meaning.specs.Calls.{stream_header}
-use Rattle.wt_meaning.specs.ControlBytes.{local_control_bytes}
+use Rattle.wt_message.specs.FixedBytes.{local_control_bytes}
 use Rattle.wt_meaning.specs.Handshakes.{begin_rows, close_by, connect_on, connect_rows, head_left, acceptance_rows, connect_fault, is_opened, last_begun, none_lives, poll_rows, rejection_rows, request_rows, response_fault, response_rows, send}
 use Rattle.wt_meaning.specs.History.{History, Pair, actions_out, all_events, allowed, contents, credit_left, events, exists, is_open, may_open, next_id, out, stream_count}
 use Rattle.wt_meaning.specs.Lawful.{has_begun, is_lawful, is_lost, polls}

@@ -8,7 +8,8 @@ use Rattle.wt_meaning.specs.History.{History, actions_out, all_events, exists, i
 use Rattle.wt_meaning.specs.Meaning.{next}
 use Rattle.wt_meaning.specs.Moments.{ids_from}
 use Rattle.wt_meaning.specs.Windows.{is_number}
-use Rattle.wt_pair.proofs.Marks.{Byte, Ends, Mark, Opens, act_marks, act_opens, any_ends, any_opens, emitted, ends-parts, map-ends, map-opens, marks_if, opens-parts}
+use Rattle.wt_pair.proofs.Marks.{act_marks, act_opens, any_ends, any_opens, emitted, ends-parts, map-ends, map-opens, opens-parts}
+use Rattle.wt_pair.specs.Streams.{Byte, Ends, Mark, Opens, marks_if}
 use Rattle.wt_promise.proofs.Accepted.{and-left, and-right, not-true, or-left, or-right, or-true}
 use Rattle.wt_promise.proofs.Actions.{opened-out}
 use Rattle.wt_promise.proofs.AllFound.{none-opened}

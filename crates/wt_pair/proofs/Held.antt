@@ -12,13 +12,15 @@ use Rattle.wt_meaning.specs.Meaning.{answer_to, history_after}
 use Rattle.wt_meaning.specs.Moments.{ids_from}
 use Rattle.wt_pair.proofs.Counts.{counted, none-of-peers, there-connected}
 use Rattle.wt_pair.proofs.Formed.{formed-byte, formed-history, is_own, opens-emitted, well_formed}
-use Rattle.wt_pair.proofs.Marks.{Byte, Ends, Mark, Opens, act_marks, act_opens, any_ends, any_opens, bytes-parts, bytes_marked, emitted, emitted-after, ends-parts, item_marks, item_opens, map-opens, marked-out, marks-item, marks-join, marks_if, named_marks, named_opens, opens-item, opens-join, opens-parts, turn_marks, view-items}
+use Rattle.wt_pair.proofs.Marks.{act_marks, act_opens, any_ends, any_opens, bytes-parts, bytes_marked, emitted, emitted-after, ends-parts, item_opens, map-opens, marked-out, marks-item, marks-join, named_opens, opens-item, opens-join, opens-parts, view-items}
 use Rattle.wt_pair.proofs.Receives.{Receives}
 use Rattle.wt_pair.proofs.Sends.{sends-there}
 use Rattle.wt_pair.proofs.Views.{AreItems, items-append, items-of}
-use Rattle.wt_pair.specs.Events.{PairFacts}
-use Rattle.wt_pair.specs.Link.{Item, connects, item_of}
+use Rattle.wt_pair.specs.declared.event.PairFacts.{PairFacts}
+use Rattle.wt_pair.specs.Link.{connects, item_of}
+use Rattle.wt_pair.specs.declared.item.Item.{Item}
 use Rattle.wt_pair.specs.Pair.{other}
+use Rattle.wt_pair.specs.Streams.{Byte, Ends, Mark, Opens, item_marks, marks_if, named_marks, turn_marks}
 use Rattle.wt_promise.proofs.Accepted.{or-true}
 use Rattle.wt_promise.proofs.Flow.{clash}
 use Rattle.wt_promise.proofs.MomentActs.{or-either}

@@ -9,13 +9,18 @@ use Rattle.wt_meaning.specs.Meaning.{answer_to, history_after}
 use Rattle.wt_meaning.specs.Moments.{ids_from}
 use Rattle.wt_pair.proofs.Formed.{opens-emitted}
 use Rattle.wt_pair.proofs.Held.{Held, Left, Takes, Unseen, add, any_connects, bi-lawful, bytes-lawful, drop_turn, fits, link-lawful, sent, take_turn, uni-lawful}
-use Rattle.wt_pair.proofs.Marks.{Byte, Ends as Ended, Mark, any_opens, bytes_marked, item_marks, item_opens, marks_if, named_marks, named_opens, none-marked}
+use Rattle.wt_pair.proofs.Marks.{any_opens, bytes_marked, item_opens, named_opens, none-marked}
 use Rattle.wt_pair.proofs.Plain.{answer-dials-not, dialled-after}
-use Rattle.wt_pair.proofs.Taking.{OfKind, any-at, call-takes, credit-takes, first-item, item, item-takes, kind-of, left-lost, left-same, left-there}
+use Rattle.wt_pair.proofs.StreamLaws.{item}
+use Rattle.wt_pair.proofs.Taking.{OfKind, any-at, call-takes, credit-takes, first-item, item-takes, kind-of, left-lost, left-same, left-there}
 use Rattle.wt_pair.proofs.Views.{ABi, AConnection, ADatagram, ALoss, APiece, AReset, AStop, AUni, AnAck, AnEnd, IsItem, item-there}
-use Rattle.wt_pair.specs.Events.{CallAt, Credit, Deliver, Lose, PairEvent, PairFacts}
-use Rattle.wt_pair.specs.Link.{Item, connects, first_of, is_first, item_at, left_of, may_deliver, takes_bytes, taken_at}
-use Rattle.wt_pair.specs.Pair.{Ends, Happened, acknowledged, acknowledgement, arrived, at_end, at_first, brings_datagram, delivered, delivered_item, end_at, gives_credit, happens, if_dialled, is_datagram, lost, other, run_behind, run_from, run_pair, taken, turned, with_end}
+use Rattle.wt_pair.specs.declared.event.PairEvent.{PairEvent}
+use Rattle.wt_pair.specs.declared.event.PairEvent.TheVariants as pair_events
+use Rattle.wt_pair.specs.declared.event.PairFacts.{PairFacts}
+use Rattle.wt_pair.specs.Link.{brings_datagram, connects, first_of, is_datagram, is_first, item_at, left_of, may_deliver, taken_at, takes_bytes}
+use Rattle.wt_pair.specs.declared.item.Item.{Item}
+use Rattle.wt_pair.specs.Pair.{Ends, Happened, acknowledged, acknowledgement, arrived, at_end, at_first, delivered, delivered_item, end_at, gives_credit, happens, if_dialled, lost, other, run_behind, run_from, run_pair, taken, turned, with_end}
+use Rattle.wt_pair.specs.Streams.{Byte, Ends as Ended, Mark, item_marks, marks_if, named_marks}
 use Rattle.wt_promise.proofs.Accepted.{and-left, and-right}
 use Rattle.wt_promise.proofs.Flow.{clash}
 use Rattle.wt_promise.specs.Promise.{IsHistory}
@@ -271,14 +276,14 @@ at-end-held f e t p l c takes false m = tt
 at-end-held f e t p l c takes true m = plain-turn f e t p l (m refl) c (takes (m refl))
 
 happens-held : (f : PairFacts) (event : PairEvent) (p : Ends) → AllHeld f p → After (AllHeld f) (happens f event p)
-happens-held f (CallAt e call) p l =
+happens-held f (pair_events.Call e call) p l =
     at-end-held f e (turns.Call call) p l refl (call-takes f e (end_at p e).history (l e).own call) (is_lawful e (end_at p e).history (turns.Call call)) (λ q. q)
-happens-held f (Credit e t) p l = by (gives_credit t) refl
+happens-held f (pair_events.Credit e t) p l = by (gives_credit t) refl
   where
     by : (b : Bool) → gives_credit t ≡ b → After (AllHeld f) (at_end f e t p (b && is_lawful e (end_at p e).history t))
     by true q = at-end-held f e t p l (credit-not t q) (credit-takes f e (end_at p e).history (l e).own t q) (is_lawful e (end_at p e).history t) (λ x. x)
     by false q = tt
-happens-held f (Deliver to place n) p l = by (item_at (end_at p to).waiting place) refl
+happens-held f (pair_events.Deliver to place n) p l = by (item_at (end_at p to).waiting place) refl
   where
     by : (o : Option Item) → item_at (end_at p to).waiting place ≡ o → After (AllHeld f) (delivered f to place n (delivered_item p to place n o) p)
     by None q = tt
@@ -291,7 +296,7 @@ happens-held f (Deliver to place n) p l = by (item_at (end_at p to).waiting plac
         of : (b : Bool) → may_deliver (end_at p to).came (end_at p to).waiting place n x ≡ b → After (AllHeld f) (delivered f to place n (if b then Some x else None) p)
         of true m = arrival-held f to place n x p l q m (is_lawful to (end_at (taken to place n x p) to).history (first_of n x.turn)) (sym (same to))
         of false m = tt
-happens-held f (Lose to place) p l = by (item_at (end_at p to).waiting place) refl
+happens-held f (pair_events.Lose to place) p l = by (item_at (end_at p to).waiting place) refl
   where
     by : (o : Option Item) → item_at (end_at p to).waiting place ≡ o → After (AllHeld f) (lost to place p (is_datagram o))
     by None q = tt

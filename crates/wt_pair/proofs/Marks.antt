@@ -6,7 +6,9 @@ use Rattle.std.proofs.lemmas.List.{append-nil, map-append}
 use Rattle.std.proofs.lemmas.List.Concat.{flat_map-append}
 use Rattle.wt_meaning.specs.History.{History, out}
 use Rattle.wt_meaning.specs.Meaning.{after_bytes, answer_to, bytes_actions, history_after, next, step}
-use Rattle.wt_pair.specs.Link.{Item, item_of}
+use Rattle.wt_pair.specs.Link.{item_of}
+use Rattle.wt_pair.specs.Streams.{Byte, Ends, Mark, Opens, item_marks, marks_if, named_marks}
+use Rattle.wt_pair.specs.declared.item.Item.{Item}
 use Rattle.wt_promise.proofs.BytesOut.{bytes_on, out-add, piece_on}
 use Rattle.wt_seam_spec.specs.Joined.{join_all, join_one, join_two}
 use Rattle.wt_turn.specs.declared.action.Action.{Action}
@@ -18,14 +20,6 @@ use Rattle.wt_turn.specs.declared.turn.Turn.TheVariants as turns
 
 -- ---- marks
 
-pub data Mark : Type 0 where
-  Opens : Mark
-  Byte : ℕ → Mark
-  Ends : Mark
-
-abbrev pub marks_if : {T : Type 0} → Bool → List T → List T
-marks_if holds ms = if holds then ms else []
-
 -- what an action does on the stream
 abbrev pub act_marks : ℕ → Action → List Mark
 act_marks k (actions.Opened id) = marks_if (id == k) (Opens ∷ [])
@@ -33,22 +27,6 @@ act_marks k (actions.Send id piece) = marks_if (id == k) (map Byte piece)
 act_marks k (actions.Finish id) = marks_if (id == k) (Ends ∷ [])
 act_marks k (actions.ResetOut id code) = marks_if (id == k) (Ends ∷ [])
 act_marks k _ = []
-
--- what a turn brings for the stream that its item names
-abbrev pub turn_marks : Turn → List Mark
-turn_marks turns.PeerUni = Opens ∷ []
-turn_marks turns.PeerBi = Opens ∷ []
-turn_marks (turns.Bytes id piece) = map Byte piece
-turn_marks (turns.End id) = Ends ∷ []
-turn_marks (turns.Reset id code) = Ends ∷ []
-turn_marks _ = []
-
-abbrev pub named_marks : ℕ → Option ℕ → Turn → List Mark
-named_marks k None turn = []
-named_marks k (Some j) turn = marks_if (j == k) (turn_marks turn)
-
-abbrev pub item_marks : ℕ → Item → List Mark
-item_marks k x = named_marks k x.stream x.turn
 
 -- the streams of a kind that an action opens
 abbrev pub act_opens : ℕ → Action → List ℕ

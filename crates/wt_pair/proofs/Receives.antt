@@ -6,10 +6,11 @@ use Rattle.std.proofs.lemmas.Bool.{eq-eqb, eqb-true}
 use Rattle.std.proofs.lemmas.List.{append-nil}
 use Rattle.wt_meaning.specs.History.{History, Pair, all_events, contents, is_open, with_bytes}
 use Rattle.wt_meaning.specs.Meaning.{after_bytes, history_after, next, step}
-use Rattle.wt_pair.proofs.Marks.{Byte, Ends, Mark, Opens, any_ends, bytes-map, bytes_marked, marks_if, named_marks, none-marked}
+use Rattle.wt_pair.proofs.Marks.{any_ends, bytes-map, bytes_marked, none-marked}
 use Rattle.wt_pair.proofs.Views.{ABi, AConnection, ADatagram, ALoss, APiece, AReset, AStop, AUni, AnAck, AnEnd, IsItem}
-use Rattle.wt_pair.specs.Events.{PairFacts}
+use Rattle.wt_pair.specs.declared.event.PairFacts.{PairFacts}
 use Rattle.wt_pair.specs.Pair.{gives_credit}
+use Rattle.wt_pair.specs.Streams.{Byte, Ends, Mark, Opens, marks_if, named_marks}
 use Rattle.wt_promise.proofs.Flow.{clash}
 use Rattle.wt_promise.proofs.LateTurns.{still-shut}
 use Rattle.wt_promise.proofs.Opened.{open-before}
@@ -28,7 +29,7 @@ use Rattle.wt_wire.specs.declared.side.StreamEnd.TheVariants as ends
 abbrev one : Side → ℕ → ℕ → History → Pair
 one side k b h = record { turn = turns.Bytes k (b ∷ []); answer = next side h (turns.Bytes k (b ∷ [])) }
 
-bytes-open : (side : Side) (k : ℕ) (piece : List ℕ) (h : History) → is_open (after_bytes side h k piece) ≡ true → is_open h ≡ true
+pub bytes-open : (side : Side) (k : ℕ) (piece : List ℕ) (h : History) → is_open (after_bytes side h k piece) ≡ true → is_open h ≡ true
 bytes-open side k [] h e = e
 bytes-open side k (b ∷ piece) h e = let o = bytes-open side k piece (step side h (turns.Bytes k (b ∷ []))) e in open-before (one side k b h) h o
 
@@ -42,7 +43,7 @@ bytes-shut side k j [] h o = refl
 bytes-shut side k j (b ∷ piece) h o =
     bytes-shut side k j piece (step side h (turns.Bytes k (b ∷ []))) (still-shut (one side k b h) h o) ∙ ap (λ (x : Bool). if x then with_bytes j (turns.Bytes k (b ∷ [])) (contents h j) else contents h j) o
 
-bytes-other : (side : Side) (k j : ℕ) (piece : List ℕ) (h : History) → (k == j) ≡ false → contents (after_bytes side h k piece) j ≡ contents h j
+pub bytes-other : (side : Side) (k j : ℕ) (piece : List ℕ) (h : History) → (k == j) ≡ false → contents (after_bytes side h k piece) j ≡ contents h j
 bytes-other side k j [] h n = refl
 bytes-other side k j (b ∷ piece) h n = bytes-other side k j piece (step side h (turns.Bytes k (b ∷ []))) n ∙ by (is_open h)
   where
@@ -58,7 +59,7 @@ pub record BytesCame (side : Side) (h : History) (k : ℕ) (piece : List ℕ) : 
   pub whole : is_open (after_bytes side h k piece) ≡ true → rest ≡ []
   pub shut : is_open h ≡ false → came ≡ []
 
-bytes-came : (side : Side) (k : ℕ) (piece : List ℕ) (h : History) → BytesCame side h k piece
+pub bytes-came : (side : Side) (k : ℕ) (piece : List ℕ) (h : History) → BytesCame side h k piece
 bytes-came side k [] h = record { came = []; rest = []; parts = refl; here = sym (append-nil (contents h k)); whole = λ e. refl; shut = λ e. refl }
 bytes-came side k (b ∷ piece) h = by (is_open h) refl (bytes-came side k piece later)
   where

@@ -13,12 +13,15 @@ use Rattle.wt_meaning.specs.Moments.{ids_from}
 use Rattle.wt_pair.proofs.Counts.{none-of-peers}
 use Rattle.wt_pair.proofs.Formed.{is_own, opens-emitted}
 use Rattle.wt_pair.proofs.Held.{Held, Kind, Left, Takes, any_connects, fits, ids-at}
-use Rattle.wt_pair.proofs.Marks.{Byte, Mark, item_marks, item_opens, marks_if, named_marks, named_opens, turn_marks}
+use Rattle.wt_pair.proofs.Marks.{item_opens, named_opens}
 use Rattle.wt_pair.proofs.Receives.{bytes-events, call-received, credit-received, item-received}
-use Rattle.wt_pair.proofs.Views.{ABi, AConnection, ADatagram, ALoss, APiece, AReset, AStop, AUni, AnAck, AnEnd, AreItems, IsItem, bi-before, items-left, marks-before, split-at, uni-before, view-first, view-same, view-taken}
-use Rattle.wt_pair.specs.Events.{PairFacts}
-use Rattle.wt_pair.specs.Link.{Item, connects, first_of, is_before, is_first, item_at, left_of, taken_at}
+use Rattle.wt_pair.proofs.StreamLaws.{item, left-marks}
+use Rattle.wt_pair.proofs.Views.{ABi, AConnection, ADatagram, ALoss, APiece, AReset, AStop, AUni, AnAck, AnEnd, AreItems, IsItem, bi-before, items-left, split-at, uni-before, view-first, view-same, view-taken}
+use Rattle.wt_pair.specs.declared.event.PairFacts.{PairFacts}
+use Rattle.wt_pair.specs.Link.{connects, first_of, is_before, is_first, item_at, left_of, taken_at}
+use Rattle.wt_pair.specs.declared.item.Item.{Item}
 use Rattle.wt_pair.specs.Pair.{gives_credit, other}
+use Rattle.wt_pair.specs.Streams.{item_marks, marks_if}
 use Rattle.wt_promise.proofs.Accepted.{or-first, or-true}
 use Rattle.wt_promise.proofs.MomentActs.{or-either}
 use Rattle.wt_promise.proofs.Prefixes.{turn-history}
@@ -36,36 +39,6 @@ use Rattle.wt_wire.specs.declared.side.Side.TheVariants.{Client, Server}
 use Rattle.wt_turn.specs.declared.turn.Turn.TheVariants as turns
 
 -- ---- what is left
-
-abbrev pub item : Option ℕ → Turn → Item
-item o t = record { stream = o; turn = t }
-
--- what is taken of a piece, and what waits on
-part-marks : (k n j : ℕ) (t : Turn) → named_marks k (Some j) t ≡ named_marks k (Some j) (first_of n t) ++ flat_map (item_marks k) (left_of n (Some j) t)
-part-marks k n j (turns.Bytes id piece) = by (n == length piece) refl
-  where
-    whole : (x : Bool) → n ≡ length piece → marks_if x (map Byte piece) ≡ marks_if x (map Byte (take n piece)) ++ []
-    whole true e = ap (map Byte) (sym (ap (λ (m : ℕ). take m piece) e ∙ take-length piece)) ∙ sym (append-nil (map Byte (take n piece)))
-    whole false e = refl
-
-    part : (x : Bool) → marks_if x (map Byte piece) ≡ marks_if x (map Byte (take n piece)) ++ (marks_if x (map Byte (drop n piece)) ++ [])
-    part true =
-        ap (map Byte) (sym (take-append-drop n piece)) ∙ map-append Byte (take n piece) (drop n piece) ∙ ap (λ (l : List Mark). map Byte (take n piece) ++ l) (sym (append-nil (map Byte (drop n piece))))
-    part false = refl
-
-    by : (c : Bool) → (n == length piece) ≡ c → marks_if (j == k) (map Byte piece)
-        ≡ marks_if (j == k) (map Byte (take n piece)) ++ flat_map (item_marks k) (if c then [] else item (Some j) (turns.Bytes id (drop n piece)) ∷ [])
-    by true q = whole (j == k) (eqb-true n (length piece) q)
-    by false q = part (j == k)
-part-marks k n j t = sym (append-nil (named_marks k (Some j) t))
-
-none-left : (k n : ℕ) (t : Turn) → flat_map (item_marks k) (left_of n None t) ≡ []
-none-left k n (turns.Bytes id piece) = by (n == length piece)
-  where
-    by : (c : Bool) → flat_map (item_marks k) (if c then [] else item None (turns.Bytes id (drop n piece)) ∷ []) ≡ []
-    by true = refl
-    by false = refl
-none-left k n t = refl
 
 -- of what is left, nothing connects and nothing opens
 left-opens : (kind n : ℕ) (o : Option ℕ) (t : Turn) → flat_map (item_opens kind) (left_of n o t) ≡ []
@@ -151,26 +124,6 @@ module _ (f : PairFacts) (w : List Item) (place n : ℕ) (o : Option ℕ) (t : T
   abbrev more : List Item
   more = taken_at w place (left_of n o t)
 
-  left-marks : (k : ℕ) → flat_map (item_marks k) w ≡ named_marks k o (first_of n t) ++ flat_map (item_marks k) more
-  left-marks k = by o refl
-    where
-      by : (p : Option ℕ) → o ≡ p → flat_map (item_marks k) w ≡ named_marks k p (first_of n t) ++ flat_map (item_marks k) more
-      by None q =
-          view-same (item_marks k) w place (item o t) (left_of n o t) at (ap (λ (p : Option ℕ). named_marks k p t) q ∙ sym (ap (λ (p : Option ℕ). flat_map (item_marks k) (left_of n p t)) q ∙ none-left k n t))
-      by (Some j) q = of (j == k) refl
-        where
-          parts : named_marks k o t ≡ named_marks k (Some j) (first_of n t) ++ flat_map (item_marks k) (left_of n o t)
-          parts = ap (λ (p : Option ℕ). named_marks k p t) q ∙ part-marks k n j t ∙ ap (λ (p : Option ℕ). named_marks k (Some j) (first_of n t) ++ flat_map (item_marks k) (left_of n p t)) (sym q)
-
-          of : (b : Bool) → (j == k) ≡ b → flat_map (item_marks k) w ≡ named_marks k (Some j) (first_of n t) ++ flat_map (item_marks k) more
-          of true r =
-              view-taken (item_marks k) w place (item o t) (named_marks k (Some j) (first_of n t)) (left_of n o t) at
-              (view-first (item_marks k) f (item o t) (λ y g b. marks-before f k (item o t) y (q ∙ ap (λ (m : ℕ). Some m) (eqb-true j k r)) b) w place all first) parts
-          of false r =
-              let none : named_marks k (Some j) (first_of n t) ≡ [] = ap (λ (b : Bool). marks_if b (turn_marks (first_of n t))) r in
-              view-same (item_marks k) w place (item o t) (left_of n o t) at (parts ∙ ap (λ (l : List Mark). l ++ flat_map (item_marks k) (left_of n o t)) none)
-              ∙ ap (λ (l : List Mark). l ++ flat_map (item_marks k) more) (sym none)
-
   left-opened : (kind : ℕ) → flat_map (item_opens kind) w ≡ named_opens kind o (first_of n t) ++ flat_map (item_opens kind) more
   left-opened kind = by o t i refl refl
     where
@@ -211,7 +164,7 @@ module _ (f : PairFacts) (w : List Item) (place n : ℕ) (o : Option ℕ) (t : T
       by p u AConnection x y = still (none p u x y refl)
 
   pub left-there : Left f w more o (first_of n t)
-  left-there = record { items = items-left f w place (left_of n o t) all (left-items f n o t i); marks = left-marks; opens = left-opened; connects_less = less w place (item o t) (left_of n o t) at (left-connects n o t) }
+  left-there = record { items = items-left f w place (left_of n o t) all (left-items f n o t i); marks = left-marks w place n o t at first; opens = left-opened; connects_less = less w place (item o t) (left_of n o t) at (left-connects n o t) }
 
 -- ---- what the turn leaves
 

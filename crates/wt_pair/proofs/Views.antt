@@ -4,9 +4,11 @@ use Rattle.std.specs.List.{AllByRecursion, list_any}
 use Rattle.std.proofs.Common.{◌∙◌, ap, append_assoc, arith, refl, subst, sym}
 use Rattle.std.proofs.lemmas.Bool.{eqb-false, eqb-true}
 use Rattle.std.proofs.lemmas.List.Concat.{flat_map-append}
-use Rattle.wt_pair.proofs.Marks.{item_marks, item_opens, marks_if, named_marks, named_opens, turn_marks}
-use Rattle.wt_pair.specs.Events.{PairFacts}
-use Rattle.wt_pair.specs.Link.{Item, is_before, is_first, is_same_stream, item_at, item_of, open_alike, taken_at}
+use Rattle.wt_pair.proofs.Marks.{item_opens, named_opens}
+use Rattle.wt_pair.specs.declared.event.PairFacts.{PairFacts}
+use Rattle.wt_pair.specs.Link.{is_before, is_first, is_same_stream, item_at, item_of, open_alike, taken_at}
+use Rattle.wt_pair.specs.declared.item.Item.{Item}
+use Rattle.wt_pair.specs.Streams.{item_marks, marks_if, named_marks, turn_marks}
 use Rattle.wt_promise.proofs.Accepted.{not-true, or-left, or-right}
 use Rattle.wt_promise.proofs.Flow.{swapped}
 use Rattle.wt_turn.specs.declared.action.Action.{Action}
@@ -110,8 +112,8 @@ module _ {T : Type 0} (w : Item → List T) where
 -- ---- which items must come before
 
 -- what names another stream has no mark of this one
-pub marks-before : (f : PairFacts) (k : ℕ) (x y : Item) → x.stream ≡ Some k → is_before y x ≡ false → item_marks k y ≡ []
-marks-before f k x y s e = by y.stream (or-left (is_same_stream y.stream x.stream) (open_alike y.turn x.turn) e)
+pub marks-before : (k : ℕ) (x y : Item) → x.stream ≡ Some k → is_before y x ≡ false → item_marks k y ≡ []
+marks-before k x y s e = by y.stream (or-left (is_same_stream y.stream x.stream) (open_alike y.turn x.turn) e)
   where
     by : (o : Option ℕ) → is_same_stream o x.stream ≡ false → named_marks k o y.turn ≡ []
     by None n = refl

@@ -16,14 +16,16 @@ use Rattle.wt_meaning.specs.Moments.{findings, verdict}
 use Rattle.wt_meaning.specs.Rows.{Row, first_row, row}
 use Rattle.wt_pair.proofs.Held.{Stream}
 use Rattle.wt_pair.proofs.Keeps.{AllHeld, all-held}
-use Rattle.wt_pair.proofs.Marks.{bytes-parts, bytes_marked, item_marks, marked-out}
+use Rattle.wt_pair.proofs.Marks.{bytes-parts, bytes_marked, marked-out}
 use Rattle.wt_pair.proofs.Sends.{given-verdict}
 use Rattle.wt_pair.proofs.Sessions.{connect-front, session-id}
 use Rattle.wt_pair.proofs.Verdicts.{control-shows, frame-shows, header-shows, is_stream, nothing-shown, shown-more}
 use Rattle.wt_pair.specs.Claims.{IsPrefix, ReadIsWritten}
-use Rattle.wt_pair.specs.Events.{PairEvent, PairFacts}
-use Rattle.wt_pair.specs.Link.{Item}
-use Rattle.wt_pair.specs.Pair.{Ends, other, run_pair}
+use Rattle.wt_pair.specs.declared.event.PairEvent.{PairEvent}
+use Rattle.wt_pair.specs.declared.event.PairFacts.{PairFacts}
+use Rattle.wt_pair.specs.declared.item.Item.{Item}
+use Rattle.wt_pair.specs.Pair.{Ends, histories, other, run_pair}
+use Rattle.wt_pair.specs.Streams.{item_marks}
 use Rattle.wt_promise.proofs.Accepted.{and-right, or-left, or-right}
 use Rattle.wt_promise.proofs.AsOwed.{sends-as-owed}
 use Rattle.wt_promise.proofs.Begun.{BegunFor, begun-for}
@@ -396,12 +398,12 @@ written e h w g k i j c back = taken-front (pieces h k) (accepted g k) (by (is_h
     by true q = given (handed-by e h i k q)
     by false q = (accepted g k, ap (λ (l : List ℕ). l ++ accepted g k) (reads-none e h i k q))
 
-read-written : (f : PairFacts) (p : Ends) → AllHeld f p → ReadIsWritten p
+read-written : (f : PairFacts) (p : Ends) → AllHeld f p → ReadIsWritten (histories p)
 read-written f p l Client k = written Client p.client.history p.client.waiting p.server.history k (l Client).own (l Client).peers
     (came-front Client Server p.client.history p.client.waiting p.server.history k ((l Client).stream k) (l Client).peers) (came-front Server Client p.server.history p.server.waiting p.client.history k ((l Server).stream k) (l Client).own)
 read-written f p l Server k = written Server p.server.history p.server.waiting p.client.history k (l Server).own (l Server).peers
     (came-front Server Client p.server.history p.server.waiting p.client.history k ((l Server).stream k) (l Server).peers) (came-front Client Server p.client.history p.client.waiting p.server.history k ((l Client).stream k) (l Server).own)
 
 -- whatever the events are
-pub read_is_written : (f : PairFacts) (events : List PairEvent) → ReadIsWritten (run_pair f events).ends
+pub read_is_written : (f : PairFacts) (events : List PairEvent) → ReadIsWritten (histories (run_pair f events).ends)
 read_is_written f events = read-written f (run_pair f events).ends (all-held f events)

@@ -3,11 +3,15 @@ use Rattle.std.specs.Prelude.{[], ◌++◌, ◌==◌, ◌∷◌, ◌≡◌, ◌�
 use Rattle.std.specs.Cmp.Lexicographic.{pointwise}
 use Rattle.wt_meaning.specs.History.{History, contents, is_open, out}
 use Rattle.wt_meaning.specs.Lawful.{is_lawful}
-use Rattle.wt_meaning.specs.Meaning.{meaning}
+use Rattle.wt_meaning.specs.Meaning.{meaning, with_pair}
 use Rattle.wt_meaning.specs.Windows.{named}
-use Rattle.wt_pair.specs.Events.{Answered, CallAt, Credit, Deliver, Lose, PairAnswer, PairEvent, PairFacts}
-use Rattle.wt_pair.specs.Link.{Item, first_of, item_at}
-use Rattle.wt_pair.specs.Pair.{Ends, Happened, at_first, end_at, happens, other, run_pair}
+use Rattle.wt_pair.specs.declared.answer.PairAnswer.{PairAnswer}
+use Rattle.wt_pair.specs.declared.answer.PairAnswer.TheVariants as pair_answers
+use Rattle.wt_pair.specs.declared.event.PairEvent.{PairEvent}
+use Rattle.wt_pair.specs.declared.event.PairEvent.TheVariants as pair_events
+use Rattle.wt_pair.specs.declared.event.PairFacts.{PairFacts}
+use Rattle.wt_pair.specs.Link.{delivered_turn, item_at}
+use Rattle.wt_pair.specs.Pair.{Ends, Happened, at_first, end_at, end_of_event, happens, other, run_pair}
 use Rattle.wt_promise.specs.Causes.{pieces}
 use Rattle.wt_promise.specs.Promise.{accepted, payloads}
 use Rattle.wt_turn.specs.declared.answer.Answer.{Answer}
@@ -25,13 +29,12 @@ abbrev pub IsPrefix : List ℕ → List ℕ → Type 0
 IsPrefix xs ys = take (length xs) ys ≡ xs
 
 -- what one end read on a stream is a prefix of what the other end's writes accepted there
-abbrev pub ReadIsWritten : Ends → Type 0
-ReadIsWritten p = (e : Side) (k : ℕ) → IsPrefix (pieces (end_at p e).history k) (accepted (end_at p (other e)).history k)
+abbrev pub ReadIsWritten : (Side → History) → Type 0
+ReadIsWritten of = (e : Side) (k : ℕ) → IsPrefix (pieces (of e) k) (accepted (of (other e)) k)
 
 -- where nothing waits for an end that is open, all that the other end sent on a stream came there
-abbrev pub NothingHeldBack : Ends → Type 0
-NothingHeldBack p = (e : Side) → (end_at p e).waiting ≡ [] → is_open (end_at p e).history ≡ true
-    → (k : ℕ) → contents (end_at p e).history k ≡ out (end_at p (other e)).history k
+abbrev pub NothingHeldBack : Ends → (Side → History) → Type 0
+NothingHeldBack p of = (e : Side) → (end_at p e).waiting ≡ [] → is_open (of e) ≡ true → (k : ℕ) → contents (of e) k ≡ out (of (other e)) k
 
 -- ---- datagrams
 
@@ -54,18 +57,10 @@ abbrev pub times : List ℕ → List (List ℕ) → ℕ
 times payload all = length (filter (pointwise nat_eq payload) all)
 
 -- each payload is received at most as often as the other end sent it
-abbrev pub ReceivedAsSent : Ends → Type 0
-ReceivedAsSent p = (e : Side) (s : ℕ) (payload : List ℕ)
-    → times payload (payloads (end_at p e).history s) ≤ times payload (sent_payloads (end_at p (other e)).history s)
+abbrev pub ReceivedAsSent : (Side → History) → Type 0
+ReceivedAsSent of = (e : Side) (s : ℕ) (payload : List ℕ) → times payload (payloads (of e) s) ≤ times payload (sent_payloads (of (other e)) s)
 
 -- ---- each end by itself
-
--- the end at which the event happens
-abbrev pub end_of_event : PairEvent → Side
-end_of_event (CallAt e call) = e
-end_of_event (Deliver to place n) = to
-end_of_event (Lose to place) = to
-end_of_event (Credit to turn) = to
 
 abbrev pub is_at : Side → Side → Bool
 is_at Client Client = true
@@ -73,7 +68,7 @@ is_at Server Server = true
 is_at _ _ = false
 
 abbrev pub answer_in : Bool → PairAnswer → List Answer
-answer_in true (Answered a) = a ∷ []
+answer_in true (pair_answers.Turn a) = a ∷ []
 answer_in _ a = []
 
 -- what this end answered, of the answers to these events
@@ -82,15 +77,11 @@ own_answers e (event ∷ later) (a ∷ answers) = answer_in (is_at e (end_of_eve
 own_answers e events answers = []
 
 -- the turn that the event brings to its end
-abbrev pub delivered_turn : ℕ → Option Item → Option Turn
-delivered_turn n None = None
-delivered_turn n (Some x) = Some (first_of n x.turn)
-
 abbrev pub turn_of : PairEvent → Ends → Option Turn
-turn_of (CallAt e call) p = Some (turns.Call call)
-turn_of (Deliver to place n) p = delivered_turn n (item_at (end_at p to).waiting place)
-turn_of (Lose to place) p = None
-turn_of (Credit to turn) p = Some turn
+turn_of (pair_events.Call e call) p = Some (turns.Call call)
+turn_of (pair_events.Deliver to place n) p = delivered_turn n (item_at (end_at p to).waiting place)
+turn_of (pair_events.Lose to place) p = None
+turn_of (pair_events.Credit to turn) p = Some turn
 
 -- it, where it is this end's, and lawful there
 abbrev pub turn_in : Side → History → Bool → Option Turn → List Turn
@@ -108,14 +99,23 @@ own_turns e f p (event ∷ later) =
     turns_behind (turn_in e (end_at p e).history (is_at e (end_of_event event)) (turn_of event p)) (happens f event p) (λ (after : Ends). own_turns e f after later)
 
 -- an end's answers are what its own turns mean, whatever the other end and the link do
-abbrev pub EachMeans : PairFacts → List PairEvent → Type 0
-EachMeans f events = (e : Side) → own_answers e events (run_pair f events).answers ≡ meaning e (own_turns e f at_first events)
+abbrev pub EachMeans : PairFacts → List PairEvent → List PairAnswer → Type 0
+EachMeans f events answers = (e : Side) → own_answers e events answers ≡ meaning e (own_turns e f at_first events)
 
 -- ---- all of it
 
--- of each list of events, as far as they fit
-pub record TwoEnds (f : PairFacts) (events : List PairEvent) : Type 0 where
-  pub read : ReadIsWritten (run_pair f events).ends
-  pub received : ReceivedAsSent (run_pair f events).ends
-  pub means : EachMeans f events
-  pub whole : NothingHeldBack (run_pair f events).ends
+-- these turns and their answers, after those of a history
+abbrev pub with_pairs : History → List Turn → List Answer → History
+with_pairs h (turn ∷ later) (a ∷ answers) = with_pairs (with_pair h turn a) later answers
+with_pairs h later answers = h
+
+-- the turns of an end with its answers, by the events and the answers to them
+abbrev pub told : PairFacts → List PairEvent → List PairAnswer → Side → History
+told f events answers e = with_pairs [] (own_turns e f at_first events) (own_answers e events answers)
+
+-- of the answers to a list of events, as far as they fit
+pub record TwoEnds (f : PairFacts) (events : List PairEvent) (answers : List PairAnswer) : Type 0 where
+  pub read : ReadIsWritten (told f events answers)
+  pub received : ReceivedAsSent (told f events answers)
+  pub means : EachMeans f events answers
+  pub whole : NothingHeldBack (run_pair f events).ends (told f events answers)

@@ -1,4 +1,10 @@
 pub mod Claims
-pub mod Events
+pub mod Keeping
+pub mod Kept
+pub mod Lines
 pub mod Link
+pub mod Output
 pub mod Pair
+pub mod Program
+pub mod Script
+pub mod Streams

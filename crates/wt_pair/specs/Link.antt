@@ -2,17 +2,13 @@
 -- brings what waits of several streams in any order, and loses datagrams.
 use Rattle.std.specs.Prelude.{[], ◌&&◌, ◌++◌, ◌==◌, ◌∷◌, ◌||◌, Bool, List, None, Option, Some, drop, false, if◌then◌else◌, length, nat_le, not, take, true, zero, suc, ℕ}
 use Rattle.std.specs.List.{list_any}
+use Rattle.wt_pair.specs.declared.item.Item.{Item}
 use Rattle.wt_turn.specs.declared.action.Action.{Action}
 use Rattle.wt_turn.specs.declared.turn.Turn.{Turn}
 use Rattle.wt_wire.specs.Ids.{is_bidirectional}
 use Rattle.wt_turn.specs.declared.action.Action.TheVariants as actions
 use Rattle.wt_turn.specs.declared.loss.LossReason.TheVariants as losses
 use Rattle.wt_turn.specs.declared.turn.Turn.TheVariants as turns
-
--- what waits for an end: the turn that it will be there, and the stream that it names
-pub record Item : Type 0 where
-  pub stream : Option ℕ
-  pub turn : Turn
 
 -- ---- what an action of the other end adds
 
@@ -26,6 +22,10 @@ on_stream id turn = Some (record { stream = Some id; turn = turn })
 abbrev pub on_no_stream : Turn → Option Item
 on_no_stream turn = Some (record { stream = None; turn = turn })
 
+-- the connection is lost there, by the application here
+abbrev pub closed_turn : ℕ → List ℕ → Turn
+closed_turn code reason = turns.Loss (losses.ApplicationClosed (record { code = code; reason = reason }))
+
 -- the item that an action adds for the other end (a dial adds one for each end)
 abbrev pub item_of : Action → Option Item
 item_of (actions.Dial address name) = None
@@ -35,7 +35,7 @@ item_of (actions.Finish id) = on_stream id (turns.End id)
 item_of (actions.ResetOut id code) = on_stream id (turns.Reset id code)
 item_of (actions.StopOut id code) = on_stream id (turns.Stop id code)
 item_of (actions.DatagramOut piece) = on_no_stream (turns.Datagram piece)
-item_of (actions.Close code reason) = on_no_stream (turns.Loss (losses.ApplicationClosed (record { code = code; reason = reason })))
+item_of (actions.Close code reason) = on_no_stream (closed_turn code reason)
 
 -- ---- what is delivered
 
@@ -91,3 +91,20 @@ left_of n s turn = []
 -- the list after the item at this place was taken, of which these wait on
 abbrev pub taken_at : List Item → ℕ → List Item → List Item
 taken_at xs place left = take place xs ++ left ++ drop (suc place) xs
+
+-- the turn that is delivered
+abbrev pub delivered_turn : ℕ → Option Item → Option Turn
+delivered_turn n None = None
+delivered_turn n (Some x) = Some (first_of n x.turn)
+
+-- ---- what is lost
+
+-- the turn brings a datagram
+abbrev pub brings_datagram : Turn → Bool
+brings_datagram (turns.Datagram piece) = true
+brings_datagram _ = false
+
+-- a datagram waits there
+abbrev pub is_datagram : Option Item → Bool
+is_datagram None = false
+is_datagram (Some x) = brings_datagram x.turn

@@ -4,8 +4,13 @@ use Rattle.std.specs.List.{list_any}
 use Rattle.wt_meaning.specs.History.{History}
 use Rattle.wt_meaning.specs.Lawful.{is_lawful}
 use Rattle.wt_meaning.specs.Meaning.{answer_to, history_after}
-use Rattle.wt_pair.specs.Events.{Answered, CallAt, Credit, Deliver, Lose, Lost, PairAnswer, PairEvent, PairFacts, Stale}
-use Rattle.wt_pair.specs.Link.{Item, connects, first_of, item_at, item_of, left_of, may_deliver, taken_at}
+use Rattle.wt_pair.specs.declared.answer.PairAnswer.{PairAnswer}
+use Rattle.wt_pair.specs.declared.answer.PairAnswer.TheVariants as pair_answers
+use Rattle.wt_pair.specs.declared.event.PairEvent.{PairEvent}
+use Rattle.wt_pair.specs.declared.event.PairEvent.TheVariants as pair_events
+use Rattle.wt_pair.specs.declared.event.PairFacts.{PairFacts}
+use Rattle.wt_pair.specs.Link.{connects, first_of, is_datagram, item_at, item_of, left_of, may_deliver, taken_at}
+use Rattle.wt_pair.specs.declared.item.Item.{Item}
 use Rattle.wt_seam_spec.specs.Sent.{dials}
 use Rattle.wt_turn.specs.declared.action.Action.{Action}
 use Rattle.wt_turn.specs.declared.turn.Turn.{Turn}
@@ -32,16 +37,21 @@ abbrev pub end_at : Ends → Side → End
 end_at p Client = p.client
 end_at p Server = p.server
 
+-- the history of each
+abbrev pub histories : Ends → Side → History
+histories p e = (end_at p e).history
+
 abbrev pub with_end : Side → End → Ends → Ends
 with_end Client e p = record p { client = e }
 with_end Server e p = record p { server = e }
 
+-- an end at which nothing happened
+abbrev pub no_end : End
+no_end = record { history = []; waiting = []; came = false }
+
 -- nothing happened
 abbrev pub at_first : Ends
-at_first = record {
-  client = record { history = []; waiting = []; came = false };
-  server = record { history = []; waiting = []; came = false };
-}
+at_first = record { client = no_end; server = no_end }
 
 -- ---- what waits more
 
@@ -80,6 +90,13 @@ acknowledged e turn p = with_end (other e) (with_items (acknowledgement turn) (e
 
 -- ---- events
 
+-- the end at which the event happens
+abbrev pub end_of_event : PairEvent → Side
+end_of_event (pair_events.Call e call) = e
+end_of_event (pair_events.Deliver to place n) = to
+end_of_event (pair_events.Lose to place) = to
+end_of_event (pair_events.Credit to turn) = to
+
 -- the item that the event takes, where it may
 abbrev pub delivered_item : Ends → Side → ℕ → ℕ → Option Item → Option Item
 delivered_item p to place n None = None
@@ -98,16 +115,7 @@ abbrev pub arrival : PairFacts → Side → Turn → Ends → Ends
 arrival f to turn p = arrived f to turn (is_lawful to (end_at p to).history turn) p
 
 abbrev pub arrival_answer : Side → Turn → Ends → PairAnswer
-arrival_answer to turn p = if is_lawful to (end_at p to).history turn then Answered (answer_to to (end_at p to).history turn) else Stale
-
--- it is a datagram
-abbrev pub brings_datagram : Turn → Bool
-brings_datagram (turns.Datagram piece) = true
-brings_datagram _ = false
-
-abbrev pub is_datagram : Option Item → Bool
-is_datagram None = false
-is_datagram (Some x) = brings_datagram x.turn
+arrival_answer to turn p = if is_lawful to (end_at p to).history turn then pair_answers.Turn (answer_to to (end_at p to).history turn) else pair_answers.Stale
 
 -- the turn gives credit
 abbrev pub gives_credit : Turn → Bool
@@ -126,7 +134,7 @@ abbrev pub arrives : PairFacts → Side → Turn → Ends → Happened
 arrives f to turn p = record { answer = arrival_answer to turn p; ends = arrival f to turn p }
 
 abbrev pub at_end : PairFacts → Side → Turn → Ends → Bool → Option Happened
-at_end f e turn p true = Some (record { answer = Answered (answer_to e (end_at p e).history turn); ends = turned f e turn p })
+at_end f e turn p true = Some (record { answer = pair_answers.Turn (answer_to e (end_at p e).history turn); ends = turned f e turn p })
 at_end f e turn p false = None
 
 abbrev pub delivered : PairFacts → Side → ℕ → ℕ → Option Item → Ends → Option Happened
@@ -134,15 +142,15 @@ delivered f to place n None p = None
 delivered f to place n (Some x) p = Some (arrives f to (first_of n x.turn) (taken to place n x p))
 
 abbrev pub lost : Side → ℕ → Ends → Bool → Option Happened
-lost to place p true = Some (record { answer = Lost; ends = with_end to (record (end_at p to) { waiting = taken_at (end_at p to).waiting place [] }) p })
+lost to place p true = Some (record { answer = pair_answers.Lost; ends = with_end to (record (end_at p to) { waiting = taken_at (end_at p to).waiting place [] }) p })
 lost to place p false = None
 
 -- an event; None where it doesn't fit
 abbrev pub happens : PairFacts → PairEvent → Ends → Option Happened
-happens f (CallAt e call) p = at_end f e (turns.Call call) p (is_lawful e (end_at p e).history (turns.Call call))
-happens f (Deliver to place n) p = delivered f to place n (delivered_item p to place n (item_at (end_at p to).waiting place)) p
-happens f (Lose to place) p = lost to place p (is_datagram (item_at (end_at p to).waiting place))
-happens f (Credit to turn) p = at_end f to turn p (gives_credit turn && is_lawful to (end_at p to).history turn)
+happens f (pair_events.Call e call) p = at_end f e (turns.Call call) p (is_lawful e (end_at p e).history (turns.Call call))
+happens f (pair_events.Deliver to place n) p = delivered f to place n (delivered_item p to place n (item_at (end_at p to).waiting place)) p
+happens f (pair_events.Lose to place) p = lost to place p (is_datagram (item_at (end_at p to).waiting place))
+happens f (pair_events.Credit to turn) p = at_end f to turn p (gives_credit turn && is_lawful to (end_at p to).history turn)
 
 -- ---- lists of events
 

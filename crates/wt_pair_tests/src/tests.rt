@@ -1,0 +1,7 @@
+//! The tests, by what they try.
+
+mod link;
+mod long;
+mod program;
+mod refused;
+mod scripts;
