@@ -1,6 +1,0 @@
-pub mod Turns
-pub mod Serving
-pub mod RequestEnds
-pub mod Tables
-pub mod Theorems
-pub mod DriverTheorems

@@ -1,4 +1,0 @@
-pub mod Halves
-pub mod Fields
-pub mod Sessions
-pub mod Handshakes

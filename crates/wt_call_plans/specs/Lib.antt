@@ -1,2 +1,0 @@
-pub mod StreamsThere
-pub mod MayPlan

@@ -1,4 +1,0 @@
-pub mod Ends
-pub mod Gives
-pub mod Receiving
-pub mod SessionStreams

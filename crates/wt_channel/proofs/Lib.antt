@@ -1,2 +1,0 @@
-pub mod BiChannelLaws
-pub mod SharedResultLaws

@@ -1,3 +1,0 @@
-pub mod BiChannel
-pub mod Poll
-pub mod SharedResult

@@ -1,4 +1,0 @@
-pub mod AuthorityLaws
-pub mod RequestLaws
-pub mod ReservedLaws
-pub mod TargetLaws

@@ -1,3 +1,0 @@
-pub mod ConnectOptions
-pub mod ConnectTarget
-pub mod Reserved

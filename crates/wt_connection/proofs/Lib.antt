@@ -1,4 +1,0 @@
-pub mod Sessions
-pub mod Leaves
-pub mod Stays
-pub mod Gives

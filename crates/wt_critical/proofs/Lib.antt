@@ -1,3 +1,0 @@
-pub mod Consuming
-pub mod ReadOn
-pub mod Runs

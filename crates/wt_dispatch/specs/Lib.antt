@@ -1,4 +1,0 @@
-pub mod Found
-pub mod Phases
-pub mod Requests
-pub mod Rules

@@ -1,3 +1,0 @@
-pub mod Flushed
-pub mod FlushedWhole
-pub mod FlushFacts

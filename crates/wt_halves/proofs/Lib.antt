@@ -1,4 +1,0 @@
-pub mod Answering
-pub mod DriverAnswered
-pub mod Sending
-pub mod Receiving

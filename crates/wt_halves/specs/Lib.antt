@@ -1,4 +1,0 @@
-pub mod Answering
-pub mod Halves
-pub mod Lending
-pub mod Replies

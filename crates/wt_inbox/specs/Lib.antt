@@ -1,6 +1,0 @@
-pub mod Quiet
-pub mod KeptReaders
-pub mod State
-pub mod Stage
-pub mod Moves
-pub mod OfLog

@@ -1,5 +1,0 @@
-use Rattle.wt_sessions.proofs.SessionPieces.{advances_none}
-use Rattle.wt_next_proto.proofs.session_reader.SessionReader.take_piece.Goals as goal
-
-pub returns-then-is_over-clause-advances : goal.returns-then-is_over-clause-advances
-returns-then-is_over-clause-advances c = advances_none _ _

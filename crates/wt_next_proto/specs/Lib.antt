@@ -1,4 +1,0 @@
-pub mod Cursor
-pub mod Reading
-pub mod SessionWords
-pub mod SessionReading

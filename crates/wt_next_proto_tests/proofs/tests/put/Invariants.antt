@@ -1,4 +1,0 @@
-use Rattle.wt_next_proto_tests.proofs.tests.put.Given as goal
-
-abbrev pub ghosts-put_counting : goal.ghosts-put_counting
-ghosts-put_counting g a = record { name = a.blank.name; parts = a.blank.parts }

@@ -1,3 +1,0 @@
-pub mod Restaged
-pub mod ScanSteps
-pub mod Visits

@@ -1,9 +1,0 @@
-pub mod StreamTable
-pub mod Scan
-pub mod Driver
-pub mod Effect
-pub mod Handshake
-pub mod Connect
-pub mod Connection
-pub mod Halves
-pub mod Answers

@@ -1,4 +1,0 @@
-pub mod PieceLaws
-pub mod Copying
-pub mod Joining
-pub mod Rows

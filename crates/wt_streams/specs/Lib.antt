@@ -1,4 +1,0 @@
-pub mod Pieces
-pub mod HalfRules
-pub mod StreamState
-pub mod LastAction

@@ -1,8 +1,0 @@
-use Rattle.wt_transport.specs.Step.{end_now, unread_now}
-use Rattle.wt_typed.specs.Typed.{source_of}
-use Rattle.wt_typed.proofs.ReadLaws.{frames_since}
-use Rattle.wt_typed.proofs.uniremote.Stream+QuicRecvStream+UniRemoteH3.read_frame.Goals as goal
-
-pub returns-clause-begun : goal.returns-clause-begun
-returns-clause-begun c = rw (← c.self.view_is)
-    (frames_since c.poll.result (source_of c.self.inside.stage.header) c.self.inside.stage.frames c.poll.new.self (unread_now c.args.t.now c.self.inside.halves.id) c.args.t.now.is_open (end_now c.args.t.now c.self.inside.halves.id) c.poll.ensures.answer c.poll.ensures.left)
