@@ -145,8 +145,8 @@ def found_for(at, before, f):
     if f.n == 'SessionClosed':
         s, code, reason, by_capsule = f.a
         walk = w.p('Found.session_walk', h, before, s)
-        running = w.m('SessionWalk.session_walk_of', w.m('Windows.session_part', h, before, s), w.antt.D('Running'))
-        return w.m('Windows.lives', h, before, s) and walk == w.antt.D('Closed', (code, reason)) and by_capsule == w.m('SessionWalk.is_over', running)
+        running = w.o('SessionWalk.session_walk_of', w.m('Windows.session_part', h, before, s), w.antt.D('Running'))
+        return w.m('Windows.lives', h, before, s) and walk == w.antt.D('Closed', (code, reason)) and by_capsule == w.o('SessionWalk.is_over', running)
     return True
 
 
@@ -554,8 +554,8 @@ class Equation:
 
     def walks(self, at, given, names):
         """A walk over capsules that took some last bytes of a session's stream but the newest, and that; and one that took none, and some last bytes."""
-        w, start = at.w, at.w.m('SessionWalk.session_start').f['capsules']
-        over = w.o('WalkProgress.progress_after', w.m('SessionWalk.capsule_decides'))
+        w, start = at.w, at.w.o('SessionWalk.session_start').f['capsules']
+        over = w.o('WalkProgress.progress_after', w.o('SessionWalk.capsule_decides'))
         for some in (w.list(w.m('History.contents', at.later, s)) for s in at.sessions):
             for i in range(len(some)):
                 for left in (0, 1) if 'left' in names else (0,):
@@ -583,7 +583,7 @@ class Equation:
             return fixed[kind]
         if name == 'stream':
             return [d('None'), control_of(at)]
-        start = w.m('SessionWalk.session_start')
+        start = w.o('SessionWalk.session_start')
         if kind == 'SessionProgress':
             return [start, w.antt.Rec({'data_left': 1, 'capsules': start.f['capsules']})]
         raise Exception(f'no value for {name} : {kind}')
