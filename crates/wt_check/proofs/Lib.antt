@@ -12,3 +12,7 @@ pub mod OfSessions
 pub mod Accepted
 pub mod Exact
 pub mod Refused
+pub mod DatagramSteps
+pub mod ByIdLaws
+pub mod CheckLaws
+pub mod FactLaws

@@ -6,13 +6,13 @@ use Rattle.wt_check.proofs.Alike.{Alike, All, Behind, More, SamePairs, alike-aft
 use Rattle.wt_check.proofs.Along.{both, throughout}
 use Rattle.wt_check.proofs.OfDatagrams.{first-same, named-names, names-by}
 use Rattle.wt_check.specs.Accepts.{accepted_in, accepts, is_of, may_accept}
-use Rattle.wt_check.specs.Records.{field_of, named_by, names, recorded}
+use Rattle.wt_check.specs.Records.{field_of, named_of, names, recorded}
 use Rattle.wt_check.specs.Verdict.{holds}
 use Rattle.wt_meaning.specs.History.{History, Pair, contents, events, hands_out, is_handed_out}
 use Rattle.wt_meaning.specs.Lawful.{is_lawful}
 use Rattle.wt_meaning.specs.Meaning.{answer_to, next, step, with_pair}
 use Rattle.wt_meaning.specs.Moments.{verdict}
-use Rattle.wt_meaning.specs.Windows.{is_number}
+use Rattle.wt_meaning.specs.Windows.{first_session, is_number}
 use Rattle.wt_promise.proofs.Given.{bi_given, uni_given}
 use Rattle.wt_promise.proofs.Shown.{opened-more, shown-stays, verdict-by}
 use Rattle.wt_promise.specs.Found.{peer_opened}
@@ -80,7 +80,7 @@ given side r h turn k kind accept field l g a b =
 
     name : names r turn ≡ Some g.session
     name =
-        names-by r h turn (first-same r h a.pairs) ∙ ap (λ (t : Turn). named_by h (field_of t)) g.asked ∙ ap (named_by h) (field g.name)
+        names-by r h turn (first-same r h a.pairs) ∙ ap (λ (t : Turn). named_of (first_session h) (field_of t)) g.asked ∙ ap (named_of (first_session h)) (field g.name)
         ∙ named-names h g.name g.session g.of_it
 
 by-reply : (side : Side) (r h : History) (turn : Turn) → IsHistory side h → is_lawful side h turn ≡ true → Alike r h → Alike (with_pair r turn (next side h turn)) (step side h turn)

@@ -7,7 +7,7 @@ use Rattle.std.proofs.lemmas.Slice.Eq.{bytes_eq-Decides}
 use Rattle.wt_check.proofs.Alike.{Alike, SamePairs, brought, same}
 use Rattle.wt_check.proofs.Along.{throughout-after}
 use Rattle.wt_check.specs.Datagrams.{datagrams_hold, is_subsequence, received, receives_rightly}
-use Rattle.wt_check.specs.Records.{field_of, named_by, names, recorded}
+use Rattle.wt_check.specs.Records.{field_of, named_of, names, recorded}
 use Rattle.wt_check.specs.Verdict.{holds}
 use Rattle.wt_meaning.specs.History.{History, Pair}
 use Rattle.wt_meaning.specs.Meaning.{next}
@@ -43,13 +43,13 @@ first-same = same first_session (λ k piece sent h. none (first_session h)) (λ 
 pub names-by : (r h : History) (turn : Turn) → first_session r ≡ first_session h → names r turn ≡ names h turn
 names-by r h turn e = by (field_of turn)
   where
-    by : (o : Option (Option ℕ)) → named_by r o ≡ named_by h o
+    by : (o : Option (Option ℕ)) → named_of (first_session r) o ≡ named_of (first_session h) o
     by None = refl
     by (Some None) = e
     by (Some (Some s)) = refl
 
 -- a session that is named is the one that the field means
-pub named-names : (h : History) (name : Option ℕ) (s : ℕ) → named h name ≡ Some s → named_by h (Some name) ≡ Some s
+pub named-names : (h : History) (name : Option ℕ) (s : ℕ) → named h name ≡ Some s → named_of (first_session h) (Some name) ≡ Some s
 named-names h None s e = e
 named-names h (Some t) s e = by (is_established h t) e
   where
@@ -110,7 +110,7 @@ received-same r h s a = ap (λ (x : Option ℕ × List (List ℕ)). x.1) (same s
     more : (p : Pair) (f g : History) → says f ≡ says g → says (p ∷ f) ≡ says (p ∷ g)
     more p f g e =
         let x : first_session f ≡ first_session g = ap (λ (z : Option ℕ × List (List ℕ)). z.0) e in let y : received f s ≡ received g s = ap (λ (z : Option ℕ × List (List ℕ)). z.1) e in
-        rw (x, y, names-by f g p.turn x) refl
+        rw (x, y) refl
 
 -- ---- a subsequence is found greedily
 

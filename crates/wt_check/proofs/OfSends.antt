@@ -9,7 +9,7 @@ use Rattle.std.proofs.lemmas.Slice.Eq.{bytes_eq-Decides}
 use Rattle.wt_check.proofs.Alike.{Alike, SamePairs, brought, same}
 use Rattle.wt_check.proofs.Along.{both, throughout-after}
 use Rattle.wt_check.proofs.OfAccepts.{handed-same}
-use Rattle.wt_check.proofs.OfDatagrams.{named-names, names-by}
+use Rattle.wt_check.proofs.OfDatagrams.{named-names}
 use Rattle.wt_check.specs.Records.{is_local, is_prefix, names, recorded}
 use Rattle.wt_check.specs.Sends.{accepted, accepted_by, head, header_of, sends_hold, sends_rightly, session_of, watched_in}
 use Rattle.wt_check.specs.Verdict.{holds}
@@ -160,7 +160,7 @@ session-same k r h a = ap (λ (x : Option ℕ × Option ℕ). x.1) (same says qu
     more : (p : Pair) (f g : History) → says f ≡ says g → says (p ∷ f) ≡ says (p ∷ g)
     more p f g e =
         let x : first_session f ≡ first_session g = ap (λ (z : Option ℕ × Option ℕ). z.0) e in let y : session_of f k ≡ session_of g k = ap (λ (z : Option ℕ × Option ℕ). z.1) e in
-        rw (x, y, names-by f g p.turn x) refl
+        rw (x, y) refl
 
 record OpenedFor (h : History) (k : ℕ) (name : Option ℕ) : Type 0 where
   session : ℕ

@@ -1,3 +1,4 @@
+pub mod ById
 pub mod Records
 pub mod Turns
 pub mod Sessions
@@ -7,4 +8,8 @@ pub mod Datagrams
 pub mod Sends
 pub mod Verdict
 pub mod Exact
+pub mod KeptDatagrams
+pub mod KeptFacts
 pub mod Rows
+pub mod Judged
+pub mod Keeps

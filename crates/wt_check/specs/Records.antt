@@ -19,6 +19,11 @@ pub record Record : Type 0 where
   pub side : Side
   pub pairs : List Pair
 
+-- pairs, as the code has them
+abbrev pub pairs_of : List (Turn × Answer) → List Pair
+pairs_of [] = []
+pairs_of (p ∷ later) = record { turn = p.0; answer = p.1 } ∷ pairs_of later
+
 -- turns with their answers
 abbrev pub paired : List Turn → List Answer → List Pair
 paired [] answers = []
@@ -53,14 +58,14 @@ field_of (turns.Call (calls.SessionId name)) = Some name
 field_of _ = None
 
 -- the session that the field names; none in it means the first that was established
-abbrev pub named_by : History → Option (Option ℕ) → Option ℕ
-named_by h None = None
-named_by h (Some None) = first_session h
-named_by h (Some (Some s)) = Some s
+abbrev pub named_of : Option ℕ → Option (Option ℕ) → Option ℕ
+named_of first None = None
+named_of first (Some None) = first
+named_of first (Some (Some s)) = Some s
 
 -- The session that the turn names. wt_meaning's `named` asks that it is established; a record's sessions are what is judged, so here that isn't asked.
 abbrev pub names : History → Turn → Option ℕ
-names h turn = named_by h (field_of turn)
+names h turn = named_of (first_session h) (field_of turn)
 
 -- ---- what may be read
 

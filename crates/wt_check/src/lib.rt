@@ -1,8 +1,15 @@
-//! What a record of a session of any implementation has to hold to: six rules, and the verdict on a record. Definitions and
-//! lemmas alone; README.md has the rules in a table.
+//! What a record of a session of any implementation has to hold to: six rules, and the verdict on a record. README.md has
+//! the rules in a table, and what is proved.
 #![tactic(auto)]
 
+mod by_id;
+pub mod checking;
+mod facts;
+mod feeding;
+mod front;
+mod queue;
 pub mod rows;
+mod rules;
 
 ghost use Rattle.std.specs.Prelude.{List, [], false, length, true, ℕ, ◌++◌, ◌∷◌, ◌≡◌};
 ghost use Rattle.wt_check.specs.Accepts.{accepts};
@@ -21,6 +28,8 @@ ghost use Rattle.wt_promise.specs.Promise.{AllLawful};
 ghost use Rattle.wt_turn.specs.declared.answer.Answer.{Answer};
 ghost use Rattle.wt_turn.specs.declared.turn.Turn.{Turn};
 ghost use Rattle.wt_wire.specs.declared.side.Side.{Side};
+
+pub use checking::{Verdicts, check};
 
 /// Each lawful list of turns, recorded with its answers, keeps each rule throughout, and so is accepted.
 #[tactic(auto, using(crate::proofs::OfTurns::of_turns, crate::proofs::OfSessions::of_sessions, crate::proofs::OfAccepts::of_accepts, crate::proofs::OfReads::of_reads, crate::proofs::OfDatagrams::of_datagrams, crate::proofs::OfSends::of_sends, crate::proofs::Accepted::accepted))]

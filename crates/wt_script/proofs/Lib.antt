@@ -1,6 +1,15 @@
 pub mod HeaderLaws
+pub mod JoinedLaws
 pub mod NumberLaws
 pub mod ScriptLaws
 pub mod UrlLaws
 pub mod PrintLaws
 pub mod Splitting
+pub mod Separators
+pub mod Digits
+pub mod Spelled
+pub mod SpelledErrors
+pub mod SpelledAnswers
+pub mod AnswerAgain
+pub mod ActionLaws
+pub mod ErrorLaws

@@ -1,6 +1,8 @@
 pub mod Words
 pub mod Numbers
 pub mod Addresses
+pub mod AnswerErrors
+pub mod Answers
 pub mod Headers
 pub mod Events
 pub mod Calls
@@ -8,3 +10,4 @@ pub mod Lines
 pub mod Script
 pub mod PrintErrors
 pub mod Print
+pub mod Fits

@@ -1,11 +1,12 @@
 -- The printed lines of answers (this repository's own grammar).
-use Rattle.std.specs.Prelude.{ℕ, List, ◌++◌, codes, Option, Some, None}
+use Rattle.std.specs.Prelude.{ℕ, ◌==◌, Bool, true, false, List, [], ◌∷◌, ◌++◌, codes, Option, Some, None, if◌then◌else◌}
 use Rattle.std.specs.List.{flat_map}
 use Rattle.std.specs.Fmt.{decimal, signed_decimal}
 use Rattle.hex.specs.Hex.{encode_lower}
 use Rattle.wt_wire.specs.declared.addr.Addr.{Addr}
 use Rattle.wt_turn.specs.declared.reply.Reply.{Reply}
 use Rattle.wt_turn.specs.declared.reply.Reply.TheVariants as replies
+use Rattle.wt_turn.specs.declared.stream_error.StreamReadExactError.TheVariants as exacts
 use Rattle.wt_turn.specs.declared.action.Action.{Action}
 use Rattle.wt_turn.specs.declared.action.Action.TheVariants as actions
 use Rattle.wt_turn.specs.declared.answer.Answer.{Answer}
@@ -78,9 +79,60 @@ action_text (actions.Close code reason) = codes "close " ++ coded_text code reas
 abbrev pub next_action_text : Action → List ℕ
 next_action_text a = codes " ; " ++ action_text a
 
+-- ---- sends are joined: where the pieces of a stream end isn't printed
+
+-- a send of these bytes in front of actions: it goes on with one on the same stream
+abbrev pub send_before : ℕ → List ℕ → List Action → List Action
+send_before id bytes (actions.Send k more ∷ later) = if k == id then actions.Send id (bytes ++ more) ∷ later else actions.Send id bytes ∷ actions.Send k more ∷ later
+send_before id bytes later = actions.Send id bytes ∷ later
+
+-- an action in front of actions; a send of no bytes is left out
+abbrev pub before : Action → List Action → List Action
+before (actions.Send id []) later = later
+before (actions.Send id (b ∷ bytes)) later = send_before id (b ∷ bytes) later
+before a later = a ∷ later
+
+-- the actions without sends of no bytes, and of neighbouring sends on one stream one
+abbrev pub joined : List Action → List Action
+joined [] = []
+joined (a ∷ later) = before a (joined later)
+
+-- an error that tells no bytes is printed without those beside it
+abbrev pub normal_reply : Reply → Reply
+normal_reply (replies.ExactFailed (exacts.Read error) piece) = replies.ExactFailed (exacts.Read error) []
+normal_reply reply = reply
+
+-- an answer without what isn't printed
+abbrev pub normal : Answer → Answer
+normal a = record { reply = normal_reply a.reply; actions = joined a.actions }
+
+-- ---- the same, one action after another
+
+-- the stream on which the action sends
+abbrev pub sends_on : Action → Option ℕ
+sends_on (actions.Send id bytes) = Some id
+sends_on _ = None
+
+-- the action sends no bytes
+abbrev pub sends_nothing : Action → Bool
+sends_nothing (actions.Send id []) = true
+sends_nothing _ = false
+
+-- an action after one that sends on this stream, where that sends
+abbrev pub text_after : Option ℕ → Action → List ℕ
+text_after (Some k) (actions.Send id bytes) = if k == id then encode_lower bytes else next_action_text (actions.Send id bytes)
+text_after _ a = next_action_text a
+
+-- actions after one that sends on this stream, where that sends
+abbrev pub texts_after : Option ℕ → List Action → List ℕ
+texts_after sending [] = []
+texts_after sending (a ∷ later) = if sends_nothing a then texts_after sending later else text_after sending a ++ texts_after (sends_on a) later
+
+-- ---- lines
+
 -- the line of an answer, without its line feed
 abbrev pub answer_text : Answer → List ℕ
-answer_text a = reply_text a.reply ++ flat_map next_action_text a.actions
+answer_text a = reply_text a.reply ++ flat_map next_action_text (joined a.actions)
 
 -- the line of an answer
 abbrev pub answer_line : Answer → List ℕ

@@ -66,12 +66,12 @@ connection_text connection.CidsExhausted = codes "cids_exhausted"
 
 -- why a URL is refused
 abbrev pub refusal_text : UrlRefusal → List ℕ
-refusal_text refusals.Parse = codes "invalid_url parse"
-refusal_text refusals.Scheme = codes "invalid_url scheme"
+refusal_text refusals.Parse = codes "parse"
+refusal_text refusals.Scheme = codes "scheme"
 
 -- why a connect failed
 abbrev pub connecting_text : ConnectingError → List ℕ
-connecting_text (connecting.InvalidUrl refusal) = refusal_text refusal
+connecting_text (connecting.InvalidUrl refusal) = codes "invalid_url " ++ refusal_text refusal
 connecting_text (connecting.DnsLookup reason) = codes "dns_lookup " ++ hex_text reason
 connecting_text connecting.DnsNotFound = codes "dns_not_found"
 connecting_text (connecting.ConnectionError error) = codes "connection " ++ connection_text error

@@ -2,22 +2,23 @@
 //!
 //! A line is the reply, then for each action ` ; ` and the action. Bytes and texts are lower-case
 //! hexadecimal, `-` for none; codes and ids are decimal.
-ghost use Rattle.std.specs.Prelude.{◌≡◌, ◌++◌, IfOk, OnOk, string_bytes};
+ghost use Rattle.std.specs.Prelude.{◌≡◌, ◌++◌, IfOk, OnOk, Option, ℕ, codes, string_bytes};
 ghost use Rattle.std.specs.Fmt.{decimal, signed_decimal};
 ghost use Rattle.std.specs.List.{flat_map};
-ghost use Rattle.wt_script.specs.Print.{dial_text, field_text, read_text, request_text, reply_text, action_text, next_action_text, answer_text};
+ghost use Rattle.wt_script.specs.Print.{action_text, answer_text, dial_text, field_text, joined, next_action_text, read_text, reply_text, request_text, sends_nothing, sends_on, text_after};
 ghost use Rattle.wt_script.specs.PrintErrors.{code_text, connecting_text, datagram_text, exact_text, opening_text, read_error_text, write_text};
 
 mod errors;
 mod texts;
 
+use crate::names;
 use crate::print::errors::{
     push_connecting, push_datagram, push_ended, push_exact, push_opening, push_read_error,
     push_write,
 };
 use crate::print::texts::{
-    push_address, push_coded, push_digits, push_named_piece, push_named_text, push_numbered,
-    push_optional, push_signed, push_text, push_two_numbers,
+    push_address, push_bytes, push_coded, push_digits, push_named_piece, push_numbered,
+    push_optional, push_signed, push_text, push_two_numbers, push_word,
 };
 use std::alloc::Global;
 use wt_turn::action::Action;
@@ -74,113 +75,113 @@ fn push_fields(alloc: Global, out: &mut String, headers: &HeaderList) -> Result<
 fn push_request(
     alloc: Global,
     out: &mut String,
-    name: &str,
+    word: &str,
     id: SessionId,
     headers: &HeaderList,
 ) -> Result<(), OutOfMemory>
-    ensures { OnOk result (string_bytes out.new ≡ string_bytes out.old ++ (name.now ++ request_text id headers.now)) }
+    ensures { OnOk result (string_bytes out.new ≡ string_bytes out.old ++ (word.now ++ codes " " ++ request_text id headers.now)) }
 {
-    push_session(out, name, id)?;
+    push_session(out, word, id)?;
     push_fields(alloc, out, headers)
 }
 
-fn push_session(out: &mut String, name: &str, id: SessionId) -> Result<(), OutOfMemory>
-    ensures { OnOk result (string_bytes out.new ≡ string_bytes out.old ++ (name.now ++ decimal id)) }
+fn push_session(out: &mut String, word: &str, id: SessionId) -> Result<(), OutOfMemory>
+    ensures { OnOk result (string_bytes out.new ≡ string_bytes out.old ++ (word.now ++ codes " " ++ decimal id)) }
 {
-    push_numbered(out, name, id.session_stream().into_u64())
+    push_numbered(out, word, id.session_stream().into_u64())
 }
 
-fn push_stream(out: &mut String, name: &str, id: StreamId) -> Result<(), OutOfMemory>
-    ensures { OnOk result (string_bytes out.new ≡ string_bytes out.old ++ (name.now ++ decimal id)) }
+fn push_stream(out: &mut String, word: &str, id: StreamId) -> Result<(), OutOfMemory>
+    ensures { OnOk result (string_bytes out.new ≡ string_bytes out.old ++ (word.now ++ codes " " ++ decimal id)) }
 {
-    push_numbered(out, name, id.into_u64())
+    push_numbered(out, word, id.into_u64())
 }
 
 fn push_read(alloc: Global, out: &mut String, read: &Option<Piece>) -> Result<(), OutOfMemory>
     ensures { OnOk result (string_bytes out.new ≡ string_bytes out.old ++ read_text read.now) }
 {
     match read {
-        None => push_text(out, "end"),
-        Some(piece) => push_named_piece(alloc, out, "read ", piece),
+        None => push_text(out, names::END),
+        Some(piece) => push_named_piece(alloc, out, names::READ, piece),
     }
 }
 
 fn push_connect_failed(
     alloc: Global,
     out: &mut String,
-    name: &str,
+    word: &str,
     error: &ConnectingError,
 ) -> Result<(), OutOfMemory>
-    ensures { OnOk result (string_bytes out.new ≡ string_bytes out.old ++ (name.now ++ connecting_text error.now)) }
+    ensures { OnOk result (string_bytes out.new ≡ string_bytes out.old ++ (word.now ++ codes " " ++ connecting_text error.now)) }
 {
-    push_text(out, name)?;
+    push_word(out, word)?;
     push_connecting(alloc, out, error)
 }
 
 fn push_opening_failed(
     out: &mut String,
-    name: &str,
+    word: &str,
     error: StreamOpeningError,
 ) -> Result<(), OutOfMemory>
-    ensures { OnOk result (string_bytes out.new ≡ string_bytes out.old ++ (name.now ++ opening_text error)) }
+    ensures { OnOk result (string_bytes out.new ≡ string_bytes out.old ++ (word.now ++ codes " " ++ opening_text error)) }
 {
-    push_text(out, name)?;
+    push_word(out, word)?;
     push_opening(out, error)
 }
 
 fn push_write_failed(
     out: &mut String,
-    name: &str,
+    word: &str,
     error: StreamWriteError,
 ) -> Result<(), OutOfMemory>
-    ensures { OnOk result (string_bytes out.new ≡ string_bytes out.old ++ (name.now ++ write_text error)) }
+    ensures { OnOk result (string_bytes out.new ≡ string_bytes out.old ++ (word.now ++ codes " " ++ write_text error)) }
 {
-    push_text(out, name)?;
+    push_word(out, word)?;
     push_write(out, error)
 }
 
-fn push_read_failed(out: &mut String, name: &str, error: StreamReadError) -> Result<(), OutOfMemory>
-    ensures { OnOk result (string_bytes out.new ≡ string_bytes out.old ++ (name.now ++ read_error_text error)) }
+fn push_read_failed(out: &mut String, word: &str, error: StreamReadError) -> Result<(), OutOfMemory>
+    ensures { OnOk result (string_bytes out.new ≡ string_bytes out.old ++ (word.now ++ codes " " ++ read_error_text error)) }
 {
-    push_text(out, name)?;
+    push_word(out, word)?;
     push_read_error(out, error)
 }
 
 fn push_exact_failed(
     alloc: Global,
     out: &mut String,
-    name: &str,
+    word: &str,
     error: StreamReadExactError,
     piece: &Piece,
 ) -> Result<(), OutOfMemory>
-    ensures { OnOk result (string_bytes out.new ≡ string_bytes out.old ++ (name.now ++ exact_text error piece.now)) }
+    ensures { OnOk result (string_bytes out.new ≡ string_bytes out.old ++ (word.now ++ codes " " ++ exact_text error piece.now)) }
 {
-    push_text(out, name)?;
+    push_word(out, word)?;
     push_exact(alloc, out, error, piece)
 }
 
 fn push_datagram_failed(
     out: &mut String,
-    name: &str,
+    word: &str,
     error: SendDatagramError,
 ) -> Result<(), OutOfMemory>
-    ensures { OnOk result (string_bytes out.new ≡ string_bytes out.old ++ (name.now ++ datagram_text error)) }
+    ensures { OnOk result (string_bytes out.new ≡ string_bytes out.old ++ (word.now ++ codes " " ++ datagram_text error)) }
 {
-    push_text(out, name)?;
+    push_word(out, word)?;
     push_datagram(out, error)
 }
 
-fn push_size(out: &mut String, name: &str, size: Option<u64>) -> Result<(), OutOfMemory>
-    ensures { OnOk result (string_bytes out.new ≡ string_bytes out.old ++ (name.now ++ code_text size)) }
+fn push_size(out: &mut String, word: &str, size: Option<u64>) -> Result<(), OutOfMemory>
+    ensures { OnOk result (string_bytes out.new ≡ string_bytes out.old ++ (word.now ++ codes " " ++ code_text size)) }
 {
-    push_text(out, name)?;
+    push_word(out, word)?;
     push_optional(out, size)
 }
 
-fn push_priority(out: &mut String, name: &str, priority: i32) -> Result<(), OutOfMemory>
-    ensures { OnOk result (string_bytes out.new ≡ string_bytes out.old ++ (name.now ++ signed_decimal priority)) }
+fn push_priority(out: &mut String, word: &str, priority: i32) -> Result<(), OutOfMemory>
+    ensures { OnOk result (string_bytes out.new ≡ string_bytes out.old ++ (word.now ++ codes " " ++ signed_decimal priority)) }
 {
-    push_text(out, name)?;
+    push_word(out, word)?;
     push_signed(out, priority)
 }
 
@@ -188,90 +189,149 @@ fn push_reply(alloc: Global, out: &mut String, reply: &Reply) -> Result<(), OutO
     ensures { OnOk result (string_bytes out.new ≡ string_bytes out.old ++ reply_text reply.now) }
 {
     match reply {
-        Reply::Done => push_text(out, "done"),
-        Reply::Pending => push_text(out, "pending"),
-        Reply::NoSession => push_text(out, "no_session"),
-        Reply::NoStream => push_text(out, "no_stream"),
-        Reply::Request { id, headers } => push_request(alloc, out, "request ", *id, headers),
-        Reply::Session(id) => push_session(out, "session ", *id),
-        Reply::Rejected => push_text(out, "rejected"),
-        Reply::Uni(id) => push_stream(out, "uni ", *id),
-        Reply::Bi(id) => push_stream(out, "bi ", *id),
-        Reply::Opening(id) => push_stream(out, "opening ", *id),
-        Reply::SendReady(id) => push_stream(out, "send_ready ", *id),
-        Reply::BiReady(id) => push_stream(out, "bi_ready ", *id),
-        Reply::Id(id) => push_session(out, "id ", *id),
-        Reply::Datagram(piece) => push_named_piece(alloc, out, "datagram ", piece),
-        Reply::Size(size) => push_size(out, "size ", *size),
-        Reply::Written(count) => push_numbered(out, "written ", *count),
-        Reply::AllWritten => push_text(out, "all_written"),
-        Reply::Count(count) => push_numbered(out, "count ", *count),
-        Reply::Finished => push_text(out, "finished"),
-        Reply::Priority(priority) => push_priority(out, "priority ", *priority),
-        Reply::ClosedStream => push_text(out, "closed_stream"),
+        Reply::Done => push_text(out, names::DONE),
+        Reply::Pending => push_text(out, names::PENDING),
+        Reply::NoSession => push_text(out, names::NO_SESSION),
+        Reply::NoStream => push_text(out, names::NO_STREAM),
+        Reply::Request { id, headers } => push_request(alloc, out, names::REQUEST, *id, headers),
+        Reply::Session(id) => push_session(out, names::SESSION, *id),
+        Reply::Rejected => push_text(out, names::REJECTED),
+        Reply::Uni(id) => push_stream(out, names::UNI, *id),
+        Reply::Bi(id) => push_stream(out, names::BI, *id),
+        Reply::Opening(id) => push_stream(out, names::OPENING, *id),
+        Reply::SendReady(id) => push_stream(out, names::SEND_READY, *id),
+        Reply::BiReady(id) => push_stream(out, names::BI_READY, *id),
+        Reply::Id(id) => push_session(out, names::ID, *id),
+        Reply::Datagram(piece) => push_named_piece(alloc, out, names::DATAGRAM, piece),
+        Reply::Size(size) => push_size(out, names::SIZE, *size),
+        Reply::Written(count) => push_numbered(out, names::WRITTEN, *count),
+        Reply::AllWritten => push_text(out, names::ALL_WRITTEN),
+        Reply::Count(count) => push_numbered(out, names::COUNT, *count),
+        Reply::Finished => push_text(out, names::FINISHED),
+        Reply::Priority(priority) => push_priority(out, names::PRIORITY, *priority),
+        Reply::ClosedStream => push_text(out, names::CLOSED_STREAM),
         Reply::Read(read) => push_read(alloc, out, read),
-        Reply::Exact(piece) => push_named_piece(alloc, out, "exact ", piece),
-        Reply::Failed(error) => push_ended(alloc, out, "failed ", error),
-        Reply::Closed(error) => push_ended(alloc, out, "closed ", error),
-        Reply::ConnectFailed(error) => push_connect_failed(alloc, out, "connect_failed ", error),
-        Reply::OpeningFailed(error) => push_opening_failed(out, "opening_failed ", *error),
-        Reply::WriteFailed(error) => push_write_failed(out, "write_failed ", *error),
-        Reply::StoppedBy(error) => push_write_failed(out, "stopped_by ", *error),
-        Reply::ReadFailed(error) => push_read_failed(out, "read_failed ", *error),
+        Reply::Exact(piece) => push_named_piece(alloc, out, names::EXACT, piece),
+        Reply::Failed(error) => push_ended(alloc, out, names::FAILED, error),
+        Reply::Closed(error) => push_ended(alloc, out, names::CLOSED, error),
+        Reply::ConnectFailed(error) => push_connect_failed(
+            alloc,
+            out,
+            names::CONNECT_FAILED,
+            error,
+        ),
+        Reply::OpeningFailed(error) => push_opening_failed(out, names::OPENING_FAILED, *error),
+        Reply::WriteFailed(error) => push_write_failed(out, names::WRITE_FAILED, *error),
+        Reply::StoppedBy(error) => push_write_failed(out, names::STOPPED_BY, *error),
+        Reply::ReadFailed(error) => push_read_failed(out, names::READ_FAILED, *error),
         Reply::ExactFailed(error, piece) => push_exact_failed(
             alloc,
             out,
-            "exact_failed ",
+            names::EXACT_FAILED,
             *error,
             piece,
         ),
-        Reply::DatagramFailed(error) => push_datagram_failed(out, "datagram_failed ", *error),
+        Reply::DatagramFailed(error) => push_datagram_failed(out, names::DATAGRAM_FAILED, *error),
     }
 }
 
 fn push_dial(
     alloc: Global,
     out: &mut String,
-    text: &str,
+    word: &str,
     address: Addr,
     name: &Text,
 ) -> Result<(), OutOfMemory>
-    ensures { OnOk result (string_bytes out.new ≡ string_bytes out.old ++ (text.now ++ dial_text address name.now)) }
+    ensures { OnOk result (string_bytes out.new ≡ string_bytes out.old ++ (word.now ++ codes " " ++ dial_text address name.now)) }
 {
-    push_text(out, text)?;
+    push_word(out, word)?;
     push_address(alloc, out, address)?;
-    push_named_text(alloc, out, " ", name)
+    push_text(out, " ")?;
+    push_bytes(alloc, out, name.as_str().as_bytes())
 }
 
 fn push_action(alloc: Global, out: &mut String, action: &Action) -> Result<(), OutOfMemory>
     ensures { OnOk result (string_bytes out.new ≡ string_bytes out.old ++ action_text action.now) }
 {
     match action {
-        Action::Dial { address, name } => push_dial(alloc, out, "dial ", *address, name),
-        Action::Opened { id } => push_stream(out, "opened ", *id),
+        Action::Dial { address, name } => push_dial(alloc, out, names::DIAL, *address, name),
+        Action::Opened { id } => push_stream(out, names::OPENED, *id),
         Action::Send { id, piece } => {
-            push_coded(alloc, out, "send ", id.into_u64(), piece.as_slice())
+            push_coded(alloc, out, names::SEND, id.into_u64(), piece.as_slice())
         }
-        Action::Finish { id } => push_stream(out, "finish ", *id),
+        Action::Finish { id } => push_stream(out, names::FINISH, *id),
         Action::ResetOut { id, code } => {
-            push_two_numbers(out, "reset ", id.into_u64(), code.into_inner())
+            push_two_numbers(out, names::RESET, id.into_u64(), code.into_inner())
         }
         Action::StopOut { id, code } => {
-            push_two_numbers(out, "stop ", id.into_u64(), code.into_inner())
+            push_two_numbers(out, names::STOP, id.into_u64(), code.into_inner())
         }
-        Action::DatagramOut { piece } => { push_named_piece(alloc, out, "datagram_out ", piece) }
+        Action::DatagramOut { piece } => {
+            push_named_piece(alloc, out, names::DATAGRAM_OUT, piece)
+        }
         Action::Close { code, reason } => {
-            push_coded(alloc, out, "close ", code.into_inner(), reason.as_slice())
+            push_coded(
+                alloc,
+                out,
+                names::CLOSE,
+                code.into_inner(),
+                reason.as_slice(),
+            )
         }
     }
 }
 
-fn push_actions(alloc: Global, out: &mut String, actions: &[Action]) -> Result<(), OutOfMemory>
-    ensures { OnOk result (string_bytes out.new ≡ string_bytes out.old ++ flat_map next_action_text actions.now) }
+/// The stream on which the action sends.
+fn sends_on(action: &Action) -> Option<StreamId>
+    ensures { result ≡ sends_on action.now }
 {
+    match action {
+        Action::Send { id, piece: _ } => Some(*id),
+        _ => None,
+    }
+}
+
+/// Adds an action after one that sends on this stream, where that sends: it goes on with a send on the same stream.
+fn push_next(
+    alloc: Global,
+    out: &mut String,
+    sending: Option<StreamId>,
+    action: &Action,
+) -> Result<(), OutOfMemory>
+    ensures { OnOk result (string_bytes out.new ≡ string_bytes out.old ++ text_after sending action.now) }
+{
+    match (sending, action) {
+        (Some(before), Action::Send { id, piece }) if before == *id => {
+            push_digits(alloc, out, piece.as_slice())
+        }
+        _ => {
+            push_text(out, " ; ")?;
+            push_action(alloc, out, action)
+        }
+    }
+}
+
+/// Whether the action sends no bytes.
+fn sends_nothing(action: &Action) -> bool
+    ensures { result ≡ sends_nothing action.now }
+{
+    match action {
+        Action::Send { id: _, piece } => piece.as_slice().is_empty(),
+        _ => false,
+    }
+}
+
+/// Adds the actions. A send of no bytes is left out, and neighbouring sends on one stream are one.
+#[tactic(auto, using(crate::proofs::JoinedLaws::joined_text))]
+fn push_actions(alloc: Global, out: &mut String, actions: &[Action]) -> Result<(), OutOfMemory>
+    ensures { OnOk result (string_bytes out.new ≡ string_bytes out.old ++ flat_map next_action_text (joined actions.now)) }
+{
+    let mut sending = None;
     for action in actions {
-        push_text(out, " ; ")?;
-        push_action(alloc, out, action)?;
+        if !sends_nothing(action) {
+            push_next(alloc, out, sending, action)?;
+            sending = sends_on(action);
+        }
     }
     Ok(())
 }

@@ -4,13 +4,13 @@ ghost use Rattle.std.specs.Option.{option_map};
 ghost use Rattle.wt_script.specs.Words.{last_line, lines};
 ghost use Rattle.wt_script.specs.Script.{no_lines, read_lines, script_at_end, script_of, side_of, turn_of, with_line, with_lines, with_side, with_turn};
 
-mod addresses;
+pub(crate) mod addresses;
 mod calls;
 pub mod events;
-mod headers;
+pub(crate) mod headers;
 pub mod lines;
 pub mod numbers;
-mod pairs;
+pub(crate) mod pairs;
 pub mod words;
 
 use crate::script::lines::{read_side, read_turn};

@@ -1,9 +1,10 @@
 //! The parts of printed lines: texts, numbers, bytes and addresses.
-ghost use Rattle.std.specs.Prelude.{◌≡◌, ◌++◌, OnOk, string_bytes};
+ghost use Rattle.std.specs.Prelude.{◌≡◌, ◌++◌, OnOk, codes, string_bytes};
 ghost use Rattle.std.specs.Fmt.{decimal, signed_decimal};
 ghost use Rattle.hex.specs.Hex.{encode_lower};
 ghost use Rattle.wt_script.specs.PrintErrors.{hex_text, coded_text, numbers_text, socket_text, code_text, versioned_address_text};
 
+use crate::names;
 use itoa::Buffer;
 use std::alloc::Global;
 use wt_turn::piece::Piece;
@@ -35,24 +36,32 @@ pub fn push_signed(out: &mut String, number: i32) -> Result<(), OutOfMemory>
     Ok(())
 }
 
-/// Adds a name, and a number in decimal.
-pub fn push_numbered(out: &mut String, name: &str, number: u64) -> Result<(), OutOfMemory>
-    ensures { OnOk result (string_bytes out.new ≡ string_bytes out.old ++ (name.now ++ decimal number)) }
+/// Adds a word, and the blank in front of what follows it.
+pub fn push_word(out: &mut String, word: &str) -> Result<(), OutOfMemory>
+    ensures { OnOk result (string_bytes out.new ≡ string_bytes out.old ++ (word.now ++ codes " ")) }
 {
-    push_text(out, name)?;
+    push_text(out, word)?;
+    push_text(out, " ")
+}
+
+/// Adds a word, and a number in decimal.
+pub fn push_numbered(out: &mut String, word: &str, number: u64) -> Result<(), OutOfMemory>
+    ensures { OnOk result (string_bytes out.new ≡ string_bytes out.old ++ (word.now ++ codes " " ++ decimal number)) }
+{
+    push_word(out, word)?;
     push_number(out, number)
 }
 
-/// Adds a name, and two numbers in decimal.
+/// Adds a word, and two numbers in decimal.
 pub fn push_two_numbers(
     out: &mut String,
-    name: &str,
+    word: &str,
     first: u64,
     second: u64,
 ) -> Result<(), OutOfMemory>
-    ensures { OnOk result (string_bytes out.new ≡ string_bytes out.old ++ (name.now ++ numbers_text first second)) }
+    ensures { OnOk result (string_bytes out.new ≡ string_bytes out.old ++ (word.now ++ codes " " ++ numbers_text first second)) }
 {
-    push_numbered(out, name, first)?;
+    push_numbered(out, word, first)?;
     push_text(out, " ")?;
     push_number(out, second)
 }
@@ -75,55 +84,56 @@ pub fn push_bytes(alloc: Global, out: &mut String, bytes: &[u8]) -> Result<(), O
     }
 }
 
-/// Adds a name, and bytes.
+/// Adds a word, and bytes.
 pub fn push_named_bytes(
     alloc: Global,
     out: &mut String,
-    name: &str,
+    word: &str,
     bytes: &[u8],
 ) -> Result<(), OutOfMemory>
-    ensures { OnOk result (string_bytes out.new ≡ string_bytes out.old ++ (name.now ++ hex_text bytes.now)) }
+    ensures { OnOk result (string_bytes out.new ≡ string_bytes out.old ++ (word.now ++ codes " " ++ hex_text bytes.now)) }
 {
-    push_text(out, name)?;
+    push_word(out, word)?;
     push_bytes(alloc, out, bytes)
 }
 
-/// Adds a name, and the bytes of a text.
+/// Adds a word, and the bytes of a text.
 pub fn push_named_text(
     alloc: Global,
     out: &mut String,
-    name: &str,
+    word: &str,
     text: &Text,
 ) -> Result<(), OutOfMemory>
-    ensures { OnOk result (string_bytes out.new ≡ string_bytes out.old ++ (name.now ++ hex_text text.now)) }
+    ensures { OnOk result (string_bytes out.new ≡ string_bytes out.old ++ (word.now ++ codes " " ++ hex_text text.now)) }
 {
-    push_named_bytes(alloc, out, name, text.as_str().as_bytes())
+    push_named_bytes(alloc, out, word, text.as_str().as_bytes())
 }
 
-/// Adds a name, and the bytes of a piece.
+/// Adds a word, and the bytes of a piece.
 pub fn push_named_piece(
     alloc: Global,
     out: &mut String,
-    name: &str,
+    word: &str,
     piece: &Piece,
 ) -> Result<(), OutOfMemory>
-    ensures { OnOk result (string_bytes out.new ≡ string_bytes out.old ++ (name.now ++ hex_text piece.now)) }
+    ensures { OnOk result (string_bytes out.new ≡ string_bytes out.old ++ (word.now ++ codes " " ++ hex_text piece.now)) }
 {
-    push_named_bytes(alloc, out, name, piece.as_slice())
+    push_named_bytes(alloc, out, word, piece.as_slice())
 }
 
-/// Adds a name, a number and bytes.
+/// Adds a word, a number and bytes.
 pub fn push_coded(
     alloc: Global,
     out: &mut String,
-    name: &str,
+    word: &str,
     code: u64,
     bytes: &[u8],
 ) -> Result<(), OutOfMemory>
-    ensures { OnOk result (string_bytes out.new ≡ string_bytes out.old ++ (name.now ++ coded_text code bytes.now)) }
+    ensures { OnOk result (string_bytes out.new ≡ string_bytes out.old ++ (word.now ++ codes " " ++ coded_text code bytes.now)) }
 {
-    push_numbered(out, name, code)?;
-    push_named_bytes(alloc, out, " ", bytes)
+    push_numbered(out, word, code)?;
+    push_text(out, " ")?;
+    push_bytes(alloc, out, bytes)
 }
 
 /// Adds a number, `none` where there is none.
@@ -131,7 +141,7 @@ pub fn push_optional(out: &mut String, number: Option<u64>) -> Result<(), OutOfM
     ensures { OnOk result (string_bytes out.new ≡ string_bytes out.old ++ code_text number) }
 {
     match number {
-        None => push_text(out, "none"),
+        None => push_text(out, names::NONE),
         Some(number) => push_number(out, number),
     }
 }
@@ -147,7 +157,8 @@ fn push_address_parts(
 {
     push_text(out, version)?;
     push_digits(alloc, out, ip)?;
-    push_numbered(out, ":", port as u64)
+    push_text(out, ":")?;
+    push_number(out, port as u64)
 }
 
 /// Adds an address.

@@ -53,7 +53,7 @@ fn address_from(version: &[u8], ip: &[u8], port: &[u8]) -> Option<Addr>
 }
 
 /// An address by its version, its bytes and its port.
-fn read_address(parts: &Parts) -> Option<Addr>
+pub fn read_address(parts: &Parts) -> Option<Addr>
     ensures { result ≡ address_of_words parts.now }
 {
     let (version, rest) = parts.split_first()?;

@@ -110,6 +110,13 @@ pub fn is_name(word: &[u8], text: &[u8]) -> bool
     word.len() == text.len() && are_same(word, text)
 }
 
+/// Whether the word is this text.
+pub fn is_word(word: &[u8], text: &str) -> bool
+    ensures { result ≡ is_word word.now text.now }
+{
+    is_name(word, text.as_bytes())
+}
+
 #[inline(never)]
 fn are_same(word: &[u8], text: &[u8]) -> bool
     ensures { result ≡ is_word word.now text.now }
