@@ -19,9 +19,9 @@ def sentence(name):
 
 
 class Words:
-    """The definitions, by `File.name`, of wt_meaning (`m`), wt_promise (`p`), wt_seam_spec (`s`), wt_proto (`o`), wt_message (`b`)."""
+    """The definitions, by `File.name`, of wt_meaning (`m`), wt_promise (`p`), wt_turn (`s`), wt_proto (`o`), wt_message (`b`)."""
 
-    CRATES = {'m': 'wt_meaning', 'p': 'wt_promise', 's': 'wt_seam_spec', 'o': 'wt_proto', 'b': 'wt_message'}
+    CRATES = {'m': 'wt_meaning', 'p': 'wt_promise', 's': 'wt_turn', 'o': 'wt_proto', 'b': 'wt_message'}
 
     def __init__(self, antt):
         self.antt, self.known = antt, {}

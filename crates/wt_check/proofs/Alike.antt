@@ -14,7 +14,7 @@ use Rattle.wt_promise.proofs.Flow.{clash}
 use Rattle.wt_promise.proofs.LateTurns.{still-shut}
 use Rattle.wt_promise.proofs.SettingsOut.{open-events}
 use Rattle.wt_promise.proofs.Stays.{any-newest}
-use Rattle.wt_seam_spec.specs.Reports.{end_of, is_connected, is_running}
+use Rattle.wt_turn.specs.Reports.{end_of, is_connected, is_running}
 use Rattle.wt_turn.specs.Log.{Event, closes}
 use Rattle.wt_turn.specs.Turns.{event_of}
 use Rattle.wt_turn.specs.declared.action.Action.{Action}

@@ -27,8 +27,8 @@ use Rattle.wt_promise.proofs.Waiting.{named-established}
 use Rattle.wt_promise.specs.Owed.{head_of, owed_by_call, owed_if}
 use Rattle.wt_promise.specs.Promise.{IsHistory, is_acceptance}
 use Rattle.wt_promise.specs.Sides.{opens_of}
-use Rattle.wt_seam_spec.specs.Joined.{newest_first, send_of}
-use Rattle.wt_seam_spec.specs.Streams.{local_count, opens}
+use Rattle.wt_turn.specs.Joined.{newest_first, send_of}
+use Rattle.wt_turn.specs.Streams.{local_count, opens}
 use Rattle.wt_turn.specs.declared.action.Action.{Action}
 use Rattle.wt_turn.specs.declared.answer.Answer.{Answer}
 use Rattle.wt_turn.specs.declared.call.Call.{Call}

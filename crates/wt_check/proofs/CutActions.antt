@@ -13,8 +13,8 @@ use Rattle.wt_promise.proofs.Accepted.{or-left, or-right}
 use Rattle.wt_promise.proofs.BytesOut.{bytes_on, piece_on}
 use Rattle.wt_promise.proofs.ControlKept.{next-bytes, own-bytes}
 use Rattle.wt_promise.specs.Sides.{opens_of}
-use Rattle.wt_seam_spec.specs.Joined.{join_all, join_one}
-use Rattle.wt_seam_spec.specs.Streams.{local_uni}
+use Rattle.wt_turn.specs.Joined.{join_all, join_one}
+use Rattle.wt_turn.specs.Streams.{local_uni}
 use Rattle.wt_turn.specs.Log.{closes}
 use Rattle.wt_turn.specs.declared.action.Action.{Action}
 use Rattle.wt_turn.specs.declared.turn.Turn.{Turn}

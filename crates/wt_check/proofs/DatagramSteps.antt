@@ -16,7 +16,7 @@ use Rattle.wt_message.specs.Datagram.{datagram_of}
 use Rattle.wt_promise.specs.Found.{said_by}
 use Rattle.wt_promise.specs.Promise.{payload_in}
 use Rattle.wt_promise.specs.Sides.{arrived}
-use Rattle.wt_seam_spec.specs.Reports.{datagrams_of}
+use Rattle.wt_turn.specs.Reports.{datagrams_of}
 use Rattle.wt_turn.specs.Log.{Event}
 use Rattle.wt_turn.specs.Turns.{event_of}
 use Rattle.wt_turn.specs.declared.reply.Reply.{Reply}

@@ -23,8 +23,8 @@ use Rattle.wt_proto.proofs.UniLaws.{uni_verdict_stays}
 use Rattle.wt_proto.specs.Bi.{bi_verdict_of}
 use Rattle.wt_proto.specs.Uni.{is_final, uni_verdict_of}
 use Rattle.wt_proto.specs.declared.verdict.Verdict.{Verdict}
-use Rattle.wt_seam_spec.specs.Reports.{end_of}
-use Rattle.wt_seam_spec.specs.Streams.{peer_bi, peer_count, peer_uni}
+use Rattle.wt_turn.specs.Reports.{end_of}
+use Rattle.wt_turn.specs.Streams.{peer_bi, peer_count, peer_uni}
 use Rattle.wt_turn.specs.Log.{Event}
 use Rattle.wt_turn.specs.declared.call.Call.{Call}
 use Rattle.wt_turn.specs.declared.reply.Reply.{Reply}

@@ -19,7 +19,7 @@ use Rattle.wt_message.specs.Datagram.{datagram_of}
 use Rattle.wt_promise.specs.Found.{IsSubsequence, LeftOut, Nil, Taken, said_by}
 use Rattle.wt_promise.specs.Promise.{AllLawful, IsHistory, payload_in, payloads}
 use Rattle.wt_promise.specs.Sides.{arrived}
-use Rattle.wt_seam_spec.specs.Reports.{datagrams_of}
+use Rattle.wt_turn.specs.Reports.{datagrams_of}
 use Rattle.wt_turn.specs.Log.{Event}
 use Rattle.wt_turn.specs.declared.action.Action.{Action}
 use Rattle.wt_turn.specs.declared.answer.Answer.{Answer}

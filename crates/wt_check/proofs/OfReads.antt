@@ -29,8 +29,8 @@ use Rattle.wt_promise.proofs.Tables.{by-row, by-value, no-row}
 use Rattle.wt_promise.proofs.Verdicts.{AStream, ByAccept, ByOpening, HandedBy, IsStream, admitted-peers, admitted-verdict, handed-by}
 use Rattle.wt_promise.specs.Promise.{AllLawful, IsHistory}
 use Rattle.wt_proto.specs.declared.verdict.Verdict.{Verdict}
-use Rattle.wt_seam_spec.specs.Reports.{end_of}
-use Rattle.wt_seam_spec.specs.Streams.{local_uni}
+use Rattle.wt_turn.specs.Reports.{end_of}
+use Rattle.wt_turn.specs.Streams.{local_uni}
 use Rattle.wt_turn.specs.Log.{Event}
 use Rattle.wt_turn.specs.declared.answer.Answer.{Answer}
 use Rattle.wt_turn.specs.declared.reply.Reply.{Reply}

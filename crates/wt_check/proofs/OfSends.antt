@@ -33,8 +33,8 @@ use Rattle.wt_promise.proofs.Theorems.{sends_theorem}
 use Rattle.wt_promise.proofs.Verdicts.{ByAccept, ByOpening, HandedBy, admitted-peers, handed-by}
 use Rattle.wt_promise.specs.Owed.{header_on}
 use Rattle.wt_promise.specs.Promise.{AllLawful, IsHistory, begun_on, frame_or, head_on}
-use Rattle.wt_seam_spec.specs.Reports.{stop_of}
-use Rattle.wt_seam_spec.specs.Streams.{local_bi, local_uni, peer_bi, peer_uni}
+use Rattle.wt_turn.specs.Reports.{stop_of}
+use Rattle.wt_turn.specs.Streams.{local_bi, local_uni, peer_bi, peer_uni}
 use Rattle.wt_turn.specs.declared.action.Action.{Action}
 use Rattle.wt_turn.specs.declared.answer.Answer.{Answer}
 use Rattle.wt_turn.specs.declared.call.Call.{Call}

@@ -42,8 +42,8 @@ use Rattle.wt_promise.specs.Promise.{AllLawful, EstablishedFor, IsHistory, is_ac
 use Rattle.wt_promise.specs.Sides.{AsksFor, SessionGiven, opens_of}
 use Rattle.wt_proto.specs.ResponseWalk.{response_walk_of}
 use Rattle.wt_proto.specs.declared.control_walk.ControlWalk.{ControlWalk}
-use Rattle.wt_seam_spec.specs.Reports.{end_of}
-use Rattle.wt_seam_spec.specs.Streams.{local_count, local_uni, peer_count, peer_uni}
+use Rattle.wt_turn.specs.Reports.{end_of}
+use Rattle.wt_turn.specs.Streams.{local_count, local_uni, peer_count, peer_uni}
 use Rattle.wt_turn.specs.Log.{Event, closes}
 use Rattle.wt_turn.specs.declared.answer.Answer.{Answer}
 use Rattle.wt_turn.specs.declared.call.Call.{Call}

@@ -21,9 +21,9 @@ use Rattle.wt_promise.proofs.OpensNext.{ids-count, local-small, opens_in_order}
 use Rattle.wt_promise.proofs.Stays.{any-newest}
 use Rattle.wt_promise.specs.Promise.{AllLawful, IsHistory}
 use Rattle.wt_promise.specs.Sides.{opens_of}
-use Rattle.wt_seam_spec.specs.Reports.{credit, end_of, is_connected, is_running}
-use Rattle.wt_seam_spec.specs.Sent.{dials, finishes}
-use Rattle.wt_seam_spec.specs.Streams.{local_bi, local_count, local_uni, peer_bi, peer_count, peer_uni}
+use Rattle.wt_turn.specs.Reports.{credit, end_of, is_connected, is_running}
+use Rattle.wt_turn.specs.Sent.{dials, finishes}
+use Rattle.wt_turn.specs.Streams.{local_bi, local_count, local_uni, peer_bi, peer_count, peer_uni}
 use Rattle.wt_turn.specs.Log.{Event, PeerBi, PeerUni}
 use Rattle.wt_turn.specs.declared.action.Action.{Action}
 use Rattle.wt_turn.specs.declared.answer.Answer.{Answer}

@@ -8,7 +8,7 @@ use Rattle.wt_check.specs.Records.{body, is_prefix}
 use Rattle.wt_meaning.specs.Halves.{is_fin}
 use Rattle.wt_meaning.specs.History.{History, Pair, events}
 use Rattle.wt_meaning.specs.Windows.{is_number}
-use Rattle.wt_seam_spec.specs.Reports.{end_of}
+use Rattle.wt_turn.specs.Reports.{end_of}
 use Rattle.wt_turn.specs.declared.reply.Reply.{Reply}
 use Rattle.wt_turn.specs.declared.turn.Turn.{Turn}
 use Rattle.wt_wire.specs.declared.side.Side.{Side}

@@ -6,7 +6,7 @@ use Rattle.wt_meaning.specs.Meaning.{meaning}
 use Rattle.wt_meaning.specs.Moments.{verdict}
 use Rattle.wt_meaning.specs.Windows.{first_session}
 use Rattle.wt_proto.specs.declared.verdict.Verdict.{Verdict}
-use Rattle.wt_seam_spec.specs.Streams.{local_bi, local_uni}
+use Rattle.wt_turn.specs.Streams.{local_bi, local_uni}
 use Rattle.wt_turn.specs.declared.answer.Answer.{Answer}
 use Rattle.wt_turn.specs.declared.turn.Turn.{Turn}
 use Rattle.wt_wire.specs.declared.side.Side.{Side}

@@ -7,8 +7,8 @@ use Rattle.std.specs.List.{list_any}
 use Rattle.wt_check.specs.Records.{is_local}
 use Rattle.wt_meaning.specs.History.{History, Pair, actions_out, all_events}
 use Rattle.wt_meaning.specs.Lawful.{fails_incoming, gives_request, is_awaited, is_client, is_first, is_lawful, is_lost, is_pending, polls}
-use Rattle.wt_seam_spec.specs.Reports.{credit, end_of, is_connected, is_running}
-use Rattle.wt_seam_spec.specs.Streams.{local_uni, peer_bi, peer_count, peer_uni}
+use Rattle.wt_turn.specs.Reports.{credit, end_of, is_connected, is_running}
+use Rattle.wt_turn.specs.Streams.{local_uni, peer_bi, peer_count, peer_uni}
 use Rattle.wt_turn.specs.declared.action.Action.{Action}
 use Rattle.wt_turn.specs.declared.reply.Reply.{Reply}
 use Rattle.wt_turn.specs.declared.turn.Turn.{Turn}

@@ -9,10 +9,10 @@ use Rattle.wt_core.proofs.Records.{end-step, is_quiet, quiet-step, stop-step}
 use Rattle.wt_core.proofs.Streams.{both-step, failed-step, send-step, start-step, started, uni-step, bi-step}
 use Rattle.wt_core.proofs.Waiting.{stream_waits}
 use Rattle.wt_core.specs.Held.{Held, Holds, HoldsCalls, accepted, begun, is_own, opening_in, polled, stopped}
-use Rattle.wt_seam_spec.specs.Joined.{send_of}
-use Rattle.wt_seam_spec.specs.Outgoing.{actions_to_open, bytes_within_credit, if_open, may_open, next_id}
-use Rattle.wt_seam_spec.specs.Reports.{datagram_fact, end_of}
-use Rattle.wt_seam_spec.specs.Streams.{local_bi, local_uni, peer_bi, peer_uni}
+use Rattle.wt_turn.specs.Joined.{send_of}
+use Rattle.wt_turn.specs.Outgoing.{actions_to_open, bytes_within_credit, if_open, may_open, next_id}
+use Rattle.wt_turn.specs.Reports.{datagram_fact, end_of}
+use Rattle.wt_turn.specs.Streams.{local_bi, local_uni, peer_bi, peer_uni}
 use Rattle.wt_sessions.specs.Answers.{in_session, is_first, named_session}
 use Rattle.wt_sessions.specs.Connection.{accept_stream, datagram_allowed, datagram_within, end_session, give_datagram, give_stream, next_datagram, next_stream, open_stream, opening_session, poll_for, receive_datagram, send_datagram, send_header, session_end_actions, starts_opening, stream_header}
 use Rattle.wt_sessions.specs.Driver.{accepts_stream, is_living, is_session_gone}

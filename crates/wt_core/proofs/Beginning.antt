@@ -25,9 +25,9 @@ use Rattle.wt_core.specs.Told.{SameHeld}
 use Rattle.wt_transport.specs.Kind.{local_kind}
 use Rattle.wt_transport.specs.State.{TransportState}
 use Rattle.wt_transport.specs.Step.{after_opening}
-use Rattle.wt_seam_spec.specs.Outgoing.{actions_to_open, may_open, next_id}
-use Rattle.wt_seam_spec.specs.Sent.{sent_on}
-use Rattle.wt_seam_spec.specs.Streams.{local_bi, local_uni, stream_count}
+use Rattle.wt_turn.specs.Outgoing.{actions_to_open, may_open, next_id}
+use Rattle.wt_turn.specs.Sent.{sent_on}
+use Rattle.wt_turn.specs.Streams.{local_bi, local_uni, stream_count}
 use Rattle.wt_sessions.specs.Answers.{call_effect, in_session, may_call, named_session}
 use Rattle.wt_sessions.specs.Connection.{open_stream, opening_session, stream_header}
 use Rattle.wt_sessions.specs.Driver.{is_session_gone}

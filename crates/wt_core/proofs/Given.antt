@@ -13,7 +13,7 @@ use Rattle.wt_core.specs.HeldNow.{FindsStreams, HoldsStreams, OpeningNow, Stream
 use Rattle.wt_core.specs.Rows.{HasPut, value_at}
 use Rattle.wt_session.proofs.Sessions.{Rests, within}
 use Rattle.wt_sessions.specs.Answers.{call_effect, may_call}
-use Rattle.wt_seam_spec.specs.Outgoing.{if_open}
+use Rattle.wt_turn.specs.Outgoing.{if_open}
 use Rattle.wt_sessions.specs.Effect.{Effect, poll_only}
 use Rattle.wt_sessions.specs.Halves.{finish, has_receiving_half, has_sending_half, on_half, priority, read, read_exact, reset, set_priority, stop_receiving, stopped, write, write_all}
 use Rattle.wt_driver_laws.specs.Having.{HasReceiving, HasSending}

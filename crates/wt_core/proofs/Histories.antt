@@ -8,7 +8,7 @@ use Rattle.wt_meaning.specs.Meaning.{answer_to, history_after}
 use Rattle.wt_core.proofs.Refining.{kept_connected, kept_lives, kept_open, may_lawful}
 use Rattle.wt_core.specs.CoreState.{CoreState, KeepsHistory, Refines, connected_now, living_now, may_come_next, may_turn, open_now}
 use Rattle.wt_core.specs.Keeping.{Stepped}
-use Rattle.wt_seam_spec.specs.Reports.{is_connected}
+use Rattle.wt_turn.specs.Reports.{is_connected}
 use Rattle.wt_sessions.specs.Answers as logs
 use Rattle.wt_sessions_agree.proofs.EachTurn.{each-turn-agrees}
 use Rattle.wt_sessions_agree.proofs.LawfulLaws.{lawful-agrees}

@@ -15,8 +15,8 @@ use Rattle.wt_core.specs.HeldNow.{FindsStreams, HoldsSessions, HoldsStreams, Ope
 use Rattle.wt_core.specs.Rows.{HasPut, value_at}
 use Rattle.wt_core.specs.Told.{SameHeld}
 use Rattle.wt_meaning.specs.Targets.{Target}
-use Rattle.wt_seam_spec.specs.Sent.{sent_on}
-use Rattle.wt_seam_spec.specs.Streams.{local_uni, peer_uni}
+use Rattle.wt_turn.specs.Sent.{sent_on}
+use Rattle.wt_turn.specs.Streams.{local_uni, peer_uni}
 use Rattle.wt_sessions.specs.Answers.{call_effect, is_lawful, log_after, may_call, named_session}
 use Rattle.wt_sessions.specs.Connection.{opening_session, stream_header}
 use Rattle.wt_sessions.specs.Driver.{accepts_stream, gives_up}

@@ -8,9 +8,9 @@ use Rattle.wt_message.specs.FixedBytes.{response_bytes}
 use Rattle.wt_core.proofs.After.{LeadsTo, bi-leads, ends-lead, exacts-lead, keeps, next-bi, next-uni, of-half, of-session, opens-leads, own-bi, own-uni, polls, polls-lead, priorities-lead, reads-lead, receives-lead, resets-lead, sends-lead, stops-lead, uni-leads, writes-lead}
 use Rattle.wt_core.proofs.Shakes.{accept-leads, dial-leads, handshake-leads, incoming-leads, reject-leads}
 use Rattle.wt_core.specs.Held.{Held, Holds, Orderly, held_after}
-use Rattle.wt_seam_spec.specs.Outgoing.{if_open}
-use Rattle.wt_seam_spec.specs.Reports.{datagram_fact}
-use Rattle.wt_seam_spec.specs.Streams.{local_bi, local_uni, stream_count}
+use Rattle.wt_turn.specs.Outgoing.{if_open}
+use Rattle.wt_turn.specs.Reports.{datagram_fact}
+use Rattle.wt_turn.specs.Streams.{local_bi, local_uni, stream_count}
 use Rattle.wt_sessions.specs.Answers.{call_effect, named_session}
 use Rattle.wt_sessions.specs.Connection.{close_connection, closed_reply, payload_limit, receive_datagram, send_datagram}
 use Rattle.wt_sessions.specs.Effect.{poll_only}

@@ -20,8 +20,8 @@ use Rattle.wt_session.proofs.Heads.{sent-more-is}
 use Rattle.wt_session.proofs.Middle.{calls-stay}
 use Rattle.wt_transport.proofs.HalfLaws.{write_refines}
 use Rattle.wt_transport.specs.Rules.{actions_of_write, after_write}
-use Rattle.wt_seam_spec.specs.Joined.{newest_first, send_of}
-use Rattle.wt_seam_spec.specs.Outgoing.{actions_to_send, bytes_within_credit, may_send}
+use Rattle.wt_turn.specs.Joined.{newest_first, send_of}
+use Rattle.wt_turn.specs.Outgoing.{actions_to_send, bytes_within_credit, may_send}
 use Rattle.wt_sessions.specs.Answers.{call_effect}
 use Rattle.wt_sessions.specs.Connection.{opening_session, stream_header}
 use Rattle.wt_sessions.specs.Driver.{first_session}

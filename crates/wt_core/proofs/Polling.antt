@@ -13,7 +13,7 @@ use Rattle.wt_core.specs.Held.{Held, ending, held_after}
 use Rattle.wt_core.specs.HeldNow.{FindsStreams, HoldsSessions, HoldsStreams, OpeningNow, SessionsNow, StreamsNow, TakenOut, held_by, session_of}
 use Rattle.wt_core.specs.Rows.{HasPut, value_at}
 use Rattle.wt_session.proofs.Sessions.{Rests, within}
-use Rattle.wt_seam_spec.specs.Outgoing.{bytes_within_credit}
+use Rattle.wt_turn.specs.Outgoing.{bytes_within_credit}
 use Rattle.wt_sessions.specs.Answers.{call_effect, in_session, may_call, named_session}
 use Rattle.wt_sessions.specs.Connection.{opening_session, poll_for, poll_opening}
 use Rattle.wt_sessions.specs.Effect.{Effect, poll_only}

@@ -5,7 +5,7 @@ use Rattle.std.specs.List.{list_any}
 use Rattle.std.specs.Option.{option_or}
 use Rattle.std.specs.Prelude.{[], ◌%◌, ◌&&◌, ◌==◌, ◌||◌, ◌∷◌, ◌≡◌, Bool, List, None, Option, Some, false, if◌then◌else◌, nat_lt, not, true, ℕ}
 use Rattle.wt_core.specs.Held.{Held, HoldsCalls, named_in, with_session, without_one}
-use Rattle.wt_seam_spec.specs.Streams.{local_uni}
+use Rattle.wt_turn.specs.Streams.{local_uni}
 use Rattle.wt_sessions.specs.Driver as drivers
 use Rattle.wt_sessions.specs.Driver.{accepts_stream, first_session, gives_up, sessions_of}
 use Rattle.wt_sessions.specs.Handshake.{Answered, Connecting, Over, Requested, Responding, handshake_state, requested_stream}

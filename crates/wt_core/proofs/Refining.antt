@@ -5,7 +5,7 @@ use Rattle.wt_driver_laws.proofs.OpenLives.{lives-now}
 use Rattle.wt_driver_laws.proofs.QuestionLaws.{fits_law, is_connected_law, is_open_law}
 use Rattle.wt_core.proofs.MayLaws.{may-is}
 use Rattle.wt_core.specs.CoreState.{CoreState, Refines, connected_now, living_now, may_come_next, open_now}
-use Rattle.wt_seam_spec.specs.Reports.{is_connected}
+use Rattle.wt_turn.specs.Reports.{is_connected}
 use Rattle.wt_sessions.specs.Answers.{is_lawful}
 use Rattle.wt_sessions.specs.Driver.{is_living}
 use Rattle.wt_turn.specs.Log.{Log, events_of, is_open}

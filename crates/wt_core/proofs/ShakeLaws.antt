@@ -13,8 +13,8 @@ use Rattle.wt_core.specs.Calls.{is_handshake}
 use Rattle.wt_core.specs.HeldNow.{held_by}
 use Rattle.wt_core.specs.Shakes.{Accepting, Connecting, Idle, Incoming, Rejecting, Requested, Shake, ShakeIs}
 use Rattle.wt_session.specs.Handshakes.{Asking, Connect, Dialled, HasConnect, Reserved}
-use Rattle.wt_seam_spec.specs.Sent.{is_finished, sent_on}
-use Rattle.wt_seam_spec.specs.Streams.{local_bi, local_count}
+use Rattle.wt_turn.specs.Sent.{is_finished, sent_on}
+use Rattle.wt_turn.specs.Streams.{local_bi, local_count}
 use Rattle.wt_sessions.specs.Answers.{call_effect, is_lawful, log_after, may_call}
 use Rattle.wt_sessions.specs.Effect.{head_left}
 use Rattle.wt_sessions.specs.Handshake as shakes

@@ -9,11 +9,11 @@ use Rattle.wt_core.specs.Held.{Held, Holds, HoldsCalls, accepting, asked, connec
 use Rattle.wt_proto.specs.ResponseWalk.{response_walk_of}
 use Rattle.wt_proto.specs.declared.response_walk.ResponseWalk.{ResponseWalk}
 use Rattle.wt_proto.specs.declared.response_walk.ResponseWalk.TheVariants as responses
-use Rattle.wt_seam_spec.specs.Joined.{send_of}
-use Rattle.wt_seam_spec.specs.Outgoing.{actions_to_open, bytes_within_credit, may_open}
-use Rattle.wt_seam_spec.specs.Reports.{end_of, is_acknowledged, is_connected, stop_of}
-use Rattle.wt_seam_spec.specs.Sent.{is_finished}
-use Rattle.wt_seam_spec.specs.Streams.{contents, local_bi, local_count}
+use Rattle.wt_turn.specs.Joined.{send_of}
+use Rattle.wt_turn.specs.Outgoing.{actions_to_open, bytes_within_credit, may_open}
+use Rattle.wt_turn.specs.Reports.{end_of, is_acknowledged, is_connected, stop_of}
+use Rattle.wt_turn.specs.Sent.{is_finished}
+use Rattle.wt_turn.specs.Streams.{contents, local_bi, local_count}
 use Rattle.wt_sessions.specs.Connect.{dial}
 use Rattle.wt_sessions.specs.Driver.{ending_actions, settings_came, stream_table}
 use Rattle.wt_sessions.specs.Effect.{Effect, close_when_open, driver_error, head_left, is_covered, log_call, poll_sending, reply_with, transport_error}

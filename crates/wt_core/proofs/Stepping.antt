@@ -13,8 +13,8 @@ use Rattle.wt_core.specs.Calls.{is_handshake}
 use Rattle.wt_core.specs.HeldNow.{SameSessions, SessionsNow, StreamsNow}
 use Rattle.wt_core.specs.CoreState.{CoreState, Keeps, Refines}
 use Rattle.wt_core.specs.Keeping.{CallTaken, Stepped, Taken}
-use Rattle.wt_seam_spec.specs.Arrivals.{fits}
-use Rattle.wt_seam_spec.specs.Joined.{joined_actions}
+use Rattle.wt_turn.specs.Arrivals.{fits}
+use Rattle.wt_turn.specs.Joined.{joined_actions}
 use Rattle.wt_sessions.specs.Answers.{is_first, is_lawful, log_after, may_call}
 use Rattle.wt_turn.specs.Log.{Log, actions_of}
 use Rattle.wt_turn.specs.Turns.{is_call}

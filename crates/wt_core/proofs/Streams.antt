@@ -6,7 +6,7 @@ use Rattle.std.specs.Option.{option_or}
 use Rattle.std.specs.Prelude.{[], ◌%◌, ◌&&◌, ◌==◌, ◌||◌, ◌∷◌, ◌≡◌, ◌≢◌, Bool, List, None, Some, false, if◌then◌else◌, not, true, ℕ}
 use Rattle.wt_core.proofs.Records.{clash, false-or, same-if, same-named}
 use Rattle.wt_core.specs.Held.{Held, HoldsCalls, ending, is_own, opening_in, starting, with_one}
-use Rattle.wt_seam_spec.specs.Streams.{local_bi, local_uni, peer_bi, peer_uni}
+use Rattle.wt_turn.specs.Streams.{local_bi, local_uni, peer_bi, peer_uni}
 use Rattle.wt_sessions.specs.Connection.{ends_opening, opened_for, starts_opening}
 use Rattle.wt_sessions.specs.Driver.{accepts_stream, gives_up}
 use Rattle.wt_turn.specs.Log.{CallRecord, OpeningFailed, OpeningStarted, StreamAccepted, newest}

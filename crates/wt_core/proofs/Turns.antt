@@ -10,9 +10,9 @@ use Rattle.wt_turn.specs.declared.action.Action.{Action}
 use Rattle.wt_turn.specs.declared.call.Call.{Call}
 use Rattle.wt_turn.specs.declared.reply.Reply.{Reply}
 use Rattle.wt_turn.specs.Turns.{is_call}
-use Rattle.wt_seam_spec.specs.Arrivals.{event_entry, fits, may_come}
-use Rattle.wt_seam_spec.specs.Reports.{end_of, is_connected, is_running, loss_of}
-use Rattle.wt_seam_spec.specs.Streams.{can_receive}
+use Rattle.wt_turn.specs.Arrivals.{event_entry, fits, may_come}
+use Rattle.wt_turn.specs.Reports.{end_of, is_connected, is_running, loss_of}
+use Rattle.wt_turn.specs.Streams.{can_receive}
 use Rattle.wt_sessions.specs.Answers.{is_first, is_lawful, log_after, receive, turn_effect}
 use Rattle.wt_turn.specs.declared.reply.Reply.TheVariants as replies
 use Rattle.wt_sessions.specs.Driver.{flush, log_and_flush}

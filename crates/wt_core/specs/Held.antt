@@ -5,8 +5,8 @@ use Rattle.std.specs.Prelude.{◌%◌, ◌&&◌, ◌==◌, ◌||◌, ◌≡◌, 
 use Rattle.url.specs.Parser.{parse_url}
 use Rattle.wt_meaning.specs.Targets.{Target, target_of}
 use Rattle.wt_message.specs.FixedBytes.{response_bytes}
-use Rattle.wt_seam_spec.specs.Outgoing.{next_id}
-use Rattle.wt_seam_spec.specs.Streams.{local_bi, local_uni, peer_uni}
+use Rattle.wt_turn.specs.Outgoing.{next_id}
+use Rattle.wt_turn.specs.Streams.{local_bi, local_uni, peer_uni}
 use Rattle.wt_sessions.specs.Answers.{named_session}
 use Rattle.wt_sessions.specs.Connection.{ends_opening, opened_for, starts_opening}
 use Rattle.wt_sessions.specs.Driver.{accepts_stream, first_session, gives_up, sessions_of}

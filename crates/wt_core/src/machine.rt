@@ -8,7 +8,7 @@ ghost use Rattle.wt_meaning.specs.Meaning.{answer_to, history_after};
 ghost use Rattle.wt_core.specs.Calls.{is_handshake, receiving_id, sending_id, session_name};
 ghost use Rattle.wt_core.specs.CoreState.{KeepsHistory, Refines, connected_now, living_now, may_come_next, may_turn, open_now};
 ghost use Rattle.wt_core.specs.Keeping.{CallAnswers, Stepped, TurnAnswers};
-ghost use Rattle.wt_seam_spec.specs.Reports.{is_connected};
+ghost use Rattle.wt_turn.specs.Reports.{is_connected};
 ghost use Rattle.wt_sessions.specs.Answers as logs;
 ghost use Rattle.wt_turn.specs.Log.{Log, actions_of};
 ghost use Rattle.wt_turn.specs.Turns.{is_call};

@@ -19,7 +19,7 @@ use Rattle.wt_transport.specs.HalfRules.{write_refusal, written_count, written_u
 use Rattle.wt_transport.specs.State.{TransportState}
 use Rattle.wt_transport.specs.Rules.{sending_half_now}
 use Rattle.wt_transport.specs.Step.{can_send_now}
-use Rattle.wt_seam_spec.specs.Streams.{local_bi, local_count}
+use Rattle.wt_turn.specs.Streams.{local_bi, local_count}
 use Rattle.wt_turn.specs.Log.{Log, actions_of}
 use Rattle.wt_wire.specs.HeaderList.{Fields}
 use Rattle.wt_wire.specs.declared.side.Side.{Side}

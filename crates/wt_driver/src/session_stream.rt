@@ -8,7 +8,7 @@ ghost use Rattle.wt_driver_laws.specs.Writing.{finished_said, frame_written_now}
 ghost use Rattle.wt_driver.specs.Frames.{ReadsIf, stop_said, then_stop_once};
 ghost use Rattle.wt_seam.specs.Writing.{Continues, rest, write_of};
 ghost use Rattle.wt_transport.specs.Step.{can_receive_now};
-ghost use Rattle.wt_seam_spec.specs.Streams.{can_send, local_uni};
+ghost use Rattle.wt_turn.specs.Streams.{can_send, local_uni};
 ghost use Rattle.wt_sessions.specs.Driver.{is_living};
 ghost use Rattle.wt_wire.specs.FrameBytes.{frame_bytes};
 

@@ -15,7 +15,7 @@ use Rattle.wt_kept.specs.Arriving.{peer_kind}
 use Rattle.wt_kept.specs.Kept.{DriverNow, LiveNow}
 use Rattle.wt_kept.specs.Windows.{first_stream, first_stream_id, is_live, is_of_kind, live_in, lives_now}
 use Rattle.wt_peer_streams.specs.Living.{streams_of_live}
-use Rattle.wt_seam_spec.specs.Streams.{peer_bi, peer_uni}
+use Rattle.wt_turn.specs.Streams.{peer_bi, peer_uni}
 use Rattle.wt_sessions.proofs.Indexed.{AllOf}
 use Rattle.wt_sessions.specs.Connection.{next_stream, waits_for}
 use Rattle.wt_sessions.specs.Driver.{call_view, dispatched, is_session_gone, stream_table}

@@ -29,7 +29,7 @@ use Rattle.wt_seam.specs.declared.stream.BiRemoteWT.{BiRemoteWT}
 use Rattle.wt_seam.specs.declared.stream.UniRemoteWT.{UniRemoteWT}
 use Rattle.wt_transport.specs.declared.halves.QuicRecvStream.{QuicRecvStream}
 use Rattle.wt_peer_streams.specs.Living.{stream_given}
-use Rattle.wt_seam_spec.specs.Streams.{peer_bi, peer_uni}
+use Rattle.wt_turn.specs.Streams.{peer_bi, peer_uni}
 use Rattle.wt_sessions.proofs.Indexed.{all-found}
 use Rattle.wt_sessions.proofs.Turns.{Holds}
 use Rattle.wt_sessions.specs.Connection.{next_stream, waits_for}

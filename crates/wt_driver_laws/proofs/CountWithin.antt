@@ -21,7 +21,7 @@ use Rattle.wt_transport.specs.Step.{after_give_up, fits_now}
 use Rattle.wt_transport.specs.StreamState.{Stream, give_up, has_stream, piece_count, stream_at}
 use Rattle.wt_peer_streams.proofs.Losing.{change-loses, changed-count, not-changed, other}
 use Rattle.wt_sessions.specs.DriverState.{DriverState, state_of}
-use Rattle.wt_seam_spec.specs.Unread.{ReadPosition}
+use Rattle.wt_turn.specs.Unread.{ReadPosition}
 use Rattle.wt_turn.specs.Log.{Event, Log, is_open, with_actions}
 use Rattle.wt_turn.specs.Turns.{event_of}
 use Rattle.wt_turn.specs.declared.action.Action.{Action}

@@ -13,7 +13,7 @@ use Rattle.wt_follows.proofs.Unnoticed.{may-come, stays-same, unnoticed-follows}
 use Rattle.wt_follows.specs.Tie as tie
 use Rattle.wt_kept.specs.Kept.{DriverNow}
 use Rattle.wt_transport.specs.State.{Refines, TransportState}
-use Rattle.wt_seam_spec.specs.Joined.{newest_first}
+use Rattle.wt_turn.specs.Joined.{newest_first}
 use Rattle.wt_sessions.specs.Driver.{transport_view}
 use Rattle.wt_sessions.specs.DriverState.{DriverState, state_of}
 use Rattle.wt_sessions.specs.Effect.{Effect, log_call, poll_sending}

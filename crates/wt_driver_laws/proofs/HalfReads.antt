@@ -24,10 +24,10 @@ use Rattle.wt_transport.specs.HalfRules.{ReceivingHalf, count_of_few, nothing_un
 use Rattle.wt_transport.specs.Rules.{receiving_half_now}
 use Rattle.wt_transport.specs.State.{Refines, TransportState}
 use Rattle.wt_transport.specs.Step.{after_consume, after_give_up, after_stop, can_receive_now, unread_now}
-use Rattle.wt_seam_spec.specs.Outgoing.{if_open}
-use Rattle.wt_seam_spec.specs.Reports.{end_of}
-use Rattle.wt_seam_spec.specs.Streams.{contents}
-use Rattle.wt_seam_spec.specs.Unread.{AtOffset, GivenUp, ReadPosition, advance, from_position}
+use Rattle.wt_turn.specs.Outgoing.{if_open}
+use Rattle.wt_turn.specs.Reports.{end_of}
+use Rattle.wt_turn.specs.Streams.{contents}
+use Rattle.wt_turn.specs.Unread.{AtOffset, GivenUp, ReadPosition, advance, from_position}
 use Rattle.wt_sessions.specs.Answers.{call_effect}
 use Rattle.wt_sessions.specs.Effect.{Effect, log_call, poll_only, reply_with}
 use Rattle.wt_sessions.specs.Halves.{exact_at_end, has_receiving_half, on_half, read, read_exact, read_reply, reply_at_end, stop_receiving, take_bytes, unread_body}

@@ -24,11 +24,11 @@ use Rattle.wt_transport.specs.HalfRules.{SendingHalf, all_unless, all_written, f
 use Rattle.wt_transport.specs.Rules.{actions_of_finish, actions_of_write, after_finishing, after_priority_unless_closed, after_reset_unless_closed, after_write, sending_half, sending_half_now}
 use Rattle.wt_transport.specs.State.{Refines, TransportState}
 use Rattle.wt_transport.specs.Step.{after_priority, after_reset, can_send_now}
-use Rattle.wt_seam_spec.specs.Joined.{newest_first}
-use Rattle.wt_seam_spec.specs.Outgoing.{actions_to_send, bytes_within_credit, credit_left, may_send}
-use Rattle.wt_seam_spec.specs.Reports.{stop_of}
-use Rattle.wt_seam_spec.specs.Sent.{is_finished, is_reset, priority_of}
-use Rattle.wt_seam_spec.specs.Streams.{can_send, local_uni}
+use Rattle.wt_turn.specs.Joined.{newest_first}
+use Rattle.wt_turn.specs.Outgoing.{actions_to_send, bytes_within_credit, credit_left, may_send}
+use Rattle.wt_turn.specs.Reports.{stop_of}
+use Rattle.wt_turn.specs.Sent.{is_finished, is_reset, priority_of}
+use Rattle.wt_turn.specs.Streams.{can_send, local_uni}
 use Rattle.wt_sessions.specs.Answers.{call_effect}
 use Rattle.wt_sessions.specs.DriverState.{state_of}
 use Rattle.wt_sessions.specs.Effect.{Effect, log_call, poll_only, poll_sending, reply_with}

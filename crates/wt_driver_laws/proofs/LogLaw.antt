@@ -23,8 +23,8 @@ use Rattle.wt_promise.proofs.HandedOut.{only-peers}
 use Rattle.wt_promise.proofs.HeadFinish.{is-rejection}
 use Rattle.wt_promise.proofs.Opened.{at-least-one}
 use Rattle.wt_promise.specs.Promise.{IsHistory, begun_on}
-use Rattle.wt_seam_spec.specs.Sent.{is_finished}
-use Rattle.wt_seam_spec.specs.Streams.{can_send, local_bi, local_count, peer_uni, stream_count}
+use Rattle.wt_turn.specs.Sent.{is_finished}
+use Rattle.wt_turn.specs.Streams.{can_send, local_bi, local_count, peer_uni, stream_count}
 use Rattle.wt_sessions.proofs.Turns.{Holds, is_asked, is_dialling}
 use Rattle.wt_sessions.specs.Driver.{call_view}
 use Rattle.wt_sessions.specs.Handshake.{Answered, Connecting, HandshakeState, Requested, Responding, awaits_answer, handshake_state, is_continuable, requested_stream}

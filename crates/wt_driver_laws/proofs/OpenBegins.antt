@@ -19,8 +19,8 @@ use Rattle.wt_transport.proofs.Refining.{bi_refines, uni_refines}
 use Rattle.wt_transport.specs.Kind.{local_kind}
 use Rattle.wt_transport.specs.State.{Refines, TransportState}
 use Rattle.wt_transport.specs.Step.{after_opening}
-use Rattle.wt_seam_spec.specs.Joined.{newest_first}
-use Rattle.wt_seam_spec.specs.Outgoing.{actions_to_open, may_open, next_id}
+use Rattle.wt_turn.specs.Joined.{newest_first}
+use Rattle.wt_turn.specs.Outgoing.{actions_to_open, may_open, next_id}
 use Rattle.wt_sessions.specs.DriverState.{DriverState, state_of}
 use Rattle.wt_sessions.specs.Effect.{log_call}
 use Rattle.wt_sessions.specs.Moment.{Fits}

@@ -11,7 +11,7 @@ use Rattle.wt_follows.proofs.RestingCall.{record-alone, resting-call-follows}
 use Rattle.wt_follows.specs.Roles.{is_in, is_member, waits}
 use Rattle.wt_follows.specs.Tie.{Follows}
 use Rattle.wt_kept.specs.Kept.{DriverNow}
-use Rattle.wt_seam_spec.specs.Reports.{if_same}
+use Rattle.wt_turn.specs.Reports.{if_same}
 use Rattle.wt_sessions.specs.Connection.{is_opening, opened_for, opening_session, starts_opening}
 use Rattle.wt_sessions.specs.Driver.{member_by, members_of, stream_table, transport_view, with_member}
 use Rattle.wt_sessions.specs.DriverState.{DriverState, state_of}

@@ -19,8 +19,8 @@ use Rattle.wt_transport.proofs.Refining.{refined_bi, refined_open, refined_uni}
 use Rattle.wt_transport.specs.Kind.{local_kind}
 use Rattle.wt_transport.specs.State.{TransportState}
 use Rattle.wt_transport.specs.Step.{after_opening, may_open_now, next_id_now, opened_id_now, with_action, with_new_stream}
-use Rattle.wt_seam_spec.specs.Outgoing.{may_open, next_id, opened_id}
-use Rattle.wt_seam_spec.specs.Streams.{local_bi, local_uni}
+use Rattle.wt_turn.specs.Outgoing.{may_open, next_id, opened_id}
+use Rattle.wt_turn.specs.Streams.{local_bi, local_uni}
 use Rattle.wt_sessions.specs.Driver.{is_session_gone, stream_table}
 use Rattle.wt_sessions.specs.DriverState.{state_of}
 use Rattle.wt_sessions.specs.StreamTable.{Closed, is_closed}

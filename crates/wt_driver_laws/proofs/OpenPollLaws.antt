@@ -31,8 +31,8 @@ use Rattle.wt_meaning.specs.Handshakes.{is_nothing}
 use Rattle.wt_transport.proofs.HalfLaws.{write_refines}
 use Rattle.wt_transport.specs.Rules.{actions_of_write, after_write}
 use Rattle.wt_transport.specs.State.{TransportState}
-use Rattle.wt_seam_spec.specs.Joined.{newest_first, send_of}
-use Rattle.wt_seam_spec.specs.Outgoing.{actions_to_send, bytes_within_credit, credit_left, may_send}
+use Rattle.wt_turn.specs.Joined.{newest_first, send_of}
+use Rattle.wt_turn.specs.Outgoing.{actions_to_send, bytes_within_credit, credit_left, may_send}
 use Rattle.wt_sessions.proofs.Turns.{Holds}
 use Rattle.wt_sessions.specs.Answers.{call_effect}
 use Rattle.wt_sessions.specs.Connection.{continue_opening, opened_reply, stream_header}

@@ -19,11 +19,11 @@ use Rattle.wt_transport.specs.HalfRules.{write_answer, written_count, written_un
 use Rattle.wt_transport.specs.Rules.{after_write, sending_half, sending_half_now}
 use Rattle.wt_transport.specs.State.{TransportState}
 use Rattle.wt_transport.specs.Step.{after_send, can_send_now}
-use Rattle.wt_seam_spec.specs.Joined.{send_of}
-use Rattle.wt_seam_spec.specs.Outgoing.{bytes_within_credit, credit_left, may_send}
-use Rattle.wt_seam_spec.specs.Reports.{stop_of}
-use Rattle.wt_seam_spec.specs.Sent.{is_finished, is_reset}
-use Rattle.wt_seam_spec.specs.Streams.{can_send}
+use Rattle.wt_turn.specs.Joined.{send_of}
+use Rattle.wt_turn.specs.Outgoing.{bytes_within_credit, credit_left, may_send}
+use Rattle.wt_turn.specs.Reports.{stop_of}
+use Rattle.wt_turn.specs.Sent.{is_finished, is_reset}
+use Rattle.wt_turn.specs.Streams.{can_send}
 use Rattle.wt_sessions.specs.Answers.{call_effect, in_session, named_session}
 use Rattle.wt_sessions.specs.Connection.{continue_opening, opened_reply, poll_for, poll_opening, send_header}
 use Rattle.wt_sessions.specs.Driver.{is_living, still_sends}

@@ -13,8 +13,8 @@ use Rattle.wt_meaning.specs.Lawful.{is_client}
 use Rattle.wt_transport.proofs.Refining.{refined_bi, refined_open}
 use Rattle.wt_transport.specs.State.{TransportState}
 use Rattle.wt_transport.specs.Step.{after_opening, opened_id_now}
-use Rattle.wt_seam_spec.specs.Outgoing.{may_open, next_id, opened_id}
-use Rattle.wt_seam_spec.specs.Streams.{local_bi, stream_count}
+use Rattle.wt_turn.specs.Outgoing.{may_open, next_id, opened_id}
+use Rattle.wt_turn.specs.Streams.{local_bi, stream_count}
 use Rattle.wt_sessions.specs.Moment.{Fits}
 use Rattle.wt_turn.specs.Log.{Log, is_open}
 use Rattle.wt_turn.specs.declared.driver_error.DriverError.{DriverError}

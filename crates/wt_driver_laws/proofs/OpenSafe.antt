@@ -19,11 +19,11 @@ use Rattle.wt_meaning.specs.Sends.{action_if}
 use Rattle.wt_transport.proofs.Asking.{open_events}
 use Rattle.wt_transport.proofs.Bools.{first, second}
 use Rattle.wt_transport.specs.Kind.{local_kind}
-use Rattle.wt_seam_spec.specs.Outgoing.{may_open, next_id, streams_allowed}
-use Rattle.wt_seam_spec.specs.Reports.{bis_allowed, credit, unis_allowed}
-use Rattle.wt_seam_spec.specs.Sent.{is_finished, is_reset, sent_on}
-use Rattle.wt_seam_spec.specs.Streams.{can_receive, can_send, exists, local_count, local_uni, one_more_if, peer_bi, peer_count, peer_uni, stream_count}
-use Rattle.wt_seam_spec.specs.Unread.{AtOffset, GivenUp}
+use Rattle.wt_turn.specs.Outgoing.{may_open, next_id, streams_allowed}
+use Rattle.wt_turn.specs.Reports.{bis_allowed, credit, unis_allowed}
+use Rattle.wt_turn.specs.Sent.{is_finished, is_reset, sent_on}
+use Rattle.wt_turn.specs.Streams.{can_receive, can_send, exists, local_count, local_uni, one_more_if, peer_bi, peer_count, peer_uni, stream_count}
+use Rattle.wt_turn.specs.Unread.{AtOffset, GivenUp}
 use Rattle.wt_sessions.specs.Driver.{control_actions, control_sent, still_sends}
 use Rattle.wt_sessions.specs.DriverState.{DriverState, state_of}
 use Rattle.wt_sessions.specs.Moment.{is_peers}

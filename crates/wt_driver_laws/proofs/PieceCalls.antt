@@ -18,7 +18,7 @@ use Rattle.wt_message.specs.Datagram.{datagram_bytes}
 use Rattle.wt_seam.specs.Typed.{can_write_now}
 use Rattle.wt_seam.specs.Writing as writing
 use Rattle.wt_transport.specs.Step.{after_opening, opened_id_now}
-use Rattle.wt_seam_spec.specs.Streams.{local_bi}
+use Rattle.wt_turn.specs.Streams.{local_bi}
 use Rattle.wt_turn.specs.declared.driver_error.DriverError.{DriverError}
 use Rattle.wt_turn.specs.declared.driver_error.DriverError.TheVariants as errors
 use Rattle.wt_turn.specs.declared.poll.Poll.{Poll}

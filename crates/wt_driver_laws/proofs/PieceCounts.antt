@@ -13,7 +13,7 @@ use Rattle.wt_transport.specs.Running.{reset_running_now, still_receives_now, st
 use Rattle.wt_transport.specs.State.{TransportState}
 use Rattle.wt_transport.specs.Step.{after_bytes, after_close, after_consume, after_event, after_finish, after_give_up, after_opening, after_priority, after_reset, after_send, after_stop, after_turn, covered_now, if_so, may_open_now, may_send_now, next_id_now, with_action, with_change, with_new_stream, with_send}
 use Rattle.wt_transport.specs.StreamState.{Signals, Stream, changed_in, consume, fresh, give_up, has_stream, piece_count, pieces_in, receive_unless, row_at, signal, stream_in, with_ack, with_bytes, with_credit, with_end, with_finish, with_priority, with_reset, with_sent, with_stop}
-use Rattle.wt_seam_spec.specs.Streams.{peer_bi, peer_uni}
+use Rattle.wt_turn.specs.Streams.{peer_bi, peer_uni}
 use Rattle.wt_turn.specs.Log.{Acked, Connected, Datagram, DatagramLimit, End, Event, Loss, MaxBi, MaxData, MaxUni, PeerBi, PeerUni, Reset, Stop}
 use Rattle.wt_turn.specs.declared.action.Action.TheVariants as actions
 use Rattle.wt_turn.specs.declared.turn.Turn.{Turn}

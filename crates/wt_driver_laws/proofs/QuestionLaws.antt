@@ -14,8 +14,8 @@ use Rattle.wt_transport.proofs.Asking.{open_connected}
 use Rattle.wt_transport.proofs.Refining.{refined_datagram_fact, refined_fits, refined_loss, refined_open}
 use Rattle.wt_transport.specs.Step.{fits_now}
 use Rattle.wt_peer_streams.specs.Critical.{control_settings}
-use Rattle.wt_seam_spec.specs.Arrivals.{fits}
-use Rattle.wt_seam_spec.specs.Reports.{datagram_fact, is_connected, loss_of}
+use Rattle.wt_turn.specs.Arrivals.{fits}
+use Rattle.wt_turn.specs.Reports.{datagram_fact, is_connected, loss_of}
 use Rattle.wt_sessions.specs.Driver.{call_view, has_no_session, is_session_gone, settings_came, stream_table}
 use Rattle.wt_sessions.specs.DriverState.{state_of}
 use Rattle.wt_sessions.specs.StreamTable.{Session, was_established}

@@ -15,8 +15,8 @@ use Rattle.wt_promise.proofs.Flow.{clash}
 use Rattle.wt_promise.proofs.Phases.{same-established}
 use Rattle.wt_promise.proofs.SettingsOut.{open-events}
 use Rattle.wt_promise.specs.Promise.{IsHistory}
-use Rattle.wt_seam_spec.specs.Reports.{datagrams_of, is_connected, stop_of}
-use Rattle.wt_seam_spec.specs.Streams.{local_uni, peer_bi, peer_count, peer_uni}
+use Rattle.wt_turn.specs.Reports.{datagrams_of, is_connected, stop_of}
+use Rattle.wt_turn.specs.Streams.{local_uni, peer_bi, peer_count, peer_uni}
 use Rattle.wt_sessions.specs.Driver.{settings_came, stream_table}
 use Rattle.wt_turn.specs.Log.{Event, Log, events_of}
 use Rattle.wt_turn.specs.Turns.{event_of}

@@ -24,10 +24,10 @@ use Rattle.wt_promise.proofs.HandedOut.{only-peers, opened-local}
 use Rattle.wt_promise.proofs.Verdicts.{AStream, ByAccept, ByOpening, HandedBy, IsStream, admitted-verdict, handed-by}
 use Rattle.wt_promise.proofs.Waiting.{named-established}
 use Rattle.wt_proto.specs.declared.verdict.Verdict.{Verdict}
-use Rattle.wt_seam_spec.specs.Sent.{is_finished, is_reset}
-use Rattle.wt_seam_spec.specs.Streams as streams
-use Rattle.wt_seam_spec.specs.Streams.{can_receive, can_send, exists, local_uni, peer_uni}
-use Rattle.wt_seam_spec.specs.Unread.{AtOffset, GivenUp, from_position}
+use Rattle.wt_turn.specs.Sent.{is_finished, is_reset}
+use Rattle.wt_turn.specs.Streams as streams
+use Rattle.wt_turn.specs.Streams.{can_receive, can_send, exists, local_uni, peer_uni}
+use Rattle.wt_turn.specs.Unread.{AtOffset, GivenUp, from_position}
 use Rattle.wt_sessions.specs.Connection.{opening_session}
 use Rattle.wt_sessions.specs.Driver.{call_view, gives_up, is_living, still_sends, stream_table}
 use Rattle.wt_sessions.specs.DriverState.{state_of}

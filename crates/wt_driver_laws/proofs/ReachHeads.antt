@@ -35,7 +35,7 @@ use Rattle.wt_promise.proofs.WasReset as resets
 use Rattle.wt_promise.specs.Owed.{header_on}
 use Rattle.wt_promise.specs.Promise.{IsHistory, accepted, acts_on, begun_on}
 use Rattle.wt_promise.specs.Sides.{opened_first, opens_of}
-use Rattle.wt_seam_spec.specs.Streams.{local_bi, local_count, local_uni}
+use Rattle.wt_turn.specs.Streams.{local_bi, local_count, local_uni}
 use Rattle.wt_sessions_agree.proofs.ConnectRows.{no-peers}
 use Rattle.wt_turn.specs.declared.action.Action.{Action}
 use Rattle.wt_turn.specs.declared.answer.Answer.{Answer}

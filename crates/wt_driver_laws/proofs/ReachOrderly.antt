@@ -22,9 +22,9 @@ use Rattle.wt_promise.proofs.Fresh.{nth-of}
 use Rattle.wt_promise.proofs.MomentActs.{or-either}
 use Rattle.wt_promise.proofs.Phases.{client-waits}
 use Rattle.wt_promise.specs.Promise.{IsHistory}
-use Rattle.wt_seam_spec.specs.Outgoing.{next_id}
-use Rattle.wt_seam_spec.specs.Sent.{sent_on}
-use Rattle.wt_seam_spec.specs.Streams.{exists, local_bi, local_uni, stream_count}
+use Rattle.wt_turn.specs.Outgoing.{next_id}
+use Rattle.wt_turn.specs.Sent.{sent_on}
+use Rattle.wt_turn.specs.Streams.{exists, local_bi, local_uni, stream_count}
 use Rattle.wt_sessions.proofs.Turns.{Holds, is_asked, is_dialling}
 use Rattle.wt_sessions.specs.Answers as answers
 use Rattle.wt_sessions.specs.Answers.{log_after, named_session, receive}

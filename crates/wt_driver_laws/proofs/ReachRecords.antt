@@ -8,7 +8,7 @@ use Rattle.wt_driver_laws.specs.Driving.{IsReachable}
 use Rattle.wt_driver_laws.specs.Records.{is_unnoticed}
 use Rattle.wt_proto.specs.declared.verdict.Verdict.{Verdict}
 use Rattle.wt_proto.specs.declared.verdict.Verdict.TheVariants as verdicts
-use Rattle.wt_seam_spec.specs.Streams.{local_bi}
+use Rattle.wt_turn.specs.Streams.{local_bi}
 use Rattle.wt_sessions.proofs.Indexed.{AllOf, all-filter, all-found, all-have-verdicts, log-indexed}
 use Rattle.wt_sessions.proofs.Turns.{Holds, classified-known, delivered-known, established-known, own-known}
 use Rattle.wt_sessions.specs.Connection.{next_datagram, next_stream, opening_session, waits_for}

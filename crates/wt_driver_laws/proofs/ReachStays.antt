@@ -41,8 +41,8 @@ use Rattle.wt_promise.proofs.Stays.{any-newest, named-stays}
 use Rattle.wt_promise.proofs.Tables.{OfRows, by-row, by-session, by-value, no-row}
 use Rattle.wt_promise.proofs.Waiting.{named-established}
 use Rattle.wt_promise.specs.Promise.{IsHistory}
-use Rattle.wt_seam_spec.specs.Sent.{finishes, is_finished, sent_on}
-use Rattle.wt_seam_spec.specs.Streams.{local_bi, local_count, local_uni, opens, peer_bi, peer_uni}
+use Rattle.wt_turn.specs.Sent.{finishes, is_finished, sent_on}
+use Rattle.wt_turn.specs.Streams.{local_bi, local_count, local_uni, opens, peer_bi, peer_uni}
 use Rattle.wt_sessions.proofs.Turns.{is_dialling}
 use Rattle.wt_sessions.specs.Answers as answers
 use Rattle.wt_sessions.specs.Answers.{log_after}

@@ -17,8 +17,8 @@ use Rattle.wt_follows.specs.Roles.{is_in, is_living}
 use Rattle.wt_follows.specs.Tie.{goes_on_at}
 use Rattle.wt_meaning.specs.Lawful.{is_client}
 use Rattle.wt_proto.specs.ResponseWalk.{response_walk_of}
-use Rattle.wt_seam_spec.specs.Reports.{end_of}
-use Rattle.wt_seam_spec.specs.Streams.{contents}
+use Rattle.wt_turn.specs.Reports.{end_of}
+use Rattle.wt_turn.specs.Streams.{contents}
 use Rattle.wt_sessions.specs.Driver.{call_view, delivers, dispatched, ends_session, is_session_gone, sessions_of, still_sends, stream_table}
 use Rattle.wt_sessions.specs.DriverState.{DriverState, state_of}
 use Rattle.wt_sessions.specs.Handshake.{request_end}

@@ -18,8 +18,8 @@ use Rattle.wt_kept.specs.Kept.{DriverNow}
 use Rattle.wt_kept.specs.Moment.{moment_now}
 use Rattle.wt_kept.specs.Windows.{establish_now}
 use Rattle.wt_meaning.specs.Lawful.{is_client}
-use Rattle.wt_seam_spec.specs.Joined.{newest_first}
-use Rattle.wt_seam_spec.specs.Streams.{local_bi}
+use Rattle.wt_turn.specs.Joined.{newest_first}
+use Rattle.wt_turn.specs.Streams.{local_bi}
 use Rattle.wt_sessions.proofs.LogFollows.{log-sends}
 use Rattle.wt_sessions.proofs.Turns.{Holds, delivered-known, own-known}
 use Rattle.wt_sessions.specs.Driver.{stream_table}

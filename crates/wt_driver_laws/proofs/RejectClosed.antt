@@ -24,8 +24,8 @@ use Rattle.wt_kept.specs.Ending.{ended_by, forget_session}
 use Rattle.wt_kept.specs.Kept.{DispatchedNow, DriverNow, LiveNow, Refused, SessionEndNow}
 use Rattle.wt_kept.specs.Moment.{with_work}
 use Rattle.wt_kept.specs.Windows.{end_in, live_in}
-use Rattle.wt_seam_spec.specs.Streams.{contents}
-use Rattle.wt_seam_spec.specs.Unread.{ReadPosition}
+use Rattle.wt_turn.specs.Streams.{contents}
+use Rattle.wt_turn.specs.Unread.{ReadPosition}
 use Rattle.wt_sessions.specs.DriverState.{DriverState, state_of}
 use Rattle.wt_sessions.specs.Effect.{log_call}
 use Rattle.wt_sessions.specs.Step.{gone_now}

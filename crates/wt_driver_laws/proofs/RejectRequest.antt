@@ -19,7 +19,7 @@ use Rattle.wt_kept.specs.Calling.{awaits_answer_now, is_queued_now, was_given_no
 use Rattle.wt_kept.specs.Calling as calling
 use Rattle.wt_kept.specs.Kept.{DriverNow}
 use Rattle.wt_kept.specs.Windows.{lives_now}
-use Rattle.wt_seam_spec.specs.Streams.{can_receive}
+use Rattle.wt_turn.specs.Streams.{can_receive}
 use Rattle.wt_sessions.specs.Driver.{call_view, dispatched, is_session_gone, stream_table}
 use Rattle.wt_sessions.specs.DriverState.{DriverState, state_of}
 use Rattle.wt_sessions.specs.Moment.{is_known}

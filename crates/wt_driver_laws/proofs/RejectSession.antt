@@ -30,8 +30,8 @@ use Rattle.wt_kept.specs.Ending.{retire_now}
 use Rattle.wt_kept.specs.Kept.{DriverNow, Refused}
 use Rattle.wt_kept.specs.Moment.{with_work}
 use Rattle.wt_transport.specs.Step.{after_close}
-use Rattle.wt_seam_spec.specs.Joined.{newest_first}
-use Rattle.wt_seam_spec.specs.Streams.{local_count, peer_bi, peer_uni}
+use Rattle.wt_turn.specs.Joined.{newest_first}
+use Rattle.wt_turn.specs.Streams.{local_count, peer_bi, peer_uni}
 use Rattle.wt_sessions.proofs.LogFollows.{sent-fits}
 use Rattle.wt_sessions.proofs.Turns.{Holds}
 use Rattle.wt_sessions.specs.Driver.{control_sent, ending_actions, transport_view}

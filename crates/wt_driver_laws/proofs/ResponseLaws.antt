@@ -13,8 +13,8 @@ use Rattle.wt_kept.specs.Kept.{DriverNow}
 use Rattle.wt_meaning.specs.Lawful.{is_client}
 use Rattle.wt_proto.specs.ResponseWalk.{response_walk_of}
 use Rattle.wt_proto.specs.declared.response_walk.ResponseWalk.{ResponseWalk}
-use Rattle.wt_seam_spec.specs.Reports.{end_of}
-use Rattle.wt_seam_spec.specs.Streams.{contents, local_bi}
+use Rattle.wt_turn.specs.Reports.{end_of}
+use Rattle.wt_turn.specs.Streams.{contents, local_bi}
 use Rattle.wt_sessions.proofs.Turns.{is_dialling}
 use Rattle.wt_sessions.specs.DriverState.{state_of}
 use Rattle.wt_turn.specs.Log.{Log, events_of}

@@ -15,7 +15,7 @@ use Rattle.wt_kept.specs.Kept.{DriverNow}
 use Rattle.wt_message.specs.Datagram.{datagram_bytes}
 use Rattle.wt_transport.proofs.Refining.{datagram_refines, refined_datagram_fact, refined_open}
 use Rattle.wt_transport.specs.Step.{with_action}
-use Rattle.wt_seam_spec.specs.Reports.{datagram_fact}
+use Rattle.wt_turn.specs.Reports.{datagram_fact}
 use Rattle.wt_sessions.specs.Answers.{call_effect, in_session}
 use Rattle.wt_sessions.specs.Connection.{datagram_allowed, send_datagram}
 use Rattle.wt_sessions.specs.Driver.{is_living}

@@ -27,7 +27,7 @@ use Rattle.wt_kept.specs.Ending.{finish_and_retire}
 use Rattle.wt_kept.specs.Kept.{DriverNow, Ended}
 use Rattle.wt_kept.specs.Moment.{with_work}
 use Rattle.wt_kept.specs.Windows.{lives_now}
-use Rattle.wt_seam_spec.specs.Joined.{newest_first}
+use Rattle.wt_turn.specs.Joined.{newest_first}
 use Rattle.wt_sessions.proofs.Turns.{Holds}
 use Rattle.wt_sessions.specs.Answers.{call_effect, in_session}
 use Rattle.wt_sessions.specs.Connection.{end_session, session_end_actions}

@@ -6,7 +6,7 @@ use Rattle.wt_driver_laws.specs.Driving.{Follows, uncollected_since}
 use Rattle.wt_follows.proofs.PutFollows.{Came, actions-with}
 use Rattle.wt_follows.specs.Tie as tie
 use Rattle.wt_kept.specs.Kept.{DriverNow}
-use Rattle.wt_seam_spec.specs.Joined.{newest_first}
+use Rattle.wt_turn.specs.Joined.{newest_first}
 use Rattle.wt_sessions.specs.Moment.{Fits}
 use Rattle.wt_turn.specs.Log.{Log, actions_of, with_actions}
 use Rattle.wt_turn.specs.declared.action.Action.{Action}

@@ -15,9 +15,9 @@ use Rattle.wt_kept.specs.Calling.{close_now, driver_at_first, turn_now}
 use Rattle.wt_kept.specs.Kept.{DriverNow}
 use Rattle.wt_meaning.specs.Lawful.{is_client}
 use Rattle.wt_transport.proofs.Refining.{refined_actions}
-use Rattle.wt_seam_spec.specs.Arrivals.{fits}
-use Rattle.wt_seam_spec.specs.Joined.{joined_actions}
-use Rattle.wt_seam_spec.specs.Outgoing.{if_open}
+use Rattle.wt_turn.specs.Arrivals.{fits}
+use Rattle.wt_turn.specs.Joined.{joined_actions}
+use Rattle.wt_turn.specs.Outgoing.{if_open}
 use Rattle.wt_sessions.specs.Answers.{log_after}
 use Rattle.wt_turn.specs.Log.{Log, actions_of, with_actions}
 use Rattle.wt_turn.specs.declared.action.Action.{Action}

@@ -19,9 +19,9 @@ use Rattle.wt_transport.specs.HalfRules.{finish_answer, finish_unless}
 use Rattle.wt_transport.specs.Rules.{actions_of_finish, after_finishing, sending_half_now}
 use Rattle.wt_transport.specs.State.{TransportState}
 use Rattle.wt_transport.specs.Step.{can_send_now}
-use Rattle.wt_seam_spec.specs.Reports.{stop_of}
-use Rattle.wt_seam_spec.specs.Sent.{is_finished, is_reset}
-use Rattle.wt_seam_spec.specs.Streams.{can_send, local_uni}
+use Rattle.wt_turn.specs.Reports.{stop_of}
+use Rattle.wt_turn.specs.Sent.{is_finished, is_reset}
+use Rattle.wt_turn.specs.Streams.{can_send, local_uni}
 use Rattle.wt_sessions.specs.Driver.{is_living}
 use Rattle.wt_sessions.specs.Halves.{is_done}
 use Rattle.wt_sessions.specs.Moment.{Fits}

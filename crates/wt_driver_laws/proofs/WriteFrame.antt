@@ -23,11 +23,11 @@ use Rattle.wt_transport.specs.HalfRules.{SendingHalf}
 use Rattle.wt_transport.specs.Rules.{actions_of_write, after_write, is_writable, sending_half, sending_half_now}
 use Rattle.wt_transport.specs.State.{TransportState}
 use Rattle.wt_transport.specs.Step.{can_send_now}
-use Rattle.wt_seam_spec.specs.Joined.{send_of}
-use Rattle.wt_seam_spec.specs.Outgoing.{actions_to_send, bytes_within_credit, credit_left}
-use Rattle.wt_seam_spec.specs.Reports.{stop_of}
-use Rattle.wt_seam_spec.specs.Sent.{is_finished, is_reset}
-use Rattle.wt_seam_spec.specs.Streams.{can_send, local_uni}
+use Rattle.wt_turn.specs.Joined.{send_of}
+use Rattle.wt_turn.specs.Outgoing.{actions_to_send, bytes_within_credit, credit_left}
+use Rattle.wt_turn.specs.Reports.{stop_of}
+use Rattle.wt_turn.specs.Sent.{is_finished, is_reset}
+use Rattle.wt_turn.specs.Streams.{can_send, local_uni}
 use Rattle.wt_sessions.specs.Moment.{Fits}
 use Rattle.wt_turn.specs.Log.{Log, actions_of, events_of, is_open, with_actions}
 use Rattle.wt_turn.specs.declared.action.Action.{Action}

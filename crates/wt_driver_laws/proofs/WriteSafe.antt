@@ -10,10 +10,10 @@ use Rattle.wt_follows.specs.Tie.{Follows}
 use Rattle.wt_kept.specs.Kept.{DriverNow}
 use Rattle.wt_meaning.specs.Handshakes.{is_nothing}
 use Rattle.wt_transport.specs.Rules.{actions_of_finish, actions_of_write}
-use Rattle.wt_seam_spec.specs.Joined.{send_of}
-use Rattle.wt_seam_spec.specs.Outgoing.{actions_to_send, bytes_within_credit, may_send}
-use Rattle.wt_seam_spec.specs.Sent.{is_finished, is_reset, sent_on}
-use Rattle.wt_seam_spec.specs.Streams.{can_send, local_count, local_uni}
+use Rattle.wt_turn.specs.Joined.{send_of}
+use Rattle.wt_turn.specs.Outgoing.{actions_to_send, bytes_within_credit, may_send}
+use Rattle.wt_turn.specs.Sent.{is_finished, is_reset, sent_on}
+use Rattle.wt_turn.specs.Streams.{can_send, local_count, local_uni}
 use Rattle.wt_sessions.specs.DriverState.{state_of}
 use Rattle.wt_turn.specs.Log.{Log, actions_of}
 use Rattle.wt_turn.specs.declared.action.Action.{Action}

@@ -4,7 +4,7 @@ use Rattle.wt_driver_laws.specs.Driving.{Follows}
 use Rattle.wt_kept.specs.Kept.{DriverNow}
 use Rattle.wt_driver_laws.specs.Ends.{opening_end, session_end}
 use Rattle.wt_driver_laws.specs.Having.{OpeningStream}
-use Rattle.wt_seam_spec.specs.Outgoing.{actions_to_open, may_open, next_id}
+use Rattle.wt_turn.specs.Outgoing.{actions_to_open, may_open, next_id}
 use Rattle.wt_sessions.specs.Connection.{next_datagram, next_stream, stream_header}
 use Rattle.wt_sessions.specs.Effect.{log_call}
 use Rattle.wt_sessions.specs.StreamTable.{Admitted, Waiting}

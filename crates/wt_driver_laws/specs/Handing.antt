@@ -7,11 +7,11 @@ use Rattle.wt_driver_laws.specs.Ends.{connection_end}
 use Rattle.wt_driver_laws.specs.Giving.{GivesNothing}
 use Rattle.wt_proto.specs.ResponseWalk.{response_walk_of}
 use Rattle.wt_proto.specs.declared.response_walk.ResponseWalk.TheVariants as responses
-use Rattle.wt_seam_spec.specs.Joined.{send_of}
-use Rattle.wt_seam_spec.specs.Outgoing.{actions_to_open, bytes_within_credit, may_open, next_id}
-use Rattle.wt_seam_spec.specs.Reports.{end_of, stop_of}
-use Rattle.wt_seam_spec.specs.Sent.{is_finished, is_reset}
-use Rattle.wt_seam_spec.specs.Streams.{can_send, contents, local_bi}
+use Rattle.wt_turn.specs.Joined.{send_of}
+use Rattle.wt_turn.specs.Outgoing.{actions_to_open, bytes_within_credit, may_open, next_id}
+use Rattle.wt_turn.specs.Reports.{end_of, stop_of}
+use Rattle.wt_turn.specs.Sent.{is_finished, is_reset}
+use Rattle.wt_turn.specs.Streams.{can_send, contents, local_bi}
 use Rattle.wt_sessions.specs.Driver.{call_view, dispatched, ending_actions, stream_table}
 use Rattle.wt_sessions.specs.Effect.{is_covered, log_call}
 use Rattle.wt_sessions.specs.Halves.{is_done}

@@ -1,6 +1,6 @@
 -- What the application has, by a log: the values of the public types stand for it.
 use Rattle.std.specs.Prelude.{◌≡◌, Bool, List, None, Result, Some, drop, length, true, ℕ}
-use Rattle.wt_seam_spec.specs.Outgoing.{bytes_within_credit}
+use Rattle.wt_turn.specs.Outgoing.{bytes_within_credit}
 use Rattle.wt_sessions.specs.Answers.{may_call, named_session}
 use Rattle.wt_sessions.specs.Connection.{opening_session, stream_header}
 use Rattle.wt_sessions.specs.Effect.{head_left}

@@ -2,8 +2,8 @@
 use Rattle.std.specs.Prelude.{[], ◌≡◌, List, Option, false, true, ℕ}
 use Rattle.wt_meaning.specs.Lawful.{is_client}
 use Rattle.wt_driver_laws.specs.Handing.{is_at_hand}
-use Rattle.wt_seam_spec.specs.Sent.{is_finished, is_reset, sent_on}
-use Rattle.wt_seam_spec.specs.Streams.{can_send, local_bi, local_count}
+use Rattle.wt_turn.specs.Sent.{is_finished, is_reset, sent_on}
+use Rattle.wt_turn.specs.Streams.{can_send, local_bi, local_count}
 use Rattle.wt_sessions.specs.Driver.{call_view}
 use Rattle.wt_sessions.specs.Handshake.{Connecting, Requested, Responding, handshake_state, requested_stream}
 use Rattle.wt_sessions.specs.StreamTable.{was_established}

@@ -13,7 +13,7 @@ use Rattle.wt_seam.specs.Typed.{StreamPair, Typed}
 use Rattle.wt_seam.specs.declared.stream.Session.{Session}
 use Rattle.wt_transport.specs.Kind.{local_kind}
 use Rattle.wt_transport.specs.Step.{after_opening, opened_id_now}
-use Rattle.wt_seam_spec.specs.Streams.{local_bi}
+use Rattle.wt_turn.specs.Streams.{local_bi}
 use Rattle.wt_sessions.specs.Connection.{stream_header}
 use Rattle.wt_turn.specs.Log.{Log}
 use Rattle.wt_turn.specs.declared.driver_error.DriverError.{DriverError}

@@ -6,7 +6,7 @@ use Rattle.wt_endpoint.specs.Endpoints.{closing, turned_if_open}
 use Rattle.wt_meaning.specs.History.{History, all_events, is_open}
 use Rattle.wt_meaning.specs.Lawful.{is_first, is_lawful, is_lost, may_receive}
 use Rattle.wt_meaning.specs.Meaning.{after_bytes, history_after, step}
-use Rattle.wt_seam_spec.specs.Reports.{is_connected}
+use Rattle.wt_turn.specs.Reports.{is_connected}
 use Rattle.wt_turn.specs.declared.turn.Turn.{Turn}
 use Rattle.wt_turn.specs.declared.turn.Turn.TheVariants as turns
 use Rattle.wt_wire.specs.declared.side.Side.{Side}

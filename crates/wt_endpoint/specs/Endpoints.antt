@@ -5,7 +5,7 @@ use Rattle.wt_meaning.specs.History.{History, is_open}
 use Rattle.wt_meaning.specs.History as history
 use Rattle.wt_meaning.specs.Lawful.{is_client, is_lawful}
 use Rattle.wt_meaning.specs.Meaning.{answer_to, history_after}
-use Rattle.wt_seam_spec.specs.Reports.{is_connected}
+use Rattle.wt_turn.specs.Reports.{is_connected}
 use Rattle.wt_turn.specs.Turns.{is_call}
 use Rattle.wt_turn.specs.declared.answer.Answer.{Answer}
 use Rattle.wt_turn.specs.declared.call.Call.TheVariants as calls

@@ -10,8 +10,8 @@ use Rattle.wt_follows.specs.Tie.{Follows}
 use Rattle.wt_kept.specs.Calling.{on_sessions}
 use Rattle.wt_kept.specs.Kept.{DriverNow, LiveNow}
 use Rattle.wt_kept.specs.Windows.{changed_live, given_stream, with_live}
-use Rattle.wt_seam_spec.specs.Streams.{contents}
-use Rattle.wt_seam_spec.specs.Unread.{ReadPosition}
+use Rattle.wt_turn.specs.Streams.{contents}
+use Rattle.wt_turn.specs.Unread.{ReadPosition}
 use Rattle.wt_sessions.specs.DriverState.{DriverState, state_of}
 use Rattle.wt_sessions.specs.Effect.{log_call}
 use Rattle.wt_sessions.specs.Moment.{Fits, MayRecord, is_peers}

@@ -12,7 +12,7 @@ use Rattle.wt_follows.specs.Tie.{Keeps, ReaderAt, SessionsFollow, WindowFollows,
 use Rattle.wt_kept.specs.Kept.{DispatchedNow, GoneNow, LiveNow, SessionsNow, WindowNow}
 use Rattle.wt_kept.specs.Readers.{session_rules}
 use Rattle.wt_kept.specs.Windows.{Admits, Admitted, Full, Gone, Taken, admit_by, admit_stream_now, changed_live, end_in, in_live, is_full, is_gone_now, is_live, live_in, with_live, with_stream}
-use Rattle.wt_seam_spec.specs.Unread.{ReadPosition}
+use Rattle.wt_turn.specs.Unread.{ReadPosition}
 use Rattle.wt_sessions.specs.DriverState.{DriverState}
 use Rattle.wt_sessions.specs.StreamTable.{Dispatched, DriverProgress, Session, Waiting, has_room}
 

@@ -13,8 +13,8 @@ use Rattle.wt_kept.specs.Moment.{with_work}
 use Rattle.wt_kept.specs.Pieces.{FedNow, body_fed, body_fed_by, body_feed, body_feed_by, control_slot}
 use Rattle.wt_kept.specs.Readers.{ControlReading, Slot}
 use Rattle.wt_kept.specs.Windows.{live_in}
-use Rattle.wt_seam_spec.specs.Reports.{end_of}
-use Rattle.wt_seam_spec.specs.Unread.{ReadPosition}
+use Rattle.wt_turn.specs.Reports.{end_of}
+use Rattle.wt_turn.specs.Unread.{ReadPosition}
 use Rattle.wt_sessions.specs.DriverState.{state_of}
 use Rattle.wt_turn.specs.Log.{Log, events_of, is_open}
 use Rattle.wt_turn.specs.declared.action.Action.{Action}

@@ -8,9 +8,9 @@ use Rattle.wt_kept.specs.Kept.{DispatchedNow, LiveNow}
 use Rattle.wt_kept.specs.Pieces.{body_fed, body_fed_by, control_slot}
 use Rattle.wt_kept.specs.Readers.{ControlReading, Slot}
 use Rattle.wt_kept.specs.Windows.{changed_live, live_in}
-use Rattle.wt_seam_spec.specs.Arrivals.{log_bytes}
-use Rattle.wt_seam_spec.specs.Streams.{contents}
-use Rattle.wt_seam_spec.specs.Unread.{AtOffset, ReadPosition, position_after}
+use Rattle.wt_turn.specs.Arrivals.{log_bytes}
+use Rattle.wt_turn.specs.Streams.{contents}
+use Rattle.wt_turn.specs.Unread.{AtOffset, ReadPosition, position_after}
 use Rattle.wt_turn.specs.Log.{Log}
 
 module _ (log : Log) (position : ℕ → ReadPosition) (id : ℕ) (part : List ℕ) (here : IsRead position (contents log) id) where

@@ -4,10 +4,10 @@ use Rattle.std.proofs.lemmas.List.{length-append}
 use Rattle.std.specs.Prelude.{◌==◌, if◌then◌else◌}
 use Rattle.wt_follows.specs.Tie.{ReaderAt}
 use Rattle.wt_kept.specs.Readers.{ReaderRules}
-use Rattle.wt_seam_spec.specs.Arrivals.{log_bytes}
-use Rattle.wt_seam_spec.specs.Sent.{is_reset}
-use Rattle.wt_seam_spec.specs.Streams.{contents}
-use Rattle.wt_seam_spec.specs.Unread.{ReadPosition}
+use Rattle.wt_turn.specs.Arrivals.{log_bytes}
+use Rattle.wt_turn.specs.Sent.{is_reset}
+use Rattle.wt_turn.specs.Streams.{contents}
+use Rattle.wt_turn.specs.Unread.{ReadPosition}
 use Rattle.wt_turn.specs.Log.{Log, Received, actions_of, all_events_of, calls_of, events_of, is_open}
 
 -- bytes of a stream leave all else as it was

@@ -23,11 +23,11 @@ use Rattle.wt_proto.specs.Bi.{bi_verdict_of}
 use Rattle.wt_proto.specs.Uni.{is_final, uni_verdict_of}
 use Rattle.wt_proto.specs.declared.verdict.Verdict.{Verdict}
 use Rattle.wt_proto.specs.declared.verdict.Verdict.TheVariants as verdicts
-use Rattle.wt_seam_spec.specs.Arrivals.{log_bytes, log_bytes_if, may_receive}
-use Rattle.wt_seam_spec.specs.Reports.{datagrams_of, end_of, is_connected, is_running, loss_of, unis_allowed}
-use Rattle.wt_seam_spec.specs.Sent.{is_finished, sent_on}
-use Rattle.wt_seam_spec.specs.Streams.{can_receive, contents, exists, local_bi, local_count, local_uni, peer_bi, peer_count, peer_uni, stream_count}
-use Rattle.wt_seam_spec.specs.Unread.{AtOffset, GivenUp, ReadPosition}
+use Rattle.wt_turn.specs.Arrivals.{log_bytes, log_bytes_if, may_receive}
+use Rattle.wt_turn.specs.Reports.{datagrams_of, end_of, is_connected, is_running, loss_of, unis_allowed}
+use Rattle.wt_turn.specs.Sent.{is_finished, sent_on}
+use Rattle.wt_turn.specs.Streams.{can_receive, contents, exists, local_bi, local_count, local_uni, peer_bi, peer_count, peer_uni, stream_count}
+use Rattle.wt_turn.specs.Unread.{AtOffset, GivenUp, ReadPosition}
 use Rattle.wt_sessions.specs.Driver.{ControlSent, control_sent, gives_up, still_sends}
 use Rattle.wt_sessions.specs.DriverState.{DriverState}
 use Rattle.wt_sessions.specs.Halves.{total_read}

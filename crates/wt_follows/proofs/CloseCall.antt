@@ -7,8 +7,8 @@ use Rattle.wt_kept.specs.Calling.{close_now}
 use Rattle.wt_kept.specs.Kept.{DriverNow}
 use Rattle.wt_transport.proofs.Refining.{close_refines}
 use Rattle.wt_transport.specs.Step.{after_close}
-use Rattle.wt_seam_spec.specs.Joined.{newest_first}
-use Rattle.wt_seam_spec.specs.Outgoing.{if_open}
+use Rattle.wt_turn.specs.Joined.{newest_first}
+use Rattle.wt_turn.specs.Outgoing.{if_open}
 use Rattle.wt_sessions.specs.DriverState.{state_of}
 use Rattle.wt_sessions.specs.Moment.{Fits}
 use Rattle.wt_turn.specs.Log.{Log, is_open, with_actions}

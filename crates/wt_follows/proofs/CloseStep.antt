@@ -10,9 +10,9 @@ use Rattle.wt_kept.specs.Moment.{close_step, closed_with, with_work, without_dat
 use Rattle.wt_transport.proofs.Refining.{close_refines, refined_open}
 use Rattle.wt_transport.specs.State.{Refines, TransportState}
 use Rattle.wt_transport.specs.Step.{after_close}
-use Rattle.wt_seam_spec.specs.Joined.{newest_first}
-use Rattle.wt_seam_spec.specs.Reports.{unis_allowed}
-use Rattle.wt_seam_spec.specs.Unread.{ReadPosition}
+use Rattle.wt_turn.specs.Joined.{newest_first}
+use Rattle.wt_turn.specs.Reports.{unis_allowed}
+use Rattle.wt_turn.specs.Unread.{ReadPosition}
 use Rattle.wt_sessions.specs.Driver.{ControlSent, close_actions, control_sent}
 use Rattle.wt_sessions.specs.DriverState.{DriverState}
 use Rattle.wt_turn.specs.Log.{Log, Sent, events_of, is_open, with_actions}

@@ -10,7 +10,7 @@ use Rattle.wt_proto.specs.declared.session_walk.SessionWalk.{SessionWalk}
 use Rattle.wt_proto.specs.declared.session_walk.SessionWalk.TheVariants as walks
 use Rattle.wt_proto.specs.declared.verdict.Verdict.{Verdict}
 use Rattle.wt_proto.specs.declared.verdict.Verdict.TheVariants as verdicts
-use Rattle.wt_seam_spec.specs.Reports.{is_running}
+use Rattle.wt_turn.specs.Reports.{is_running}
 use Rattle.wt_sessions.specs.DriverState.{DriverState}
 use Rattle.wt_sessions.specs.Scan.{check_control, check_qpack, control_read, critical_if, is_admitted, places_after, unless_ended, with_fault}
 use Rattle.wt_sessions.specs.Step.{Scanned, check_each_now, check_session_now, classify_now, parsed_now, place_now, scan_ids, stays_if, take_each_now, unless_faulty, walked_now}

@@ -33,10 +33,10 @@ use Rattle.wt_proto.specs.Bi.{bi_verdict_of}
 use Rattle.wt_proto.specs.ControlWalk.{control_walk_of}
 use Rattle.wt_proto.specs.Uni.{uni_verdict_of}
 use Rattle.wt_proto.specs.declared.control_walk.ControlWalk.{ControlWalk}
-use Rattle.wt_seam_spec.specs.Arrivals.{log_bytes}
-use Rattle.wt_seam_spec.specs.Reports.{end_of}
-use Rattle.wt_seam_spec.specs.Streams.{contents, exists, local_uni}
-use Rattle.wt_seam_spec.specs.Unread.{AtOffset, ReadPosition, position_after}
+use Rattle.wt_turn.specs.Arrivals.{log_bytes}
+use Rattle.wt_turn.specs.Reports.{end_of}
+use Rattle.wt_turn.specs.Streams.{contents, exists, local_uni}
+use Rattle.wt_turn.specs.Unread.{AtOffset, ReadPosition, position_after}
 use Rattle.wt_sessions.specs.Driver.{transport_view}
 use Rattle.wt_sessions.specs.DriverState.{DriverState, state_of}
 use Rattle.wt_sessions.specs.StreamTable.{DriverProgress, Session, TransportView}

@@ -25,9 +25,9 @@ use Rattle.wt_kept.specs.Readers.{ControlReading, Slot, control_rules, read_on}
 use Rattle.wt_transport.specs.State.{Refines, TransportState}
 use Rattle.wt_proto.specs.ControlWalk.{control_walk_of}
 use Rattle.wt_proto.specs.declared.control_walk.ControlWalk.{ControlWalk}
-use Rattle.wt_seam_spec.specs.Reports.{end_of, is_running}
-use Rattle.wt_seam_spec.specs.Streams.{contents, local_bi}
-use Rattle.wt_seam_spec.specs.Unread.{ReadPosition}
+use Rattle.wt_turn.specs.Reports.{end_of, is_running}
+use Rattle.wt_turn.specs.Streams.{contents, local_bi}
+use Rattle.wt_turn.specs.Unread.{ReadPosition}
 use Rattle.wt_sessions.specs.Driver.{transport_view}
 use Rattle.wt_sessions.specs.DriverState.{DriverState}
 use Rattle.wt_sessions.specs.Scan.{check_control, check_qpack, critical_if, unless_ended, with_fault}

@@ -17,8 +17,8 @@ use Rattle.wt_follows.specs.Tie.{Amid, Follows, Keeps, WindowFollows, WindowsFol
 use Rattle.wt_kept.specs.Calling.{on_sessions}
 use Rattle.wt_kept.specs.Kept.{DispatchedNow, DriverNow, LiveNow, WaitingDatagram}
 use Rattle.wt_kept.specs.Windows.{after_first, changed_live, given_datagram, with_live}
-use Rattle.wt_seam_spec.specs.Streams.{contents}
-use Rattle.wt_seam_spec.specs.Unread.{ReadPosition}
+use Rattle.wt_turn.specs.Streams.{contents}
+use Rattle.wt_turn.specs.Unread.{ReadPosition}
 use Rattle.wt_sessions.specs.DriverState.{DriverState, state_of}
 use Rattle.wt_sessions.specs.Effect.{log_call}
 use Rattle.wt_sessions.specs.Moment.{Fits, MayRecord}

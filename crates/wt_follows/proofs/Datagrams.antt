@@ -15,9 +15,9 @@ use Rattle.wt_kept.specs.Moment.{datagrams_step}
 use Rattle.wt_kept.specs.Readers.{bi_rules, uni_rules}
 use Rattle.wt_kept.specs.Windows.{admit_datagram_now}
 use Rattle.wt_message.specs.Datagram.{datagram_of}
-use Rattle.wt_seam_spec.specs.Reports.{datagrams_of}
-use Rattle.wt_seam_spec.specs.Streams.{contents}
-use Rattle.wt_seam_spec.specs.Unread.{ReadPosition}
+use Rattle.wt_turn.specs.Reports.{datagrams_of}
+use Rattle.wt_turn.specs.Streams.{contents}
+use Rattle.wt_turn.specs.Unread.{ReadPosition}
 use Rattle.wt_sessions.specs.Driver.{transport_view}
 use Rattle.wt_sessions.specs.DriverState.{DriverState}
 use Rattle.wt_sessions.specs.Scan.{is_admitted, unless_ended, with_fault, with_looked_at}

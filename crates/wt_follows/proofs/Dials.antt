@@ -6,7 +6,7 @@ use Rattle.wt_kept.specs.Kept.{DriverNow}
 use Rattle.wt_kept.specs.Moment.{with_work}
 use Rattle.wt_transport.proofs.Refining.{collected_refines, dial_refines}
 use Rattle.wt_transport.specs.Step.{after_dial}
-use Rattle.wt_seam_spec.specs.Joined.{newest_first}
+use Rattle.wt_turn.specs.Joined.{newest_first}
 use Rattle.wt_sessions.specs.DriverState.{DriverState, state_of}
 use Rattle.wt_sessions.specs.Moment.{Fits}
 use Rattle.wt_turn.specs.Log.{Log, with_actions}

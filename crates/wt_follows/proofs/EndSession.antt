@@ -31,10 +31,10 @@ use Rattle.wt_kept.specs.Moment.{with_work}
 use Rattle.wt_kept.specs.Windows.{is_live, lives_now}
 use Rattle.wt_message.specs.FixedBytes.{local_control_bytes}
 use Rattle.wt_transport.proofs.Refining.{actions-contents, refined_open}
-use Rattle.wt_seam_spec.specs.Joined.{newest_first}
-use Rattle.wt_seam_spec.specs.Reports.{credit, is_connected, unis_allowed}
-use Rattle.wt_seam_spec.specs.Streams.{contents, local_bi, local_uni, peer_bi, peer_uni}
-use Rattle.wt_seam_spec.specs.Unread.{AtOffset, ReadPosition}
+use Rattle.wt_turn.specs.Joined.{newest_first}
+use Rattle.wt_turn.specs.Reports.{credit, is_connected, unis_allowed}
+use Rattle.wt_turn.specs.Streams.{contents, local_bi, local_uni, peer_bi, peer_uni}
+use Rattle.wt_turn.specs.Unread.{AtOffset, ReadPosition}
 use Rattle.wt_sessions.proofs.LogFollows.{sent-fits}
 use Rattle.wt_sessions.specs.Driver.{ControlSent, control_actions, control_sent, transport_view}
 use Rattle.wt_sessions.specs.DriverState.{DriverState, state_of}

@@ -19,10 +19,10 @@ use Rattle.wt_transport.proofs.Asking.{refined_peer_bis, refined_peer_unis}
 use Rattle.wt_transport.proofs.Refining.{refined_fits, refined_side, turn_refines}
 use Rattle.wt_transport.specs.State.{Refines, TransportState}
 use Rattle.wt_transport.specs.Step.{after_turn, count_now, fits_now}
-use Rattle.wt_seam_spec.specs.Arrivals.{event_entry, fits, log_reported, log_turn, may_begin, may_receive}
-use Rattle.wt_seam_spec.specs.Reports.{bis_allowed, datagrams_of, end_of, end_reported, if_same, is_connected, is_running, loss_of, unis_allowed}
-use Rattle.wt_seam_spec.specs.Streams.{can_receive, contents, exists, local_bi, local_count, local_uni, one_more_if, peer_bi, peer_count, peer_opens, peer_uni, stream_count}
-use Rattle.wt_seam_spec.specs.Unread.{AtOffset, ReadPosition}
+use Rattle.wt_turn.specs.Arrivals.{event_entry, fits, log_reported, log_turn, may_begin, may_receive}
+use Rattle.wt_turn.specs.Reports.{bis_allowed, datagrams_of, end_of, end_reported, if_same, is_connected, is_running, loss_of, unis_allowed}
+use Rattle.wt_turn.specs.Streams.{can_receive, contents, exists, local_bi, local_count, local_uni, one_more_if, peer_bi, peer_count, peer_opens, peer_uni, stream_count}
+use Rattle.wt_turn.specs.Unread.{AtOffset, ReadPosition}
 use Rattle.wt_sessions.specs.Driver.{transport_view}
 use Rattle.wt_sessions.specs.DriverState.{DriverState, state_of}
 use Rattle.wt_sessions.specs.Moment.{is_peers}

@@ -7,7 +7,7 @@ use Rattle.wt_kept.specs.Arriving.{arrived_count, fresh_slot, fresh_slots, peer_
 use Rattle.wt_kept.specs.Kept.{ArrivingNow, DispatchedNow}
 use Rattle.wt_kept.specs.Readers.{ReaderRules, Slot}
 use Rattle.wt_transport.specs.State.{TransportState}
-use Rattle.wt_seam_spec.specs.Unread.{AtOffset, ReadPosition}
+use Rattle.wt_turn.specs.Unread.{AtOffset, ReadPosition}
 use Rattle.wt_sessions.specs.DriverState.{DriverState}
 
 -- ---- what is kept beside readers

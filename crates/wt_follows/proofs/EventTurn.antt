@@ -11,8 +11,8 @@ use Rattle.wt_kept.specs.Kept.{DriverNow}
 use Rattle.wt_kept.specs.Moment.{moment_now, without_datagrams, work_of_moment}
 use Rattle.wt_transport.proofs.Refining.{refined_open}
 use Rattle.wt_transport.specs.Step.{fits_now}
-use Rattle.wt_seam_spec.specs.Joined.{newest_first}
-use Rattle.wt_seam_spec.specs.Reports.{datagrams_of}
+use Rattle.wt_turn.specs.Joined.{newest_first}
+use Rattle.wt_turn.specs.Reports.{datagrams_of}
 use Rattle.wt_sessions.specs.Driver.{log_and_flush, transport_view}
 use Rattle.wt_sessions.specs.DriverState.{DriverState, state_of}
 use Rattle.wt_sessions.specs.Moment.{Fits, actions_if, moment_actions}

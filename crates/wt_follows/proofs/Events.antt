@@ -3,7 +3,7 @@ use Rattle.std.proofs.Common.{◌+◌, ◌^◌, ◌≤◌, ◌∷◌, Bool, arit
 use Rattle.std.proofs.lemmas.Bool.{lt-ltb, ltb-true}
 use Rattle.std.specs.Prelude.{◌%◌, ◌/◌}
 use Rattle.wt_follows.proofs.QuietEntry.{Quiet}
-use Rattle.wt_seam_spec.specs.Streams.{local_count, one_more_if, peer_bi, peer_count, peer_opens, peer_uni, stream_count}
+use Rattle.wt_turn.specs.Streams.{local_count, one_more_if, peer_bi, peer_count, peer_opens, peer_uni, stream_count}
 use Rattle.wt_turn.specs.Log.{Event, Log, Reported, actions_of, all_events_of}
 use Rattle.wt_wire.specs.declared.side.Side.{Side}
 

@@ -3,10 +3,10 @@ use Rattle.std.proofs.Common.{◌∙◌, ◌≡◌, ◌≤◌, ◌+◌, ◌++◌
 use Rattle.std.proofs.lemmas.Bool.{eq-eqb, eqb-true}
 use Rattle.std.proofs.lemmas.List.{length-append}
 use Rattle.std.specs.Prelude.{◌==◌, if◌then◌else◌}
-use Rattle.wt_seam_spec.specs.Arrivals.{log_bytes}
-use Rattle.wt_seam_spec.specs.Reports.{initial_credit}
-use Rattle.wt_seam_spec.specs.Streams.{contents, stream_count}
-use Rattle.wt_seam_spec.specs.Unread.{AtOffset, GivenUp, ReadPosition, advance, from_position, is_given_up, position_after, unread}
+use Rattle.wt_turn.specs.Arrivals.{log_bytes}
+use Rattle.wt_turn.specs.Reports.{initial_credit}
+use Rattle.wt_turn.specs.Streams.{contents, stream_count}
+use Rattle.wt_turn.specs.Unread.{AtOffset, GivenUp, ReadPosition, advance, from_position, is_given_up, position_after, unread}
 use Rattle.wt_transport.specs.StreamState.{Stream, rows}
 use Rattle.wt_transport.specs.State.{Holds, IsStream, IsWithin, Refines, TransportState, state_of, stream_of}
 use Rattle.wt_turn.specs.Log.{Log, Received, all_events_of}

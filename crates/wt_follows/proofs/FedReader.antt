@@ -8,7 +8,7 @@ use Rattle.wt_follows.proofs.IsReader.{IsReader}
 use Rattle.wt_follows.proofs.ReaderLaws.{has-said-is, take-part, take-whole, taken-final, taken-runs, taken-within}
 use Rattle.wt_follows.specs.Tie.{ReaderAt}
 use Rattle.wt_kept.specs.Readers.{ReaderRules, fed_piece, taken}
-use Rattle.wt_seam_spec.specs.Unread.{AtOffset, GivenUp, ReadPosition}
+use Rattle.wt_turn.specs.Unread.{AtOffset, GivenUp, ReadPosition}
 use Rattle.wt_wire.specs.declared.side.StreamEnd.{StreamEnd}
 use Rattle.wt_wire.specs.declared.side.StreamEnd.TheVariants.{Running}
 

@@ -9,7 +9,7 @@ use Rattle.wt_follows.proofs.OwnRequest.{peers-kept}
 use Rattle.wt_follows.specs.Roles.{AreDistinct, IsApart, IsSessions, is_arriving, is_in}
 use Rattle.wt_follows.specs.Tie.{WorkAmid}
 use Rattle.wt_kept.specs.Kept.{WorkNow}
-use Rattle.wt_seam_spec.specs.Unread.{ReadPosition}
+use Rattle.wt_turn.specs.Unread.{ReadPosition}
 use Rattle.wt_sessions.specs.DriverState.{DriverState}
 use Rattle.wt_turn.specs.Log.{Log}
 use Rattle.wt_turn.specs.declared.action.Action.{Action}

@@ -6,8 +6,8 @@ use Rattle.wt_follows.specs.Roles.{AreDistinct, IsApart, IsSessions, Roles, is_a
 use Rattle.wt_follows.specs.Tie.{AtHeader, ControlFollows, IsUntouched, Keeps, Placed, Sends, SessionsFollow, There, WorkAmid, goes, rests_at_header}
 use Rattle.wt_kept.specs.Kept.{DispatchedNow, WorkNow}
 use Rattle.wt_transport.proofs.Bools.{first}
-use Rattle.wt_seam_spec.specs.Streams.{can_receive, contents, exists, local_uni}
-use Rattle.wt_seam_spec.specs.Unread.{ReadPosition}
+use Rattle.wt_turn.specs.Streams.{can_receive, contents, exists, local_uni}
+use Rattle.wt_turn.specs.Unread.{ReadPosition}
 use Rattle.wt_sessions.specs.Driver.{still_sends}
 use Rattle.wt_sessions.specs.DriverState.{DriverState}
 use Rattle.wt_sessions.specs.Moment.{is_peers}

@@ -12,8 +12,8 @@ use Rattle.wt_follows.specs.Tie.{Amid, AtHeader, Keeps, Placed, There, WindowFol
 use Rattle.wt_kept.specs.Calling.{on_sessions}
 use Rattle.wt_kept.specs.Kept.{DispatchedNow, DriverNow, LiveNow}
 use Rattle.wt_kept.specs.Windows.{changed_live, given_stream, with_live, without_stream}
-use Rattle.wt_seam_spec.specs.Streams.{contents, exists, local_uni}
-use Rattle.wt_seam_spec.specs.Unread.{AtOffset, GivenUp, ReadPosition}
+use Rattle.wt_turn.specs.Streams.{contents, exists, local_uni}
+use Rattle.wt_turn.specs.Unread.{AtOffset, GivenUp, ReadPosition}
 use Rattle.wt_sessions.specs.DriverState.{DriverState}
 use Rattle.wt_sessions.specs.Moment.{is_peers}
 use Rattle.wt_sessions.specs.Step.{after_call, with_member_now}

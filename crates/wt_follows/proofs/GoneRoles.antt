@@ -12,9 +12,9 @@ use Rattle.wt_follows.specs.Tie.{AtHeader, ControlFollows, Placed, ReaderAt, Sen
 use Rattle.wt_kept.specs.Kept.{LiveNow}
 use Rattle.wt_kept.specs.Readers.{ControlReading, Slot, control_rules, session_rules}
 use Rattle.wt_kept.specs.Windows.{is_live}
-use Rattle.wt_seam_spec.specs.Sent.{is_finished, is_reset}
-use Rattle.wt_seam_spec.specs.Streams.{can_receive, exists, local_uni}
-use Rattle.wt_seam_spec.specs.Unread.{ReadPosition, given_up}
+use Rattle.wt_turn.specs.Sent.{is_finished, is_reset}
+use Rattle.wt_turn.specs.Streams.{can_receive, exists, local_uni}
+use Rattle.wt_turn.specs.Unread.{ReadPosition, given_up}
 use Rattle.wt_sessions.specs.Driver.{still_sends}
 use Rattle.wt_sessions.specs.DriverState.{DriverState}
 use Rattle.wt_sessions.specs.StreamTable.{Classified, Closed, Session, Waiting, streams_of}

@@ -13,10 +13,10 @@ use Rattle.wt_kept.specs.Kept.{DriverNow}
 use Rattle.wt_transport.proofs.Refining.{finish_refines, priority_refines, reset_refines, send_refines}
 use Rattle.wt_transport.specs.State.{Refines, TransportState}
 use Rattle.wt_transport.specs.Step.{after_finish, after_priority, after_reset, after_send, can_send_now, may_send_now}
-use Rattle.wt_seam_spec.specs.Joined.{newest_first, send_of}
-use Rattle.wt_seam_spec.specs.Outgoing.{actions_to_send, bytes_within_credit}
-use Rattle.wt_seam_spec.specs.Sent.{is_finished, is_reset, sent_on}
-use Rattle.wt_seam_spec.specs.Streams.{can_send, local_count, local_uni}
+use Rattle.wt_turn.specs.Joined.{newest_first, send_of}
+use Rattle.wt_turn.specs.Outgoing.{actions_to_send, bytes_within_credit}
+use Rattle.wt_turn.specs.Sent.{is_finished, is_reset, sent_on}
+use Rattle.wt_turn.specs.Streams.{can_send, local_count, local_uni}
 use Rattle.wt_sessions.specs.Driver.{control_sent}
 use Rattle.wt_sessions.specs.DriverState.{state_of}
 use Rattle.wt_sessions.specs.Effect.{log_call}

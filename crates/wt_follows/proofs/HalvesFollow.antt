@@ -12,11 +12,11 @@ use Rattle.wt_transport.specs.HalfRules.{is_closed}
 use Rattle.wt_transport.specs.Rules.{actions_of_finish, actions_of_reset, actions_of_write, after_finishing, after_priority_unless_closed, after_reset_unless_closed, after_write, sending_half_now}
 use Rattle.wt_transport.specs.State.{TransportState}
 use Rattle.wt_transport.specs.Step.{after_finish, after_priority, after_reset, after_send, can_send_now, may_send_now}
-use Rattle.wt_seam_spec.specs.Joined.{newest_first}
-use Rattle.wt_seam_spec.specs.Outgoing.{actions_to_send, may_send}
-use Rattle.wt_seam_spec.specs.Reports.{stop_of}
-use Rattle.wt_seam_spec.specs.Sent.{is_finished, is_reset}
-use Rattle.wt_seam_spec.specs.Streams.{can_send, local_uni}
+use Rattle.wt_turn.specs.Joined.{newest_first}
+use Rattle.wt_turn.specs.Outgoing.{actions_to_send, may_send}
+use Rattle.wt_turn.specs.Reports.{stop_of}
+use Rattle.wt_turn.specs.Sent.{is_finished, is_reset}
+use Rattle.wt_turn.specs.Streams.{can_send, local_uni}
 use Rattle.wt_sessions.specs.DriverState.{state_of}
 use Rattle.wt_sessions.specs.Effect.{log_call, poll_only, poll_sending, reply_with}
 use Rattle.wt_sessions.specs.Halves.{finish, is_done, reset, set_priority, write_by, write_error}

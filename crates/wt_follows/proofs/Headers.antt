@@ -6,8 +6,8 @@ use Rattle.wt_proto.specs.Bi.{bi_decides, bi_unfinished, bi_verdict_of}
 use Rattle.wt_proto.specs.Uni.{at_stream_end, or_at_stream_end, uni_header_at, uni_verdict_of}
 use Rattle.wt_proto.specs.Walk.{Reached, whole_walk}
 use Rattle.wt_proto.specs.declared.verdict.Verdict.{Verdict}
-use Rattle.wt_seam_spec.specs.Reports.{end_of}
-use Rattle.wt_seam_spec.specs.Streams.{contents}
+use Rattle.wt_turn.specs.Reports.{end_of}
+use Rattle.wt_turn.specs.Streams.{contents}
 use Rattle.wt_turn.specs.Log.{Log, events_of}
 use Rattle.wt_wire.specs.Ids.{is_bidirectional}
 use Rattle.wt_wire.specs.declared.side.StreamEnd.{StreamEnd}

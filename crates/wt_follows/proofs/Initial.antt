@@ -10,8 +10,8 @@ use Rattle.wt_kept.specs.Kept.{DriverNow}
 use Rattle.wt_kept.specs.Readers.{bi_rules, uni_rules}
 use Rattle.wt_transport.proofs.Refining.{new_refines}
 use Rattle.wt_transport.specs.Step.{nothing_connected}
-use Rattle.wt_seam_spec.specs.Streams.{contents}
-use Rattle.wt_seam_spec.specs.Unread.{at_start}
+use Rattle.wt_turn.specs.Streams.{contents}
+use Rattle.wt_turn.specs.Unread.{at_start}
 use Rattle.wt_sessions.specs.Driver.{call_view, control_sent, stream_table, transport_view}
 use Rattle.wt_sessions.specs.DriverState.{DriverState, state_by, state_of}
 use Rattle.wt_sessions.specs.StreamTable.{no_streams}

@@ -19,7 +19,7 @@ use Rattle.wt_proto.specs.WalkProgress.{WalkProgress, progress_over, reached_at,
 use Rattle.wt_proto.specs.declared.control_walk.ControlWalk.{ControlWalk}
 use Rattle.wt_proto.specs.declared.session_walk.SessionWalk.{SessionWalk}
 use Rattle.wt_proto.specs.declared.walk.Step.{Step}
-use Rattle.wt_seam_spec.specs.Reports.{is_running}
+use Rattle.wt_turn.specs.Reports.{is_running}
 use Rattle.wt_proto.proofs.SessionPieces.{stop_over}
 use Rattle.wt_proto.proofs.SessionReaderLaws.{fed-follows, session_reader_says, start-follows}
 use Rattle.wt_proto.proofs.SessionSteady.{session_walk_stays}

@@ -14,8 +14,8 @@ use Rattle.wt_follows.specs.Tie.{Amid, Follows, Keeps, Placed, WindowFollows, Wi
 use Rattle.wt_kept.specs.Calling.{on_sessions}
 use Rattle.wt_kept.specs.Kept.{DispatchedNow, DriverNow, LiveNow}
 use Rattle.wt_kept.specs.Windows.{changed_live, joined_by, with_live}
-use Rattle.wt_seam_spec.specs.Streams.{contents, exists, local_uni}
-use Rattle.wt_seam_spec.specs.Unread.{ReadPosition}
+use Rattle.wt_turn.specs.Streams.{contents, exists, local_uni}
+use Rattle.wt_turn.specs.Unread.{ReadPosition}
 use Rattle.wt_sessions.specs.DriverState.{DriverState, state_of}
 use Rattle.wt_sessions.specs.Effect.{log_call}
 use Rattle.wt_sessions.specs.Moment.{Fits, is_peers}

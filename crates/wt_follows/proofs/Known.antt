@@ -9,7 +9,7 @@ use Rattle.wt_follows.specs.Roles.{is_arriving, is_in}
 use Rattle.wt_follows.specs.Tie.{Follows, There}
 use Rattle.wt_kept.specs.Kept.{DriverNow}
 use Rattle.wt_meaning.specs.Moments.{ids_from}
-use Rattle.wt_seam_spec.specs.Streams.{exists, local_count, local_uni, peer_bi, peer_count, peer_uni, stream_count}
+use Rattle.wt_turn.specs.Streams.{exists, local_count, local_uni, peer_bi, peer_count, peer_uni, stream_count}
 use Rattle.wt_sessions.specs.Driver.{stream_table, transport_view}
 use Rattle.wt_sessions.specs.DriverState.{DriverState, state_of}
 use Rattle.wt_sessions.specs.Moment.{is_known, is_peers}

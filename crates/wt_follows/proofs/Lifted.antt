@@ -12,9 +12,9 @@ use Rattle.wt_kept.specs.Readers.{ReaderRules, Slot, bi_rules, read_on, reads_on
 use Rattle.wt_transport.proofs.Refining.{refined_side}
 use Rattle.wt_transport.specs.State.{TransportState}
 use Rattle.wt_transport.specs.Step.{count_now, unread_now}
-use Rattle.wt_seam_spec.specs.Reports.{datagrams_of}
-use Rattle.wt_seam_spec.specs.Streams.{contents}
-use Rattle.wt_seam_spec.specs.Unread.{ReadPosition}
+use Rattle.wt_turn.specs.Reports.{datagrams_of}
+use Rattle.wt_turn.specs.Streams.{contents}
+use Rattle.wt_turn.specs.Unread.{ReadPosition}
 use Rattle.wt_sessions.specs.Driver.{control_sent}
 use Rattle.wt_sessions.specs.DriverState.{DriverState}
 use Rattle.wt_turn.specs.Log.{Log, events_of, with_actions}

@@ -2,7 +2,7 @@
 use Rattle.std.proofs.Common.{◌∙◌, ◌≡◌, ◌++◌, ◌∷◌, Bool, List, [], ap, false, refl, subst, sym, true, ℕ}
 use Rattle.std.proofs.lemmas.Bool.{eq-eqb, eqb-true, false_from_ne_true, true≢false}
 use Rattle.std.specs.Prelude.{◌==◌}
-use Rattle.wt_seam_spec.specs.Joined.{newest_first}
+use Rattle.wt_turn.specs.Joined.{newest_first}
 use Rattle.wt_turn.specs.Log.{Log, Sent, calls_of, events_of, with_actions}
 use Rattle.wt_turn.specs.declared.action.Action.{Action}
 

@@ -7,8 +7,8 @@ use Rattle.wt_proto.specs.Bi.{bi_verdict_of}
 use Rattle.wt_proto.specs.Uni.{uni_verdict_of}
 use Rattle.wt_proto.specs.declared.session_walk.SessionWalk.{SessionWalk}
 use Rattle.wt_proto.specs.declared.session_walk.SessionWalk.TheVariants as walks
-use Rattle.wt_seam_spec.specs.Reports.{datagrams_of}
-use Rattle.wt_seam_spec.specs.Streams.{local_uni}
+use Rattle.wt_turn.specs.Reports.{datagrams_of}
+use Rattle.wt_turn.specs.Streams.{local_uni}
 use Rattle.wt_sessions.proofs.Moment.{kind-datagrams}
 use Rattle.wt_sessions.specs.Driver.{ControlSent, apply_if, call_view, is_moment, stream_table, transport_view}
 use Rattle.wt_sessions.specs.DriverState.{state_of}

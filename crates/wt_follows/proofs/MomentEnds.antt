@@ -19,10 +19,10 @@ use Rattle.wt_follows.specs.Tie.{Amid, Follows, goes}
 use Rattle.wt_kept.specs.Kept.{DriverNow, LiveNow}
 use Rattle.wt_kept.specs.Moment.{moment_now, work_of_moment, without_datagrams}
 use Rattle.wt_transport.proofs.Refining.{actions-contents, refined_open}
-use Rattle.wt_seam_spec.specs.Joined.{newest_first, send_of}
-use Rattle.wt_seam_spec.specs.Reports.{credit, is_connected, stop_of, unis_allowed}
-use Rattle.wt_seam_spec.specs.Streams.{contents, local_count, one_more_if, local_uni, peer_bi, peer_uni}
-use Rattle.wt_seam_spec.specs.Unread.{AtOffset, ReadPosition}
+use Rattle.wt_turn.specs.Joined.{newest_first, send_of}
+use Rattle.wt_turn.specs.Reports.{credit, is_connected, stop_of, unis_allowed}
+use Rattle.wt_turn.specs.Streams.{contents, local_count, one_more_if, local_uni, peer_bi, peer_uni}
+use Rattle.wt_turn.specs.Unread.{AtOffset, ReadPosition}
 use Rattle.wt_message.specs.FixedBytes.{local_control_bytes}
 use Rattle.wt_meaning.specs.Sends.{action_if}
 use Rattle.wt_sessions.proofs.LogFollows.{actions-follow, entry-follows}

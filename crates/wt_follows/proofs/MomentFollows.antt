@@ -27,10 +27,10 @@ use Rattle.wt_kept.specs.Readers.{BiReading, ControlReading, Slot, UniReading, b
 use Rattle.wt_proto.specs.Bi.{bi_verdict_of}
 use Rattle.wt_proto.specs.Uni.{uni_verdict_of}
 use Rattle.wt_proto.specs.declared.verdict.Verdict.{Verdict}
-use Rattle.wt_seam_spec.specs.Joined.{newest_first}
-use Rattle.wt_seam_spec.specs.Reports.{stop_of}
-use Rattle.wt_seam_spec.specs.Streams.{contents, local_uni}
-use Rattle.wt_seam_spec.specs.Unread.{AtOffset, ReadPosition}
+use Rattle.wt_turn.specs.Joined.{newest_first}
+use Rattle.wt_turn.specs.Reports.{stop_of}
+use Rattle.wt_turn.specs.Streams.{contents, local_uni}
+use Rattle.wt_turn.specs.Unread.{AtOffset, ReadPosition}
 use Rattle.wt_sessions.specs.Driver.{close_actions, control_sent, transport_view}
 use Rattle.wt_sessions.specs.DriverState.{DriverState}
 use Rattle.wt_sessions.specs.Scan.{places_after, unless_ended, with_no_actions}

@@ -9,8 +9,8 @@ use Rattle.wt_follows.specs.Tie.{AtHeader, ControlFollows, Placed, ReaderAt, Ses
 use Rattle.wt_kept.specs.Kept.{LiveNow, WorkNow}
 use Rattle.wt_kept.specs.Readers.{ControlReading, Slot, control_rules, session_rules}
 use Rattle.wt_transport.specs.State.{Refines, TransportState}
-use Rattle.wt_seam_spec.specs.Streams.{contents, exists}
-use Rattle.wt_seam_spec.specs.Unread.{ReadPosition}
+use Rattle.wt_turn.specs.Streams.{contents, exists}
+use Rattle.wt_turn.specs.Unread.{ReadPosition}
 use Rattle.wt_sessions.specs.DriverState.{DriverState}
 use Rattle.wt_sessions.specs.StreamTable.{Classified, Session}
 use Rattle.wt_turn.specs.Log.{Log, with_actions}

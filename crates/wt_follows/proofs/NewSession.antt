@@ -13,8 +13,8 @@ use Rattle.wt_kept.specs.Calling.{on_sessions}
 use Rattle.wt_kept.specs.Kept.{DispatchedNow, DriverNow, LiveNow, WaitingDatagram}
 use Rattle.wt_kept.specs.Readers.{session_rules}
 use Rattle.wt_kept.specs.Windows.{establish_now, live_from, with_live_by_id, without}
-use Rattle.wt_seam_spec.specs.Streams.{can_receive, contents}
-use Rattle.wt_seam_spec.specs.Unread.{AtOffset, ReadPosition}
+use Rattle.wt_turn.specs.Streams.{can_receive, contents}
+use Rattle.wt_turn.specs.Unread.{AtOffset, ReadPosition}
 use Rattle.wt_sessions.proofs.Scans.{filter-filter}
 use Rattle.wt_sessions.specs.Driver.{still_sends, with_session}
 use Rattle.wt_sessions.specs.DriverState.{DriverState}

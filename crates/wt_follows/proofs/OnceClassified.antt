@@ -13,7 +13,7 @@ use Rattle.wt_proto.specs.Bi.{bi_verdict_of}
 use Rattle.wt_proto.specs.Uni.{uni_verdict_of}
 use Rattle.wt_proto.specs.declared.session_walk.SessionWalk.{SessionWalk}
 use Rattle.wt_proto.specs.declared.verdict.Verdict.{Verdict}
-use Rattle.wt_seam_spec.specs.Streams.{peer_bi, peer_uni}
+use Rattle.wt_turn.specs.Streams.{peer_bi, peer_uni}
 use Rattle.wt_sessions.proofs.Scans.{classified-other}
 use Rattle.wt_sessions.specs.Driver.{apply_if, call_view, is_moment, stream_table, transport_view}
 use Rattle.wt_sessions.specs.DriverState.{state_of}

@@ -9,7 +9,7 @@ use Rattle.wt_follows.specs.Roles.{AreDistinct, IsApart, IsSessions, Roles, is_a
 use Rattle.wt_follows.specs.Tie.{There}
 use Rattle.wt_kept.specs.Arriving.{fresh_slot, fresh_slots}
 use Rattle.wt_kept.specs.Readers.{ReaderRules}
-use Rattle.wt_seam_spec.specs.Streams.{can_receive, exists, local_uni}
+use Rattle.wt_turn.specs.Streams.{can_receive, exists, local_uni}
 use Rattle.wt_sessions.specs.DriverState.{DriverState}
 use Rattle.wt_turn.specs.Log.{Log}
 use Rattle.wt_wire.specs.declared.side.Side.{Side}

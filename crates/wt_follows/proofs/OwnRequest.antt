@@ -8,9 +8,9 @@ use Rattle.wt_follows.specs.Tie.{ArePeers, Keeps, NoneEstablished, ReaderAt, Res
 use Rattle.wt_kept.specs.Kept.{DispatchedNow}
 use Rattle.wt_kept.specs.Readers.{ResponseReading, Slot, response_rules}
 use Rattle.wt_meaning.specs.Lawful.{is_client}
-use Rattle.wt_seam_spec.specs.Reports.{end_of, is_running}
-use Rattle.wt_seam_spec.specs.Streams.{local_bi}
-use Rattle.wt_seam_spec.specs.Unread.{AtOffset, ReadPosition}
+use Rattle.wt_turn.specs.Reports.{end_of, is_running}
+use Rattle.wt_turn.specs.Streams.{local_bi}
+use Rattle.wt_turn.specs.Unread.{AtOffset, ReadPosition}
 use Rattle.wt_sessions.specs.DriverState.{DriverState}
 use Rattle.wt_sessions.specs.Moment.{is_peers}
 use Rattle.wt_turn.specs.Log.{Event}

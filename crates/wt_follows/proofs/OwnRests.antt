@@ -11,10 +11,10 @@ use Rattle.wt_kept.specs.Kept.{DriverNow}
 use Rattle.wt_message.specs.FixedBytes.{local_control_bytes}
 use Rattle.wt_meaning.specs.Sends.{action_if}
 use Rattle.wt_transport.specs.StreamState.{Stream}
-use Rattle.wt_seam_spec.specs.Joined.{send_of}
-use Rattle.wt_seam_spec.specs.Reports.{credit, is_connected, stop_of}
-use Rattle.wt_seam_spec.specs.Streams.{local_uni}
-use Rattle.wt_seam_spec.specs.Unread.{ReadPosition}
+use Rattle.wt_turn.specs.Joined.{send_of}
+use Rattle.wt_turn.specs.Reports.{credit, is_connected, stop_of}
+use Rattle.wt_turn.specs.Streams.{local_uni}
+use Rattle.wt_turn.specs.Unread.{ReadPosition}
 use Rattle.wt_sessions.specs.Driver.{control_actions, control_sent, settings_ready}
 use Rattle.wt_sessions.specs.DriverState.{DriverState}
 use Rattle.wt_turn.specs.Log.{Called, Entry, Event, Log, Received, Reported, ReportedLate, Sent, Stop, events_of, with_actions}

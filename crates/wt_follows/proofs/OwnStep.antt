@@ -20,12 +20,12 @@ use Rattle.wt_transport.proofs.Refining.{refined_may_send, refined_sent, refined
 use Rattle.wt_transport.specs.State.{Refines, TransportState}
 use Rattle.wt_transport.specs.Step.{after_opening, after_send, count_now, covered_now, may_send_now, opened_id_now}
 use Rattle.wt_transport.specs.StreamState.{Stream}
-use Rattle.wt_seam_spec.specs.Joined.{newest_first, send_of}
-use Rattle.wt_seam_spec.specs.Outgoing.{actions_to_open, bytes_within_credit, credit_left, may_open, may_send, next_id, streams_allowed}
-use Rattle.wt_seam_spec.specs.Reports.{bis_allowed, credit, is_connected, stop_of, unis_allowed}
-use Rattle.wt_seam_spec.specs.Sent.{sent_on}
-use Rattle.wt_seam_spec.specs.Streams.{can_receive, contents, exists, local_count, local_uni, peer_bi, peer_uni, stream_count}
-use Rattle.wt_seam_spec.specs.Unread.{ReadPosition}
+use Rattle.wt_turn.specs.Joined.{newest_first, send_of}
+use Rattle.wt_turn.specs.Outgoing.{actions_to_open, bytes_within_credit, credit_left, may_open, may_send, next_id, streams_allowed}
+use Rattle.wt_turn.specs.Reports.{bis_allowed, credit, is_connected, stop_of, unis_allowed}
+use Rattle.wt_turn.specs.Sent.{sent_on}
+use Rattle.wt_turn.specs.Streams.{can_receive, contents, exists, local_count, local_uni, peer_bi, peer_uni, stream_count}
+use Rattle.wt_turn.specs.Unread.{ReadPosition}
 use Rattle.wt_sessions.specs.Driver.{ControlSent, control_actions, control_sent, settings_ready, still_sends}
 use Rattle.wt_sessions.specs.DriverState.{DriverState}
 use Rattle.wt_turn.specs.Log.{Log, Sent, actions_of, all_events_of, events_of, is_open, with_actions}

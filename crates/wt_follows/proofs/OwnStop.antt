@@ -17,9 +17,9 @@ use Rattle.wt_transport.proofs.Asking.{refined_stop}
 use Rattle.wt_transport.proofs.Refining.{refined_end}
 use Rattle.wt_transport.specs.State.{Refines, TransportState}
 use Rattle.wt_transport.specs.StreamState.{Stream}
-use Rattle.wt_seam_spec.specs.Reports.{end_of, is_running, stop_of}
-use Rattle.wt_seam_spec.specs.Streams.{exists, local_count, local_uni, one_more_if, peer_count, peer_opens}
-use Rattle.wt_seam_spec.specs.Unread.{ReadPosition}
+use Rattle.wt_turn.specs.Reports.{end_of, is_running, stop_of}
+use Rattle.wt_turn.specs.Streams.{exists, local_count, local_uni, one_more_if, peer_count, peer_opens}
+use Rattle.wt_turn.specs.Unread.{ReadPosition}
 use Rattle.wt_sessions.specs.Driver.{control_sent, transport_view}
 use Rattle.wt_sessions.specs.DriverState.{DriverState}
 use Rattle.wt_sessions.specs.Scan.{check_qpack, critical_if, unless_ended}

@@ -15,11 +15,11 @@ use Rattle.wt_follows.specs.Tie.{Amid, ArrivingFollows, AtHeader, ControlFollows
 use Rattle.wt_kept.specs.Kept.{ArrivingNow, DispatchedNow, DriverNow}
 use Rattle.wt_kept.specs.Readers.{BiReading, UniReading, bi_rules, uni_rules}
 use Rattle.wt_meaning.specs.Lawful.{is_client}
-use Rattle.wt_seam_spec.specs.Arrivals.{log_bytes}
-use Rattle.wt_seam_spec.specs.Reports.{datagrams_of, end_of, unis_allowed}
-use Rattle.wt_seam_spec.specs.Sent.{sent_on}
-use Rattle.wt_seam_spec.specs.Streams.{contents, exists, local_bi, local_count, local_uni}
-use Rattle.wt_seam_spec.specs.Unread.{AtOffset, ReadPosition, advance, position_after}
+use Rattle.wt_turn.specs.Arrivals.{log_bytes}
+use Rattle.wt_turn.specs.Reports.{datagrams_of, end_of, unis_allowed}
+use Rattle.wt_turn.specs.Sent.{sent_on}
+use Rattle.wt_turn.specs.Streams.{contents, exists, local_bi, local_count, local_uni}
+use Rattle.wt_turn.specs.Unread.{AtOffset, ReadPosition, advance, position_after}
 use Rattle.wt_sessions.specs.Driver.{ControlSent, control_sent}
 use Rattle.wt_sessions.specs.DriverState.{DriverState}
 use Rattle.wt_sessions.specs.StreamTable.{DriverProgress}

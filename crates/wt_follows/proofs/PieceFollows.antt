@@ -21,9 +21,9 @@ use Rattle.wt_kept.specs.Pieces.{FedNow, after_header, body_fed, body_fed_by, bo
 use Rattle.wt_kept.specs.Readers.{BiReading, ControlReading, ReaderRules, Slot, UniReading, bi_rules, fed_piece, uni_rules}
 use Rattle.wt_kept.specs.Windows.{live_in}
 use Rattle.wt_transport.proofs.Refining.{refined_open}
-use Rattle.wt_seam_spec.specs.Arrivals.{fits, may_receive}
-use Rattle.wt_seam_spec.specs.Reports.{end_of, is_connected, is_running, loss_of}
-use Rattle.wt_seam_spec.specs.Streams.{can_receive, contents}
+use Rattle.wt_turn.specs.Arrivals.{fits, may_receive}
+use Rattle.wt_turn.specs.Reports.{end_of, is_connected, is_running, loss_of}
+use Rattle.wt_turn.specs.Streams.{can_receive, contents}
 use Rattle.wt_sessions.proofs.LogFollows.{log-sends}
 use Rattle.wt_sessions.specs.Answers.{receive}
 use Rattle.wt_sessions.specs.Driver.{log_and_flush, transport_view}

@@ -2,8 +2,8 @@
 -- After a moment without a fault nothing is left to find, so what is left of a piece goes on in the same way.
 use Rattle.std.proofs.Common.{◌∙◌, ◌≡◌, ◌++◌, ◌∷◌, Bool, List, None, [], ap, refl, subst, suc, sym, true, ℕ}
 use Rattle.std.specs.Prelude.{if◌then◌else◌}
-use Rattle.wt_seam_spec.specs.Arrivals.{log_bytes}
-use Rattle.wt_seam_spec.specs.Streams.{contents}
+use Rattle.wt_turn.specs.Arrivals.{log_bytes}
+use Rattle.wt_turn.specs.Streams.{contents}
 use Rattle.wt_sessions.proofs.LogFollows.{log-follows, log-sends}
 use Rattle.wt_sessions.specs.Answers.{receive}
 use Rattle.wt_sessions.specs.Driver.{close_actions, log_and_flush, transport_view}

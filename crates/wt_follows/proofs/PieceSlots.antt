@@ -8,7 +8,7 @@ use Rattle.wt_follows.specs.Roles.{AreDistinct, is_in}
 use Rattle.wt_follows.specs.Tie.{ReaderAt, SlotsAt}
 use Rattle.wt_kept.specs.Pieces.{fed_slots, slot_of}
 use Rattle.wt_kept.specs.Readers.{ReaderRules, Slot, fed_piece}
-use Rattle.wt_seam_spec.specs.Unread.{AtOffset, ReadPosition}
+use Rattle.wt_turn.specs.Unread.{AtOffset, ReadPosition}
 
 abbrev pub ids_of : {V : Type 0} → List (Slot V) → List ℕ
 ids_of {V} xs = map (λ (x : Slot V). x.id) xs

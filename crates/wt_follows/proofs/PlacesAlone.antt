@@ -6,7 +6,7 @@ use Rattle.std.specs.Option.{option_or}
 use Rattle.std.specs.Prelude.{◌==◌, ◌||◌, if◌then◌else◌, not}
 use Rattle.wt_meaning.specs.Moments.{ids_from}
 use Rattle.wt_proto.specs.declared.verdict.Verdict.{Verdict}
-use Rattle.wt_seam_spec.specs.Streams.{peer_bi, peer_uni}
+use Rattle.wt_turn.specs.Streams.{peer_bi, peer_uni}
 use Rattle.wt_sessions.proofs.Following.{Kept}
 use Rattle.wt_sessions.proofs.LogFollows.{kept-of}
 use Rattle.wt_sessions.proofs.StreamIds.{bi-low, kind-is, kinds-differ, kinds-differ-so, uni-low}

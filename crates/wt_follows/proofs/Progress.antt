@@ -6,7 +6,7 @@ use Rattle.wt_follows.proofs.OwnRequest.{peers-kept}
 use Rattle.wt_follows.specs.Roles.{IsApart, IsSessions, Roles}
 use Rattle.wt_follows.specs.Tie.{Placed, Sends, There, WorkAmid, goes}
 use Rattle.wt_kept.specs.Kept.{WorkNow}
-use Rattle.wt_seam_spec.specs.Unread.{ReadPosition}
+use Rattle.wt_turn.specs.Unread.{ReadPosition}
 use Rattle.std.proofs.Common.{List, ℕ}
 use Rattle.wt_sessions.specs.DriverState.{DriverState}
 use Rattle.wt_sessions.specs.StreamTable.{DriverProgress}

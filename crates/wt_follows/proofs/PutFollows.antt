@@ -14,11 +14,11 @@ use Rattle.wt_kept.specs.Kept.{DriverNow}
 use Rattle.wt_kept.specs.Moment.{moment_now}
 use Rattle.wt_kept.specs.Pieces.{FedNow, moment_if}
 use Rattle.wt_message.specs.FixedBytes.{local_control_bytes}
-use Rattle.wt_seam_spec.specs.Arrivals.{log_bytes}
-use Rattle.wt_seam_spec.specs.Joined.{newest_first}
-use Rattle.wt_seam_spec.specs.Reports.{credit, is_connected, unis_allowed}
-use Rattle.wt_seam_spec.specs.Streams.{contents, local_uni}
-use Rattle.wt_seam_spec.specs.Unread.{ReadPosition, position_after}
+use Rattle.wt_turn.specs.Arrivals.{log_bytes}
+use Rattle.wt_turn.specs.Joined.{newest_first}
+use Rattle.wt_turn.specs.Reports.{credit, is_connected, unis_allowed}
+use Rattle.wt_turn.specs.Streams.{contents, local_uni}
+use Rattle.wt_turn.specs.Unread.{ReadPosition, position_after}
 use Rattle.wt_sessions.proofs.LogFollows.{log-follows, log-sends}
 use Rattle.wt_sessions.specs.Answers.{receive}
 use Rattle.wt_sessions.specs.Driver.{is_moment, log_and_flush, transport_view}

@@ -20,9 +20,9 @@ use Rattle.wt_transport.proofs.Asking.{refined_peer_bis, refined_peer_unis}
 use Rattle.wt_transport.proofs.Refining.{refined_side}
 use Rattle.wt_transport.specs.State.{Refines, TransportState}
 use Rattle.wt_transport.specs.Step.{count_now}
-use Rattle.wt_seam_spec.specs.Sent.{is_finished, is_reset, resets}
-use Rattle.wt_seam_spec.specs.Streams.{can_send, contents, local_uni}
-use Rattle.wt_seam_spec.specs.Unread.{AtOffset, GivenUp}
+use Rattle.wt_turn.specs.Sent.{is_finished, is_reset, resets}
+use Rattle.wt_turn.specs.Streams.{can_send, contents, local_uni}
+use Rattle.wt_turn.specs.Unread.{AtOffset, GivenUp}
 use Rattle.wt_sessions.specs.Driver.{gives_up, log_and_flush, still_sends, transport_view}
 use Rattle.wt_sessions.specs.DriverState.{DriverState, state_of}
 use Rattle.wt_sessions.specs.Halves.{bytes_read, total_read}

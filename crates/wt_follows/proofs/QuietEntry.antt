@@ -7,9 +7,9 @@ use Rattle.std.specs.Prelude.{◌&&◌, ◌%◌, ◌==◌, if◌then◌else◌, 
 use Rattle.wt_follows.proofs.Headers.{header-goes}
 use Rattle.wt_follows.proofs.Lists.{refuted}
 use Rattle.wt_follows.specs.Tie.{AtHeader, IsUntouched, Placed, Sends, There, goes_on_at, header_verdict, member_position}
-use Rattle.wt_seam_spec.specs.Sent.{is_finished, is_reset}
-use Rattle.wt_seam_spec.specs.Streams.{can_receive, can_send, contents, exists, local_count, local_uni, peer_bi, peer_uni, stream_count}
-use Rattle.wt_seam_spec.specs.Unread.{AtOffset, GivenUp, ReadPosition}
+use Rattle.wt_turn.specs.Sent.{is_finished, is_reset}
+use Rattle.wt_turn.specs.Streams.{can_receive, can_send, contents, exists, local_count, local_uni, peer_bi, peer_uni, stream_count}
+use Rattle.wt_turn.specs.Unread.{AtOffset, GivenUp, ReadPosition}
 use Rattle.wt_sessions.specs.Driver.{gives_up, still_sends}
 use Rattle.wt_sessions.specs.DriverState.{DriverState}
 use Rattle.wt_sessions.specs.Halves.{total_read}

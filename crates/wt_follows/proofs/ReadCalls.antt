@@ -25,9 +25,9 @@ use Rattle.wt_transport.proofs.Refining.{consume_refines, give_up_refines, refin
 use Rattle.wt_transport.specs.State.{Refines, TransportState}
 use Rattle.wt_transport.specs.Step.{after_consume, after_give_up, can_receive_now, count_now, unread_now, with_change}
 use Rattle.wt_transport.specs.StreamState.{consume, give_up, has_stream}
-use Rattle.wt_seam_spec.specs.Sent.{is_finished, is_reset, resets}
-use Rattle.wt_seam_spec.specs.Streams.{can_send, contents, exists, local_uni}
-use Rattle.wt_seam_spec.specs.Unread.{AtOffset, GivenUp, ReadPosition, advance, given_up, position_after}
+use Rattle.wt_turn.specs.Sent.{is_finished, is_reset, resets}
+use Rattle.wt_turn.specs.Streams.{can_send, contents, exists, local_uni}
+use Rattle.wt_turn.specs.Unread.{AtOffset, GivenUp, ReadPosition, advance, given_up, position_after}
 use Rattle.wt_sessions.specs.Driver.{gives_up, log_and_flush, still_sends, transport_view}
 use Rattle.wt_sessions.specs.DriverState.{DriverState, state_of}
 use Rattle.wt_sessions.specs.Effect.{log_call}

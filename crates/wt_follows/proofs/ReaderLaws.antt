@@ -9,8 +9,8 @@ use Rattle.wt_follows.specs.Tie.{ReaderAt}
 use Rattle.wt_kept.specs.Readers.{ReaderRules, consumed, fed_piece, noted_if, read_on, reads_on_if, taken}
 use Rattle.wt_transport.specs.State.{TransportState}
 use Rattle.wt_transport.specs.Step.{end_now, unread_now}
-use Rattle.wt_seam_spec.specs.Reports.{is_running}
-use Rattle.wt_seam_spec.specs.Unread.{AtOffset, ReadPosition, advance, from_position}
+use Rattle.wt_turn.specs.Reports.{is_running}
+use Rattle.wt_turn.specs.Unread.{AtOffset, ReadPosition, advance, from_position}
 use Rattle.wt_wire.specs.declared.side.StreamEnd.{StreamEnd}
 use Rattle.wt_wire.specs.declared.side.StreamEnd.TheVariants.{Fin, Reset, Running}
 

@@ -4,9 +4,9 @@ use Rattle.std.specs.Prelude.{◌==◌, ◌⊎◌}
 use Rattle.wt_follows.specs.Tie.{ReaderAt}
 use Rattle.wt_kept.specs.Readers.{ReaderRules, read_on}
 use Rattle.wt_transport.specs.State.{Refines, TransportState}
-use Rattle.wt_seam_spec.specs.Reports.{end_of, is_running}
-use Rattle.wt_seam_spec.specs.Streams.{contents}
-use Rattle.wt_seam_spec.specs.Unread.{AtOffset, ReadPosition}
+use Rattle.wt_turn.specs.Reports.{end_of, is_running}
+use Rattle.wt_turn.specs.Streams.{contents}
+use Rattle.wt_turn.specs.Unread.{AtOffset, ReadPosition}
 use Rattle.wt_turn.specs.Log.{Log, events_of}
 use Rattle.wt_turn.specs.declared.action.Action.{Action}
 use Rattle.wt_wire.specs.declared.side.Side.{Side}

@@ -8,10 +8,10 @@ use Rattle.wt_kept.specs.Kept.{DriverNow}
 use Rattle.wt_transport.specs.State.{IsStream, Refines, TransportState, stream_of}
 use Rattle.wt_transport.specs.State as transports
 use Rattle.wt_transport.specs.StreamState.{Stream, rows}
-use Rattle.wt_seam_spec.specs.Reports.{initial_credit}
-use Rattle.wt_seam_spec.specs.Sent.{is_reset, priority_of}
-use Rattle.wt_seam_spec.specs.Streams.{stream_count}
-use Rattle.wt_seam_spec.specs.Unread.{ReadPosition}
+use Rattle.wt_turn.specs.Reports.{initial_credit}
+use Rattle.wt_turn.specs.Sent.{is_reset, priority_of}
+use Rattle.wt_turn.specs.Streams.{stream_count}
+use Rattle.wt_turn.specs.Unread.{ReadPosition}
 use Rattle.wt_sessions.specs.Driver.{gives_up}
 use Rattle.wt_sessions.specs.DriverState.{DriverState}
 use Rattle.wt_sessions.specs.Halves.{bytes_read, total_read}

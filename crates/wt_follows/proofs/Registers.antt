@@ -17,8 +17,8 @@ use Rattle.wt_kept.specs.Readers.{ResponseReading, Slot}
 use Rattle.wt_kept.specs.Windows.{establish_now}
 use Rattle.wt_meaning.specs.Lawful.{is_client}
 use Rattle.wt_transport.proofs.Refining.{refined_open, refined_side}
-use Rattle.wt_seam_spec.specs.Joined.{newest_first}
-use Rattle.wt_seam_spec.specs.Streams.{exists, local_uni}
+use Rattle.wt_turn.specs.Joined.{newest_first}
+use Rattle.wt_turn.specs.Streams.{exists, local_uni}
 use Rattle.wt_sessions.specs.Driver.{call_view, transport_view}
 use Rattle.wt_sessions.specs.DriverState.{DriverState, state_of}
 use Rattle.wt_sessions.specs.Effect.{log_call}

@@ -15,7 +15,7 @@ use Rattle.wt_follows.specs.Tie.{Amid, Follows, Keeps, WorkAmid, classified_as, 
 use Rattle.wt_kept.specs.Classifying.{with_dispatched}
 use Rattle.wt_kept.specs.Kept.{DispatchedNow, DriverNow, QueuedRequest}
 use Rattle.wt_kept.specs.Moment.{with_work}
-use Rattle.wt_seam_spec.specs.Unread.{ReadPosition}
+use Rattle.wt_turn.specs.Unread.{ReadPosition}
 use Rattle.wt_sessions.specs.DriverState.{DriverState, state_of}
 use Rattle.wt_sessions.specs.Effect.{log_call}
 use Rattle.wt_sessions.specs.Moment.{Fits, MayRecord}

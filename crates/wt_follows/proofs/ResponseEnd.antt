@@ -14,7 +14,7 @@ use Rattle.wt_proto.specs.ResponseWalk.{headers_response, is_response_final, par
 use Rattle.wt_proto.specs.declared.response_walk.ResponseWalk.{ResponseWalk}
 use Rattle.wt_proto.specs.declared.response_walk.ResponseWalk.TheVariants as responses
 use Rattle.wt_proto.specs.declared.walk.Step.TheVariants.{Goes, Stops}
-use Rattle.wt_seam_spec.specs.Unread.{AtOffset, ReadPosition}
+use Rattle.wt_turn.specs.Unread.{AtOffset, ReadPosition}
 use Rattle.wt_wire.specs.FieldSection.{headers_of}
 use Rattle.wt_wire.specs.Frames as frames
 use Rattle.wt_wire.specs.HeaderList.{Fields}

@@ -21,9 +21,9 @@ use Rattle.wt_meaning.specs.Lawful.{is_client}
 use Rattle.wt_transport.proofs.Refining.{refined_no_pieces, refined_side, refined_unread}
 use Rattle.wt_transport.specs.State.{Refines, TransportState}
 use Rattle.wt_proto.specs.ResponseWalk.{response_walk_of}
-use Rattle.wt_seam_spec.specs.Reports.{end_of}
-use Rattle.wt_seam_spec.specs.Streams.{contents, exists, local_bi, local_uni}
-use Rattle.wt_seam_spec.specs.Unread.{AtOffset, ReadPosition, from_position}
+use Rattle.wt_turn.specs.Reports.{end_of}
+use Rattle.wt_turn.specs.Streams.{contents, exists, local_bi, local_uni}
+use Rattle.wt_turn.specs.Unread.{AtOffset, ReadPosition, from_position}
 use Rattle.wt_sessions.specs.DriverState.{DriverState, state_of}
 use Rattle.wt_sessions.specs.StreamTable.{Session}
 use Rattle.wt_turn.specs.Log.{Log, events_of, is_open}

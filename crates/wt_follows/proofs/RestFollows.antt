@@ -32,10 +32,10 @@ use Rattle.wt_transport.proofs.Refining.{refined_bytes_fit, refined_open}
 use Rattle.wt_transport.specs.State.{TransportState}
 use Rattle.wt_transport.specs.Step.{after_bytes, if_so, may_receive_now, with_change}
 use Rattle.wt_transport.specs.StreamState.{with_bytes}
-use Rattle.wt_seam_spec.specs.Arrivals.{fits, log_bytes}
-use Rattle.wt_seam_spec.specs.Reports.{credit, is_connected, unis_allowed}
-use Rattle.wt_seam_spec.specs.Streams.{contents, local_uni}
-use Rattle.wt_seam_spec.specs.Unread.{AtOffset, ReadPosition}
+use Rattle.wt_turn.specs.Arrivals.{fits, log_bytes}
+use Rattle.wt_turn.specs.Reports.{credit, is_connected, unis_allowed}
+use Rattle.wt_turn.specs.Streams.{contents, local_uni}
+use Rattle.wt_turn.specs.Unread.{AtOffset, ReadPosition}
 use Rattle.wt_sessions.specs.Answers.{receive}
 use Rattle.wt_sessions.specs.Driver.{log_and_flush, transport_view}
 use Rattle.wt_sessions.specs.DriverState.{DriverState, state_of}

@@ -13,7 +13,7 @@ use Rattle.wt_follows.specs.Tie.{Amid, Follows}
 use Rattle.wt_kept.specs.Kept.{CriticalNow, DriverNow, WorkNow}
 use Rattle.wt_proto.specs.Bi.{bi_verdict_of}
 use Rattle.wt_proto.specs.Uni.{uni_verdict_of}
-use Rattle.wt_seam_spec.specs.Streams.{contents, local_uni}
+use Rattle.wt_turn.specs.Streams.{contents, local_uni}
 use Rattle.wt_sessions.specs.Driver.{control_actions, transport_view}
 use Rattle.wt_sessions.specs.DriverState.{DriverState, state_of}
 use Rattle.wt_sessions.specs.Effect.{log_call}

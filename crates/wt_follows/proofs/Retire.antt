@@ -19,11 +19,11 @@ use Rattle.wt_transport.proofs.StillRunning.{reset_running_refines}
 use Rattle.wt_transport.specs.Running.{actions_of_reset_running, reset_running_now, still_receives}
 use Rattle.wt_transport.specs.State.{Refines, TransportState}
 use Rattle.wt_transport.specs.Step.{after_finish, may_send_now}
-use Rattle.wt_seam_spec.specs.Joined.{newest_first}
-use Rattle.wt_seam_spec.specs.Reports.{end_of, is_running, stop_of}
-use Rattle.wt_seam_spec.specs.Sent.{is_finished, is_reset}
-use Rattle.wt_seam_spec.specs.Streams.{can_receive, can_send, contents, exists, local_uni}
-use Rattle.wt_seam_spec.specs.Unread.{AtOffset, GivenUp, ReadPosition, is_given_up}
+use Rattle.wt_turn.specs.Joined.{newest_first}
+use Rattle.wt_turn.specs.Reports.{end_of, is_running, stop_of}
+use Rattle.wt_turn.specs.Sent.{is_finished, is_reset}
+use Rattle.wt_turn.specs.Streams.{can_receive, can_send, contents, exists, local_uni}
+use Rattle.wt_turn.specs.Unread.{AtOffset, GivenUp, ReadPosition, is_given_up}
 use Rattle.wt_sessions.specs.Driver.{gives_up, still_sends, transport_view}
 use Rattle.wt_sessions.specs.DriverState.{DriverState}
 use Rattle.wt_sessions.specs.Halves.{total_read}

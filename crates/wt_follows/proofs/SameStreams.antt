@@ -9,8 +9,8 @@ use Rattle.wt_follows.specs.Roles.{Roles, is_member}
 use Rattle.wt_follows.specs.Tie.{AtHeader, ControlFollows, Keeps, Placed, Sends, SessionsFollow, There, WorkAmid, goes, rests_at_header}
 use Rattle.wt_kept.specs.Kept.{DispatchedNow, WorkNow}
 use Rattle.wt_transport.specs.State.{Refines, TransportState}
-use Rattle.wt_seam_spec.specs.Streams.{contents, exists}
-use Rattle.wt_seam_spec.specs.Unread.{ReadPosition}
+use Rattle.wt_turn.specs.Streams.{contents, exists}
+use Rattle.wt_turn.specs.Unread.{ReadPosition}
 use Rattle.wt_sessions.specs.Driver.{ControlSent}
 use Rattle.wt_sessions.specs.DriverState.{DriverState}
 use Rattle.wt_sessions.specs.StreamTable.{Admitted, DriverProgress}

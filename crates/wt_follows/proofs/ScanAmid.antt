@@ -29,10 +29,10 @@ use Rattle.wt_transport.specs.Step.{end_now, unread_now}
 use Rattle.wt_proto.specs.Uni.{is_final}
 use Rattle.wt_proto.specs.declared.verdict.Verdict.{Verdict}
 use Rattle.wt_proto.specs.declared.verdict.Verdict.TheVariants as verdicts
-use Rattle.wt_seam_spec.specs.Joined.{newest_first}
-use Rattle.wt_seam_spec.specs.Reports.{end_of}
-use Rattle.wt_seam_spec.specs.Streams.{contents, exists, local_uni}
-use Rattle.wt_seam_spec.specs.Unread.{AtOffset, GivenUp, ReadPosition, advance, from_position, position_after}
+use Rattle.wt_turn.specs.Joined.{newest_first}
+use Rattle.wt_turn.specs.Reports.{end_of}
+use Rattle.wt_turn.specs.Streams.{contents, exists, local_uni}
+use Rattle.wt_turn.specs.Unread.{AtOffset, GivenUp, ReadPosition, advance, from_position, position_after}
 use Rattle.wt_sessions.specs.Driver.{transport_view}
 use Rattle.wt_sessions.specs.DriverState.{DriverState}
 use Rattle.wt_sessions.specs.Scan.{places_after, with_fault}

@@ -24,12 +24,12 @@ use Rattle.wt_transport.specs.State.{Refines, TransportState}
 use Rattle.wt_transport.specs.Step.{count_now}
 use Rattle.wt_proto.specs.Bi.{bi_verdict_of}
 use Rattle.wt_proto.specs.Uni.{uni_verdict_of}
-use Rattle.wt_seam_spec.specs.Joined.{newest_first}
+use Rattle.wt_turn.specs.Joined.{newest_first}
 use Rattle.wt_message.specs.FixedBytes.{local_control_bytes}
-use Rattle.wt_seam_spec.specs.Reports.{credit, is_connected, datagrams_of, end_of, unis_allowed}
-use Rattle.wt_seam_spec.specs.Sent.{is_finished, is_reset}
-use Rattle.wt_seam_spec.specs.Streams.{can_receive, contents, exists, local_count, local_uni, peer_bi, peer_uni, stream_count}
-use Rattle.wt_seam_spec.specs.Unread.{AtOffset, GivenUp}
+use Rattle.wt_turn.specs.Reports.{credit, is_connected, datagrams_of, end_of, unis_allowed}
+use Rattle.wt_turn.specs.Sent.{is_finished, is_reset}
+use Rattle.wt_turn.specs.Streams.{can_receive, contents, exists, local_count, local_uni, peer_bi, peer_uni, stream_count}
+use Rattle.wt_turn.specs.Unread.{AtOffset, GivenUp}
 use Rattle.wt_sessions.specs.Driver.{ControlSent, control_sent, control_actions, gives_up, still_sends, stream_table, transport_view}
 use Rattle.wt_sessions.specs.DriverState.{DriverState, state_of}
 use Rattle.wt_sessions.specs.Halves.{total_read}

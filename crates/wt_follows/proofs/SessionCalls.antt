@@ -19,9 +19,9 @@ use Rattle.wt_kept.specs.Ending.{finish_and_retire, finish_running, retire_now}
 use Rattle.wt_kept.specs.Kept.{DriverNow, Ended, Refused}
 use Rattle.wt_meaning.specs.Lawful.{is_client}
 use Rattle.wt_transport.specs.State.{Refines}
-use Rattle.wt_seam_spec.specs.Joined.{newest_first}
-use Rattle.wt_seam_spec.specs.Streams.{local_bi, peer_bi, peer_uni}
-use Rattle.wt_seam_spec.specs.Unread.{AtOffset, GivenUp, ReadPosition}
+use Rattle.wt_turn.specs.Joined.{newest_first}
+use Rattle.wt_turn.specs.Streams.{local_bi, peer_bi, peer_uni}
+use Rattle.wt_turn.specs.Unread.{AtOffset, GivenUp, ReadPosition}
 use Rattle.wt_sessions.specs.Driver.{gives_up, transport_view}
 use Rattle.wt_sessions.specs.DriverState.{DriverState}
 use Rattle.wt_sessions.specs.Halves.{total_read}

@@ -14,7 +14,7 @@ use Rattle.wt_kept.specs.Looking.{with_session_reader}
 use Rattle.wt_kept.specs.Readers.{session_rules}
 use Rattle.wt_kept.specs.Windows.{changed_live, is_live, live_in}
 use Rattle.wt_transport.specs.State.{TransportState}
-use Rattle.wt_seam_spec.specs.Unread.{ReadPosition}
+use Rattle.wt_turn.specs.Unread.{ReadPosition}
 use Rattle.wt_sessions.specs.DriverState.{DriverState}
 use Rattle.wt_proto.specs.SessionReader.{SessionReader}
 use Rattle.wt_sessions.specs.StreamTable.{Dispatched, Session}

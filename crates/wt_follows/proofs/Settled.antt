@@ -12,9 +12,9 @@ use Rattle.wt_kept.specs.Readers.{bi_rules, uni_rules}
 use Rattle.wt_transport.proofs.Refining.{actions-contents}
 use Rattle.wt_proto.specs.Bi.{bi_verdict_of}
 use Rattle.wt_proto.specs.Uni.{uni_verdict_of}
-use Rattle.wt_seam_spec.specs.Reports.{datagrams_of, end_of, unis_allowed}
-use Rattle.wt_seam_spec.specs.Streams.{contents, exists, local_count, peer_bi, peer_count, peer_uni, stream_count}
-use Rattle.wt_seam_spec.specs.Unread.{AtOffset, GivenUp, ReadPosition}
+use Rattle.wt_turn.specs.Reports.{datagrams_of, end_of, unis_allowed}
+use Rattle.wt_turn.specs.Streams.{contents, exists, local_count, peer_bi, peer_count, peer_uni, stream_count}
+use Rattle.wt_turn.specs.Unread.{AtOffset, GivenUp, ReadPosition}
 use Rattle.wt_sessions.specs.Driver.{control_sent, gives_up}
 use Rattle.wt_sessions.specs.DriverState.{DriverState}
 use Rattle.wt_sessions.specs.Halves.{total_read}

@@ -11,8 +11,8 @@ use Rattle.wt_kept.specs.Kept.{DriverNow}
 use Rattle.wt_transport.proofs.Refining.{stop_refines}
 use Rattle.wt_transport.specs.State.{TransportState}
 use Rattle.wt_transport.specs.Step.{after_give_up, after_stop, can_receive_now, if_so, with_action}
-use Rattle.wt_seam_spec.specs.Joined.{newest_first}
-use Rattle.wt_seam_spec.specs.Outgoing.{if_open}
+use Rattle.wt_turn.specs.Joined.{newest_first}
+use Rattle.wt_turn.specs.Outgoing.{if_open}
 use Rattle.wt_sessions.specs.DriverState.{DriverState, state_of}
 use Rattle.wt_sessions.specs.Halves.{stop_receiving}
 use Rattle.wt_sessions.specs.Moment.{Fits}

@@ -12,9 +12,9 @@ use Rattle.wt_transport.proofs.Bools.{first, second}
 use Rattle.wt_transport.proofs.Refining.{give_up_refines, refined_can_receive, stop_refines}
 use Rattle.wt_transport.specs.State.{Refines}
 use Rattle.wt_transport.specs.Step.{after_give_up, after_stop, can_receive_now}
-use Rattle.wt_seam_spec.specs.Joined.{newest_first}
-use Rattle.wt_seam_spec.specs.Streams.{can_receive, exists, local_count, local_uni, one_more_if, opens, peer_count, stream_count}
-use Rattle.wt_seam_spec.specs.Unread.{ReadPosition, given_up, GivenUp}
+use Rattle.wt_turn.specs.Joined.{newest_first}
+use Rattle.wt_turn.specs.Streams.{can_receive, exists, local_count, local_uni, one_more_if, opens, peer_count, stream_count}
+use Rattle.wt_turn.specs.Unread.{ReadPosition, given_up, GivenUp}
 use Rattle.wt_sessions.specs.Driver.{still_sends}
 use Rattle.wt_sessions.specs.DriverState.{DriverState}
 use Rattle.wt_turn.specs.Log.{Log, Sent, actions_of, all_events_of, is_open, with_actions}

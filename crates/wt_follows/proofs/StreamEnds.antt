@@ -11,11 +11,11 @@ use Rattle.wt_transport.proofs.StillRunning.{reset_running_refines, stop_running
 use Rattle.wt_transport.specs.Running.{reset_running_now, still_receives, stop_running_now}
 use Rattle.wt_transport.specs.Step.{after_give_up, can_receive_now}
 use Rattle.wt_transport.specs.State.{Refines, TransportState}
-use Rattle.wt_seam_spec.specs.Joined.{newest_first}
-use Rattle.wt_seam_spec.specs.Outgoing.{if_open, reset_entry}
-use Rattle.wt_seam_spec.specs.Sent.{is_finished, is_reset}
-use Rattle.wt_seam_spec.specs.Streams.{can_receive, can_send, exists, local_count, local_uni, one_more_if, opens, peer_count}
-use Rattle.wt_seam_spec.specs.Unread.{GivenUp, ReadPosition, given_up}
+use Rattle.wt_turn.specs.Joined.{newest_first}
+use Rattle.wt_turn.specs.Outgoing.{if_open, reset_entry}
+use Rattle.wt_turn.specs.Sent.{is_finished, is_reset}
+use Rattle.wt_turn.specs.Streams.{can_receive, can_send, exists, local_count, local_uni, one_more_if, opens, peer_count}
+use Rattle.wt_turn.specs.Unread.{GivenUp, ReadPosition, given_up}
 use Rattle.wt_sessions.specs.Driver.{still_sends}
 use Rattle.wt_turn.specs.Log.{Called, Log, ResetUnsent, Sent, actions_of, all_events_of, calls_of, events_of, is_open, with_actions}
 use Rattle.wt_turn.specs.declared.action.Action.{Action}

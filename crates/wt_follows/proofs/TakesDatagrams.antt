@@ -14,7 +14,7 @@ use Rattle.wt_follows.specs.Tie.{Keeps, SessionsFollow, WindowFollows, WindowsFo
 use Rattle.wt_kept.specs.Kept.{DispatchedNow, LiveNow, SessionsNow, WaitingDatagram, WindowNow}
 use Rattle.wt_kept.specs.Windows.{Admits, Full, Gone, Taken, admit_by, admit_datagram_now, changed_live, end_in, in_live, is_full, is_gone_now, is_live, live_in, with_datagram, with_live}
 use Rattle.wt_kept.specs.Windows as windows
-use Rattle.wt_seam_spec.specs.Unread.{ReadPosition}
+use Rattle.wt_turn.specs.Unread.{ReadPosition}
 use Rattle.wt_sessions.specs.DriverState.{DriverState}
 use Rattle.wt_sessions.specs.Scan.{is_admitted, with_looked_at}
 use Rattle.wt_sessions.specs.Step.{place_now}

@@ -7,8 +7,8 @@ use Rattle.wt_follows.specs.Tie.{Amid}
 use Rattle.wt_kept.specs.Calling.{driver_at_first, turn_now}
 use Rattle.wt_kept.specs.Kept.{DriverNow}
 use Rattle.wt_transport.proofs.Refining.{collected_refines, refined_actions}
-use Rattle.wt_seam_spec.specs.Arrivals.{fits}
-use Rattle.wt_seam_spec.specs.Joined.{joined_actions}
+use Rattle.wt_turn.specs.Arrivals.{fits}
+use Rattle.wt_turn.specs.Joined.{joined_actions}
 use Rattle.wt_sessions.specs.Answers.{actions_since, answers_from, answers_to, log_after, turn_effect}
 use Rattle.wt_sessions.specs.DriverState.{state_of}
 use Rattle.wt_turn.specs.Log.{Log, actions_of}

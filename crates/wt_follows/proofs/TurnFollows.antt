@@ -20,9 +20,9 @@ use Rattle.wt_transport.proofs.Refining.{refined_fits, refined_open, turn_refine
 use Rattle.wt_transport.specs.State.{Refines}
 use Rattle.wt_transport.specs.Step.{after_turn, fits_now, if_so, with_change}
 use Rattle.wt_transport.specs.StreamState.{with_bytes}
-use Rattle.wt_seam_spec.specs.Arrivals.{event_entry, fits, log_reported, log_turn}
-use Rattle.wt_seam_spec.specs.Joined.{newest_first}
-use Rattle.wt_seam_spec.specs.Unread.{ReadPosition}
+use Rattle.wt_turn.specs.Arrivals.{event_entry, fits, log_reported, log_turn}
+use Rattle.wt_turn.specs.Joined.{newest_first}
+use Rattle.wt_turn.specs.Unread.{ReadPosition}
 use Rattle.wt_sessions.proofs.LogFollows.{log-sends}
 use Rattle.wt_sessions.specs.Answers.{log_after, log_from, receive, turn_effect}
 use Rattle.wt_sessions.specs.Driver.{flush, log_and_flush, stream_table, transport_view}

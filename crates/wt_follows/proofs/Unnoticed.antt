@@ -15,10 +15,10 @@ use Rattle.wt_kept.specs.Kept.{DriverNow}
 use Rattle.wt_transport.specs.State.{IsStream, Refines, TransportState, stream_of}
 use Rattle.wt_transport.specs.State as transports
 use Rattle.wt_transport.specs.StreamState.{Stream, rows}
-use Rattle.wt_seam_spec.specs.Reports.{initial_credit}
-use Rattle.wt_seam_spec.specs.Streams.{peer_bi, peer_uni, stream_count}
-use Rattle.wt_seam_spec.specs.Sent.{is_reset}
-use Rattle.wt_seam_spec.specs.Unread.{ReadPosition}
+use Rattle.wt_turn.specs.Reports.{initial_credit}
+use Rattle.wt_turn.specs.Streams.{peer_bi, peer_uni, stream_count}
+use Rattle.wt_turn.specs.Sent.{is_reset}
+use Rattle.wt_turn.specs.Unread.{ReadPosition}
 use Rattle.wt_sessions.specs.Driver.{gives_up, log_and_flush, transport_view}
 use Rattle.wt_sessions.specs.DriverState.{DriverState, state_of}
 use Rattle.wt_sessions.specs.Halves.{bytes_read, total_read}

@@ -3,7 +3,7 @@ use Rattle.std.specs.Prelude.{[], ◌∷◌, ◌≡◌, List, true}
 use Rattle.wt_kept.specs.Calling.{driver_at_first, turn_now}
 use Rattle.wt_kept.specs.Kept.{DriverNow}
 use Rattle.wt_kept.specs.Moment.{with_work}
-use Rattle.wt_seam_spec.specs.Arrivals.{fits}
+use Rattle.wt_turn.specs.Arrivals.{fits}
 use Rattle.wt_sessions.specs.Answers.{answers_to, log_after}
 use Rattle.wt_turn.specs.Log.{Log}
 use Rattle.wt_turn.specs.declared.answer.Answer.{Answer}

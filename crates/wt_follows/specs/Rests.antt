@@ -3,8 +3,8 @@ use Rattle.std.specs.Prelude.{[], ◌∷◌, ◌≡◌, List, None, Option, Some
 use Rattle.wt_follows.specs.Pieces.{FindsNothing}
 use Rattle.wt_kept.specs.Kept.{DriverNow, LiveNow}
 use Rattle.wt_kept.specs.Readers.{BiReading, ControlReading, Slot, UniReading}
-use Rattle.wt_seam_spec.specs.Streams.{contents}
-use Rattle.wt_seam_spec.specs.Unread.{AtOffset, ReadPosition}
+use Rattle.wt_turn.specs.Streams.{contents}
+use Rattle.wt_turn.specs.Unread.{AtOffset, ReadPosition}
 use Rattle.wt_sessions.specs.Driver.{transport_view}
 use Rattle.wt_sessions.specs.DriverState.{state_of}
 use Rattle.wt_turn.specs.Log.{Log}

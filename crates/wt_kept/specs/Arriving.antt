@@ -5,7 +5,7 @@ use Rattle.wt_kept.specs.Kept.{ArrivingNow, WorkNow}
 use Rattle.wt_kept.specs.Readers.{ReadOn, ReaderRules, Slot, read_on}
 use Rattle.wt_proto.specs.declared.verdict.Verdict.{Verdict}
 use Rattle.wt_proto.specs.declared.verdict.Verdict.TheVariants as verdicts
-use Rattle.wt_seam_spec.specs.Streams.{peer_bi, peer_uni}
+use Rattle.wt_turn.specs.Streams.{peer_bi, peer_uni}
 use Rattle.wt_sessions.specs.Scan.{places_after}
 use Rattle.wt_transport.specs.State.{TransportState}
 use Rattle.wt_transport.specs.Step.{count_now}

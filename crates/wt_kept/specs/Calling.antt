@@ -12,7 +12,7 @@ use Rattle.wt_kept.specs.Windows.{empty_window, establish_now, is_gone_now, live
 use Rattle.wt_transport.specs.State.{TransportState}
 use Rattle.wt_transport.specs.Step.{after_close, after_turn, fits_now, nothing_connected}
 use Rattle.wt_proto.specs.declared.response_walk.ResponseWalk.{ResponseWalk}
-use Rattle.wt_seam_spec.specs.Streams.{local_bi}
+use Rattle.wt_turn.specs.Streams.{local_bi}
 use Rattle.wt_turn.specs.declared.turn.Turn.{Turn}
 use Rattle.wt_turn.specs.declared.turn.Turn.TheVariants as turns
 use Rattle.wt_wire.specs.HeaderList.{Fields}

@@ -8,7 +8,7 @@ use Rattle.wt_kept.specs.Windows.{admit_datagram_now, live_in, with_live}
 use Rattle.wt_message.specs.Datagram.{datagram_of}
 use Rattle.wt_proto.specs.WalkProgress.{reached_in}
 use Rattle.wt_proto.specs.declared.session_walk.SessionWalk.{SessionWalk}
-use Rattle.wt_seam_spec.specs.Reports.{is_running}
+use Rattle.wt_turn.specs.Reports.{is_running}
 use Rattle.wt_proto.specs.SessionReader.{SessionReader}
 use Rattle.wt_transport.specs.State.{TransportState}
 use Rattle.wt_transport.specs.Step.{end_now, stop_now}

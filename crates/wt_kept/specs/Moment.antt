@@ -7,7 +7,7 @@ use Rattle.wt_kept.specs.Kept.{DriverNow, OwnControlNow, WorkNow}
 use Rattle.wt_kept.specs.Looking.{admit_each, check_qpack_now, fail_if_closed, is_own_stopped, read_control, read_sessions}
 use Rattle.wt_kept.specs.Readers.{BiReading, UniReading, bi_rules, uni_rules}
 use Rattle.wt_message.specs.FixedBytes.{local_control_bytes}
-use Rattle.wt_seam_spec.specs.Streams.{local_uni}
+use Rattle.wt_turn.specs.Streams.{local_uni}
 use Rattle.wt_transport.specs.State.{TransportState}
 use Rattle.wt_transport.specs.Step.{after_close, after_opening, after_send, covered_now, may_send_now, opened_id_now}
 use Rattle.wt_wire.specs.Codes.{code_of}

@@ -13,7 +13,7 @@ use Rattle.wt_proto.specs.declared.response_walk.ResponseWalk.{ResponseWalk}
 use Rattle.wt_proto.specs.declared.session_walk.SessionWalk.{SessionWalk}
 use Rattle.wt_proto.specs.declared.verdict.Verdict.{Verdict}
 use Rattle.wt_proto.specs.declared.walk.Step.{Step}
-use Rattle.wt_seam_spec.specs.Reports.{is_running}
+use Rattle.wt_turn.specs.Reports.{is_running}
 use Rattle.wt_proto.specs.SessionReader.{SessionReader, session_ended, session_fed, session_reader, session_said}
 use Rattle.wt_transport.specs.State.{TransportState}
 use Rattle.wt_transport.specs.Step.{after_consume, end_now, unread_now}

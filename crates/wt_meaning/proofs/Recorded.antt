@@ -31,7 +31,6 @@ use Rattle.url.specs.Scheme.{default_port, scheme_len, scheme_type}
 use Rattle.wt_meaning.specs.Meaning.{Run, run}
 use Rattle.wt_meaning.specs.Moments.{findings}
 use Rattle.wt_proto.specs.SessionWalk.{capsule_decides, session_decides, session_walk_of}
-use Rattle.wt_message.specs.Capsule.{close_value_at}
 use Rattle.wt_message.specs.Datagram.{datagram_of}
 use Rattle.wt_message.specs.Requests.{request_of}
 use Rattle.wt_message.specs.Responses.{response_of}
@@ -52,7 +51,7 @@ use Rattle.wt_wire.specs.declared.side.Side.{Side}
 
 -- the definitions that don't unfold by themselves
 unfoldable pub computed : Side → List Turn → Run
-unfolding findings capsule_decides session_decides session_walk_of close_value_at datagram_of request_of response_of pair_at pairs_from with_pair bi_decides bi_verdict_of control_decides
+unfolding findings capsule_decides session_decides session_walk_of datagram_of request_of response_of pair_at pairs_from with_pair bi_decides bi_verdict_of control_decides
     control_walk_of response_decides response_walk_of uni_verdict_of field_lines_from line_at string_at frame_at continuation_at prefixed_at prefixed_bytes is_text_from varint_at varint_bytes
 computed side all = run side all
 

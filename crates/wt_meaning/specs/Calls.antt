@@ -3,8 +3,8 @@ use Rattle.std.specs.Prelude.{[], ◌%◌, ◌&&◌, ◌++◌, ◌-◌, ◌/◌,
 use Rattle.std.specs.List.{list_any}
 use Rattle.url.specs.Parser.{parse_url}
 use Rattle.wt_message.specs.Datagram.{datagram_bytes}
-use Rattle.wt_seam_spec.specs.Reports.{datagram_fact}
-use Rattle.wt_seam_spec.specs.Streams.{local_bi, local_uni, peer_bi, peer_uni}
+use Rattle.wt_turn.specs.Reports.{datagram_fact}
+use Rattle.wt_turn.specs.Streams.{local_bi, local_uni, peer_bi, peer_uni}
 use Rattle.wt_turn.specs.declared.call.Call.{Call}
 use Rattle.wt_turn.specs.declared.connection_error.ConnectionError.{ConnectionError}
 use Rattle.wt_turn.specs.declared.datagram_fact.DatagramFact.{DatagramFact}

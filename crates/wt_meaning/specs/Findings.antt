@@ -3,7 +3,7 @@ use Rattle.std.specs.Prelude.{[], ◌==◌, ◌∷◌, Bool, List, None, Option,
 use Rattle.std.specs.List.{list_any}
 use Rattle.std.specs.Option.{option_or}
 use Rattle.wt_proto.specs.declared.verdict.Verdict.{Verdict}
-use Rattle.wt_seam_spec.specs.Reports.{if_same}
+use Rattle.wt_turn.specs.Reports.{if_same}
 use Rattle.wt_wire.specs.declared.error.ErrorCode.{ErrorCode}
 use Rattle.wt_proto.specs.declared.verdict.Verdict.TheVariants as verdicts
 

@@ -1,8 +1,8 @@
 -- The rows of the calls on the halves of a stream that was handed out.
 use Rattle.std.specs.Prelude.{[], ◌%◌, ◌&&◌, ◌+◌, ◌++◌, ◌==◌, ◌∷◌, ◌||◌, Bool, List, None, Option, Some, drop, false, if◌then◌else◌, is_some, length, nat_le, not, pos, take, true, unwrap_or, ℕ, ℤ}
 use Rattle.wt_proto.specs.declared.verdict.Verdict.{Verdict}
-use Rattle.wt_seam_spec.specs.Reports.{end_of, is_acknowledged, stop_of}
-use Rattle.wt_seam_spec.specs.Streams.{local_uni, peer_uni}
+use Rattle.wt_turn.specs.Reports.{end_of, is_acknowledged, stop_of}
+use Rattle.wt_turn.specs.Streams.{local_uni, peer_uni}
 use Rattle.wt_turn.specs.declared.reply.Reply.{Reply}
 use Rattle.wt_turn.specs.declared.stream_error.StreamWriteError.{StreamWriteError}
 use Rattle.wt_turn.specs.declared.turn.Turn.{Turn}

@@ -6,9 +6,9 @@ use Rattle.wt_message.specs.FixedBytes.{headers_frame_bytes, response_bytes}
 use Rattle.wt_message.specs.Responses.{status_of}
 use Rattle.wt_proto.specs.ResponseWalk.{response_walk_of}
 use Rattle.wt_proto.specs.declared.response_walk.ResponseWalk.{ResponseWalk}
-use Rattle.wt_seam_spec.specs.Joined.{send_of}
-use Rattle.wt_seam_spec.specs.Reports.{end_of, is_acknowledged, is_connected, loss_of, stop_of}
-use Rattle.wt_seam_spec.specs.Streams.{local_count}
+use Rattle.wt_turn.specs.Joined.{send_of}
+use Rattle.wt_turn.specs.Reports.{end_of, is_acknowledged, is_connected, loss_of, stop_of}
+use Rattle.wt_turn.specs.Streams.{local_count}
 use Rattle.wt_turn.specs.ProtoError.{error_of_loss}
 use Rattle.wt_turn.specs.declared.action.Action.{Action}
 use Rattle.wt_turn.specs.declared.call.Call.{Call}

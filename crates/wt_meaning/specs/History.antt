@@ -1,10 +1,10 @@
 -- A history: the turns of one connection, each with its answer. Every question here is a filter over it.
 use Rattle.std.specs.Prelude.{[], ◌%◌, ◌&&◌, ◌*◌, ◌++◌, ◌+◌, ◌-◌, ◌/◌, ◌==◌, ◌∷◌, ◌||◌, Bool, List, None, Option, Some, false, filter_map, if◌then◌else◌, length, nat_lt, not, true, ℕ}
 use Rattle.std.specs.List.{list_any}
-use Rattle.wt_seam_spec.specs.Joined.{newest_first}
-use Rattle.wt_seam_spec.specs.Reports.{bis_allowed, credit, unis_allowed}
-use Rattle.wt_seam_spec.specs.Sent.{is_finished, sent_on}
-use Rattle.wt_seam_spec.specs.Streams.{local_count, local_uni, peer_count, peer_uni}
+use Rattle.wt_turn.specs.Joined.{newest_first}
+use Rattle.wt_turn.specs.Reports.{bis_allowed, credit, unis_allowed}
+use Rattle.wt_turn.specs.Sent.{is_finished, sent_on}
+use Rattle.wt_turn.specs.Streams.{local_count, local_uni, peer_count, peer_uni}
 use Rattle.wt_turn.specs.Log.{Event, closes}
 use Rattle.wt_turn.specs.Turns.{event_of}
 use Rattle.wt_turn.specs.declared.action.Action.{Action}

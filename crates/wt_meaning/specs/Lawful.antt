@@ -2,9 +2,9 @@
 -- application may call). Turns after the end are judged as if they counted.
 use Rattle.std.specs.Prelude.{[], ◌&&◌, ◌==◌, ◌^◌, ◌∷◌, ◌||◌, Bool, filter, if◌then◌else◌, is_some, length, nat_le, nat_lt, not, true, false, ℕ}
 use Rattle.std.specs.List.{list_any}
-use Rattle.wt_seam_spec.specs.Reports.{bis_allowed, credit, end_of, is_acknowledged, is_connected, is_running, loss_of, stop_of, unis_allowed}
-use Rattle.wt_seam_spec.specs.Sent.{has_dialled}
-use Rattle.wt_seam_spec.specs.Streams.{peer_bi, peer_uni}
+use Rattle.wt_turn.specs.Reports.{bis_allowed, credit, end_of, is_acknowledged, is_connected, is_running, loss_of, stop_of, unis_allowed}
+use Rattle.wt_turn.specs.Sent.{has_dialled}
+use Rattle.wt_turn.specs.Streams.{peer_bi, peer_uni}
 use Rattle.wt_turn.specs.declared.call.Call.{Call}
 use Rattle.wt_turn.specs.declared.reply.Reply.{Reply}
 use Rattle.wt_turn.specs.declared.turn.Turn.{Turn}

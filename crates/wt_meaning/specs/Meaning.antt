@@ -1,6 +1,6 @@
 -- The one answer to a turn after a history, the answers to a list of turns, and the run of a list of any turns.
 use Rattle.std.specs.Prelude.{[], ◌++◌, ◌∷◌, Bool, List, false, if◌then◌else◌, true, ℕ}
-use Rattle.wt_seam_spec.specs.Joined.{join_all}
+use Rattle.wt_turn.specs.Joined.{join_all}
 use Rattle.wt_turn.specs.declared.action.Action.{Action}
 use Rattle.wt_turn.specs.declared.answer.Answer.{Answer}
 use Rattle.wt_turn.specs.declared.turn.Turn.{Turn}

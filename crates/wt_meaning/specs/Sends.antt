@@ -1,9 +1,9 @@
 -- What goes out at a moment beside a call's own actions: this end's control stream, and what each finding leads to.
 use Rattle.std.specs.Prelude.{[], ◌&&◌, ◌*◌, ◌++◌, ◌+◌, ◌==◌, ◌∷◌, ◌||◌, Bool, List, drop, false, filter, flat_map, if◌then◌else◌, is_some, length, nat_le, not, suc, take, true, zero, ℕ}
 use Rattle.std.specs.List.{list_any}
-use Rattle.wt_seam_spec.specs.Joined.{send_of}
-use Rattle.wt_seam_spec.specs.Reports.{end_of, is_running, stop_of, unis_allowed}
-use Rattle.wt_seam_spec.specs.Streams.{local_count, local_uni}
+use Rattle.wt_turn.specs.Joined.{send_of}
+use Rattle.wt_turn.specs.Reports.{end_of, is_running, stop_of, unis_allowed}
+use Rattle.wt_turn.specs.Streams.{local_count, local_uni}
 use Rattle.wt_message.specs.FixedBytes.{local_control_bytes}
 use Rattle.wt_turn.specs.declared.action.Action.{Action}
 use Rattle.wt_turn.specs.declared.reply.Reply.{Reply}

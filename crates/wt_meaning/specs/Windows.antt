@@ -5,7 +5,7 @@ use Rattle.std.specs.Option.{option_or}
 use Rattle.wt_proto.specs.ResponseWalk.{response_walk_of}
 use Rattle.wt_proto.specs.declared.response_walk.ResponseWalk.{ResponseWalk}
 use Rattle.wt_proto.specs.declared.verdict.Verdict.{Verdict}
-use Rattle.wt_seam_spec.specs.Reports.{end_of}
+use Rattle.wt_turn.specs.Reports.{end_of}
 use Rattle.wt_turn.specs.declared.reply.Reply.{Reply}
 use Rattle.wt_turn.specs.declared.turn.Turn.{Turn}
 use Rattle.wt_wire.specs.HeaderList.{Fields}

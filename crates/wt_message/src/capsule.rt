@@ -1,8 +1,7 @@
 //! Capsules (RFC 9297, section 3.2), of which the one that closes a session is read
 //! (draft-ietf-webtrans-http3, section 5).
 ghost use Rattle.std.specs.Prelude.{◌≡◌, ◌<◌, ◌≤◌, ◌^◌, length, IfOk, IfErr};
-ghost use Rattle.std.specs.Option.{option_copied};
-ghost use Rattle.wt_message.specs.Capsule.{capsule_value, close_of, close_value_at};
+ghost use Rattle.wt_message.specs.Capsule.{close_of};
 ghost use Rattle.wt_wire.specs.declared.error.ErrorCode.TheVariants as errors;
 
 use std::alloc::Global;
@@ -10,10 +9,7 @@ use std::marker::Model;
 use wt_wire::error::{ErrorCode, OutOfMemory};
 use wt_wire::text::Text;
 use wt_wire::utf8::from_utf8;
-use wt_wire::varint::{VarInt, read_varint};
-
-/// The type of the capsule CLOSE_WEBTRANSPORT_SESSION (draft-ietf-webtrans-http3, section 5).
-const CLOSE_WEBTRANSPORT_SESSION: u64 = 0x2843;
+use wt_wire::varint::VarInt;
 
 /// The longest reason, in bytes (draft-ietf-webtrans-http3, section 5).
 const LONGEST_REASON: usize = 1024;
@@ -34,30 +30,6 @@ impl Model for CloseWebTransportSession {
     ghost view = { λ c. record { error_code = c.error_code; reason = c.reason } };
 
     ghost invariant = { λ c. IsSessionClose (record { error_code = c.error_code; reason = c.reason }) };
-}
-
-/// The value of the capsule at the front of a DATA frame's payload, where the capsule is whole and
-/// of type CLOSE_WEBTRANSPORT_SESSION (0x2843).
-#[tactic(auto, unfolding(crate::specs::Capsule::close_value_at))]
-pub fn find_close(payload: &[u8]) -> Option<&[u8]>
-    ensures { option_copied result ≡ close_value_at payload.now }
-{
-    let (kind, offset) = read_varint(payload)?;
-    let bytes = &payload[offset..];
-    let (size, offset) = read_varint(bytes)?;
-    capsule_value(kind, size, &bytes[offset..])
-}
-
-fn capsule_value(kind: VarInt, size: VarInt, bytes: &[u8]) -> Option<&[u8]>
-    ensures { option_copied result ≡ capsule_value kind size bytes.now }
-{
-    // A capsule of another type is skipped, as the standard asks; one that isn't whole in this payload isn't
-    // seen (this repository's rule).
-    let size = size.into_inner();
-    if (bytes.len() as u64) < size || kind.into_inner() != CLOSE_WEBTRANSPORT_SESSION {
-        return None;
-    }
-    Some(&bytes[..size as usize])
 }
 
 impl CloseWebTransportSession {

@@ -28,9 +28,9 @@ use Rattle.wt_promise.proofs.Waiting.{named-established}
 use Rattle.wt_promise.specs.Found.{IsSubsequence, LeftOut, Nil, Taken, said_by}
 use Rattle.wt_promise.specs.Promise.{IsHistory, payloads}
 use Rattle.wt_promise.specs.Sides.{arrived as arrived_at}
-use Rattle.wt_seam_spec.specs.Reports.{datagrams_of}
+use Rattle.wt_turn.specs.Reports.{datagrams_of}
 use Rattle.wt_turn.specs.declared.action.Action.{Action}
-use Rattle.wt_seam_spec.specs.Sent.{dials}
+use Rattle.wt_turn.specs.Sent.{dials}
 use Rattle.wt_turn.specs.Turns.{event_of}
 use Rattle.wt_turn.specs.declared.reply.Reply.{Reply}
 use Rattle.wt_turn.specs.declared.turn.Turn.{Turn}

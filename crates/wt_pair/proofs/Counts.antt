@@ -28,9 +28,9 @@ use Rattle.wt_promise.specs.Promise.{IsHistory}
 use Rattle.wt_proto.specs.ResponseWalk.{response_walk_of}
 use Rattle.wt_proto.specs.declared.response_walk.ResponseWalk.{ResponseWalk}
 use Rattle.wt_promise.specs.Sides.{opens_of}
-use Rattle.wt_seam_spec.specs.Joined.{send_of}
-use Rattle.wt_seam_spec.specs.Reports.{bis_allowed, end_of, is_connected, stop_of, unis_allowed}
-use Rattle.wt_seam_spec.specs.Streams.{local_bi, local_count, local_uni, one_more_if, opens, peer_count}
+use Rattle.wt_turn.specs.Joined.{send_of}
+use Rattle.wt_turn.specs.Reports.{bis_allowed, end_of, is_connected, stop_of, unis_allowed}
+use Rattle.wt_turn.specs.Streams.{local_bi, local_count, local_uni, one_more_if, opens, peer_count}
 use Rattle.wt_turn.specs.Log.{Event}
 use Rattle.wt_turn.specs.declared.action.Action.{Action}
 use Rattle.wt_turn.specs.declared.answer.Answer.{Answer}

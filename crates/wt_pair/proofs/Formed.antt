@@ -21,8 +21,8 @@ use Rattle.wt_promise.proofs.SilentBehind.{silent-after-reset}
 use Rattle.wt_promise.proofs.Stays.{any-newest}
 use Rattle.wt_promise.specs.Promise.{IsHistory, NoneBehind, acts_on, sends_on}
 use Rattle.wt_promise.specs.Sides.{opened_first, opens_of}
-use Rattle.wt_seam_spec.specs.Sent.{finishes}
-use Rattle.wt_seam_spec.specs.Streams.{local_bi, local_count, local_uni}
+use Rattle.wt_turn.specs.Sent.{finishes}
+use Rattle.wt_turn.specs.Streams.{local_bi, local_count, local_uni}
 use Rattle.wt_turn.specs.declared.action.Action.{Action}
 use Rattle.wt_wire.specs.declared.side.Side.{Side}
 use Rattle.wt_turn.specs.declared.action.Action.TheVariants as actions

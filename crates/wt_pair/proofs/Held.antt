@@ -27,8 +27,8 @@ use Rattle.wt_promise.proofs.MomentActs.{or-either}
 use Rattle.wt_promise.proofs.Opened.{open-before}
 use Rattle.wt_promise.proofs.Prefixes.{turn-history}
 use Rattle.wt_promise.specs.Promise.{IsHistory}
-use Rattle.wt_seam_spec.specs.Reports.{end_of, is_connected, is_running}
-use Rattle.wt_seam_spec.specs.Streams.{local_bi, local_count, local_uni, peer_bi, peer_count, peer_uni}
+use Rattle.wt_turn.specs.Reports.{end_of, is_connected, is_running}
+use Rattle.wt_turn.specs.Streams.{local_bi, local_count, local_uni, peer_bi, peer_count, peer_uni}
 use Rattle.wt_turn.specs.Log.{closes}
 use Rattle.wt_turn.specs.declared.action.Action.{Action}
 use Rattle.wt_turn.specs.declared.turn.Turn.{Turn}

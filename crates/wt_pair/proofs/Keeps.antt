@@ -24,9 +24,9 @@ use Rattle.wt_pair.specs.Streams.{Byte, Ends as Ended, Mark, item_marks, marks_i
 use Rattle.wt_promise.proofs.Accepted.{and-left, and-right}
 use Rattle.wt_promise.proofs.Flow.{clash}
 use Rattle.wt_promise.specs.Promise.{IsHistory}
-use Rattle.wt_seam_spec.specs.Reports.{is_connected}
-use Rattle.wt_seam_spec.specs.Sent.{dials}
-use Rattle.wt_seam_spec.specs.Streams.{local_count, peer_count}
+use Rattle.wt_turn.specs.Reports.{is_connected}
+use Rattle.wt_turn.specs.Sent.{dials}
+use Rattle.wt_turn.specs.Streams.{local_count, peer_count}
 use Rattle.wt_turn.specs.declared.action.Action.{Action}
 use Rattle.wt_turn.specs.declared.turn.Turn.{Turn}
 use Rattle.wt_wire.specs.declared.side.Side.{Side}

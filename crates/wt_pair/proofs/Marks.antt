@@ -10,7 +10,7 @@ use Rattle.wt_pair.specs.Link.{item_of}
 use Rattle.wt_pair.specs.Streams.{Byte, Ends, Mark, Opens, item_marks, marks_if, named_marks}
 use Rattle.wt_pair.specs.declared.item.Item.{Item}
 use Rattle.wt_promise.proofs.BytesOut.{bytes_on, out-add, piece_on}
-use Rattle.wt_seam_spec.specs.Joined.{join_all, join_one, join_two}
+use Rattle.wt_turn.specs.Joined.{join_all, join_one, join_two}
 use Rattle.wt_turn.specs.declared.action.Action.{Action}
 use Rattle.wt_turn.specs.declared.turn.Turn.{Turn}
 use Rattle.wt_wire.specs.Ids.{is_bidirectional}

@@ -24,8 +24,8 @@ use Rattle.wt_promise.proofs.Sessions.{is_connect}
 use Rattle.wt_promise.proofs.Shakes.{Finishes, Goes, GoesShuts, Rejects, Shake, Shut, Shuts, Still, head_stream, map-rows, opening, rest, shakes}
 use Rattle.wt_promise.proofs.Stays.{any-newest}
 use Rattle.wt_promise.proofs.Tables.{OfRows, by-row, by-session, by-value, no-row}
-use Rattle.wt_seam_spec.specs.Reports.{stop_of}
-use Rattle.wt_seam_spec.specs.Sent.{dials, has_dialled}
+use Rattle.wt_turn.specs.Reports.{stop_of}
+use Rattle.wt_turn.specs.Sent.{dials, has_dialled}
 use Rattle.wt_turn.specs.declared.action.Action.{Action}
 use Rattle.wt_turn.specs.declared.answer.Answer.{Answer}
 use Rattle.wt_turn.specs.declared.call.Call.{Call}

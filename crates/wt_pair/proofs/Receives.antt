@@ -14,7 +14,7 @@ use Rattle.wt_pair.specs.Streams.{Byte, Ends, Mark, Opens, marks_if, named_marks
 use Rattle.wt_promise.proofs.Flow.{clash}
 use Rattle.wt_promise.proofs.LateTurns.{still-shut}
 use Rattle.wt_promise.proofs.Opened.{open-before}
-use Rattle.wt_seam_spec.specs.Reports.{end_of, end_reported, if_same, is_running}
+use Rattle.wt_turn.specs.Reports.{end_of, end_reported, if_same, is_running}
 use Rattle.wt_turn.specs.Log.{Event, newest}
 use Rattle.wt_turn.specs.declared.call.Call.{Call}
 use Rattle.wt_turn.specs.declared.turn.Turn.{Turn}

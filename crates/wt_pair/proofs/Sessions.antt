@@ -20,8 +20,8 @@ use Rattle.wt_promise.proofs.Verdicts.{given-peers}
 use Rattle.wt_promise.specs.Connects.{of_url, refusal, request_head}
 use Rattle.wt_promise.specs.Owed.{head_of}
 use Rattle.wt_promise.specs.Promise.{IsHistory}
-use Rattle.wt_seam_spec.specs.Reports.{is_connected}
-use Rattle.wt_seam_spec.specs.Streams.{one_more_if, peer_bi, peer_count, peer_uni}
+use Rattle.wt_turn.specs.Reports.{is_connected}
+use Rattle.wt_turn.specs.Streams.{one_more_if, peer_bi, peer_count, peer_uni}
 use Rattle.wt_turn.specs.declared.call.Call.{Call}
 use Rattle.wt_turn.specs.declared.turn.Turn.{Turn}
 use Rattle.wt_wire.specs.FieldSection.{section_bytes}

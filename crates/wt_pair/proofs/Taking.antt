@@ -27,9 +27,9 @@ use Rattle.wt_promise.proofs.MomentActs.{or-either}
 use Rattle.wt_promise.proofs.Prefixes.{turn-history}
 use Rattle.wt_promise.proofs.Stays.{any-newest}
 use Rattle.wt_promise.specs.Promise.{IsHistory}
-use Rattle.wt_seam_spec.specs.Reports.{is_connected}
-use Rattle.wt_seam_spec.specs.Sent.{dials}
-use Rattle.wt_seam_spec.specs.Streams.{local_count, one_more_if, peer_bi, peer_count, peer_uni}
+use Rattle.wt_turn.specs.Reports.{is_connected}
+use Rattle.wt_turn.specs.Sent.{dials}
+use Rattle.wt_turn.specs.Streams.{local_count, one_more_if, peer_bi, peer_count, peer_uni}
 use Rattle.wt_turn.specs.declared.call.Call.{Call}
 use Rattle.wt_turn.specs.declared.turn.Turn.{Turn}
 use Rattle.wt_turn.specs.Log.{Event}

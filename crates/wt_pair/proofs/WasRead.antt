@@ -47,8 +47,8 @@ use Rattle.wt_promise.specs.Promise.{IsHistory, accepted, begun_on, frame_or, he
 use Rattle.wt_proto.specs.Bi.{bi_verdict_of}
 use Rattle.wt_proto.specs.Uni.{session_verdict, uni_verdict_of}
 use Rattle.wt_proto.specs.declared.verdict.Verdict.{Verdict}
-use Rattle.wt_seam_spec.specs.Reports.{end_of}
-use Rattle.wt_seam_spec.specs.Streams.{local_uni}
+use Rattle.wt_turn.specs.Reports.{end_of}
+use Rattle.wt_turn.specs.Streams.{local_uni}
 use Rattle.wt_turn.specs.declared.answer.Answer.{Answer}
 use Rattle.wt_turn.specs.declared.call.Call.{Call}
 use Rattle.wt_turn.specs.declared.reply.Reply.{Reply}

@@ -11,7 +11,7 @@ use Rattle.wt_pair.specs.declared.event.PairEvent.TheVariants as pair_events
 use Rattle.wt_pair.specs.declared.event.PairFacts.{PairFacts}
 use Rattle.wt_pair.specs.Link.{connects, first_of, is_datagram, item_at, item_of, left_of, may_deliver, taken_at}
 use Rattle.wt_pair.specs.declared.item.Item.{Item}
-use Rattle.wt_seam_spec.specs.Sent.{dials}
+use Rattle.wt_turn.specs.Sent.{dials}
 use Rattle.wt_turn.specs.declared.action.Action.{Action}
 use Rattle.wt_turn.specs.declared.turn.Turn.{Turn}
 use Rattle.wt_turn.specs.declared.turn.Turn.TheVariants as turns

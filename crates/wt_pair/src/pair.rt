@@ -9,7 +9,7 @@ ghost use Rattle.wt_pair.specs.Pair.{Ends, acknowledgement, arrives, at_end, at_
 ghost use Rattle.wt_pair.specs.Pair as pairs;
 ghost use Rattle.wt_pair.specs.declared.event.PairEvent.TheVariants as pair_events;
 ghost use Rattle.wt_pair.specs.declared.event.PairFacts.{PairFacts};
-ghost use Rattle.wt_seam_spec.specs.Sent.{dials};
+ghost use Rattle.wt_turn.specs.Sent.{dials};
 ghost use Rattle.wt_wire.specs.declared.side.Side.{Side};
 
 use crate::answer::PairAnswer;

@@ -25,7 +25,7 @@ use Rattle.wt_peer_streams.specs.declared.live.News.{News}
 use Rattle.wt_peer_streams.specs.Scanning.{TakenIn, taken_in, takes_next_now}
 use Rattle.wt_proto.specs.declared.session_walk.SessionWalk.{SessionWalk}
 use Rattle.wt_proto.specs.declared.session_walk.SessionWalk.TheVariants as walks
-use Rattle.wt_seam_spec.specs.Streams.{local_uni}
+use Rattle.wt_turn.specs.Streams.{local_uni}
 use Rattle.wt_wire.specs.Codes.{code_of}
 use Rattle.wt_wire.specs.declared.error.ErrorCode.{ErrorCode}
 use Rattle.wt_wire.specs.declared.error.ErrorCode.TheVariants as h3

@@ -11,7 +11,7 @@ use Rattle.wt_transport.specs.Pieces.{first_piece}
 use Rattle.wt_transport.proofs.PieceLaws.{first_within, take_first}
 use Rattle.wt_peer_streams.proofs.Consuming.{consumed-ends, consumed-here, consumed-twice}
 use Rattle.wt_peer_streams.specs.Feeding.{Took}
-use Rattle.wt_seam_spec.specs.Reports.{is_running}
+use Rattle.wt_turn.specs.Reports.{is_running}
 use Rattle.wt_wire.specs.declared.side.StreamEnd.{StreamEnd}
 
 module _ {V : Type 0} (said : V → Bool) (fed : V → List ℕ → V) where

@@ -5,7 +5,7 @@ ghost use Rattle.wt_kept.specs.Pieces.{feeds};
 ghost use Rattle.wt_kept.specs.Readers.{fed_piece_by, noted_if, reads_on};
 ghost use Rattle.wt_transport.specs.Step.{end_now, unread_now};
 ghost use Rattle.wt_peer_streams.specs.Feeding.{Took};
-ghost use Rattle.wt_seam_spec.specs.Reports.{is_running};
+ghost use Rattle.wt_turn.specs.Reports.{is_running};
 
 use std::marker::Model;
 use std::sync::ledger::Ledger;

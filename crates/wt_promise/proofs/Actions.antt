@@ -12,9 +12,9 @@ use Rattle.wt_meaning.specs.History.{History, actions_out, can_receive, can_send
 use Rattle.wt_meaning.specs.Meaning.{next, own_answer, with_pair}
 use Rattle.wt_meaning.specs.Moments.{findings}
 use Rattle.wt_meaning.specs.Sends.{action_if, actions_for, actions_for_all, control_actions, is_of_session, moment_actions, session_finish, session_gone_actions, stream_gone_actions, stream_ids}
-use Rattle.wt_seam_spec.specs.Joined.{join_all, join_one, newest_first, send_of}
-use Rattle.wt_seam_spec.specs.Reports.{end_of, is_running, stop_of, unis_allowed}
-use Rattle.wt_seam_spec.specs.Streams.{local_count, local_uni, one_more_if, opens}
+use Rattle.wt_turn.specs.Joined.{join_all, join_one, newest_first, send_of}
+use Rattle.wt_turn.specs.Reports.{end_of, is_running, stop_of, unis_allowed}
+use Rattle.wt_turn.specs.Streams.{local_count, local_uni, one_more_if, opens}
 use Rattle.wt_turn.specs.Log.{closes}
 use Rattle.wt_turn.specs.declared.action.Action.{Action}
 use Rattle.wt_turn.specs.declared.turn.Turn.{Turn}

@@ -27,8 +27,8 @@ use Rattle.wt_promise.specs.Promise.{IsHistory}
 use Rattle.wt_proto.specs.Bi.{bi_verdict_of}
 use Rattle.wt_proto.specs.Uni.{is_final, uni_verdict_of}
 use Rattle.wt_proto.specs.declared.verdict.Verdict.{Verdict}
-use Rattle.wt_seam_spec.specs.Reports.{datagrams_of, end_of}
-use Rattle.wt_seam_spec.specs.Streams.{one_more_if, peer_bi, peer_count, peer_opens, peer_uni}
+use Rattle.wt_turn.specs.Reports.{datagrams_of, end_of}
+use Rattle.wt_turn.specs.Streams.{one_more_if, peer_bi, peer_count, peer_opens, peer_uni}
 use Rattle.wt_turn.specs.Log.{Event, PeerBi, PeerUni}
 use Rattle.wt_turn.specs.Turns.{event_of}
 use Rattle.wt_wire.specs.Ids.{is_bidirectional}

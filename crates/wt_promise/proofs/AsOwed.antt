@@ -11,11 +11,11 @@ use Rattle.wt_meaning.specs.Moments.{findings}
 use Rattle.wt_meaning.specs.Windows.{gone_in, is_established, is_gone, is_number}
 use Rattle.wt_meaning.specs.Calls.{opened_by}
 use Rattle.wt_meaning.specs.Handshakes.{last_begun}
-use Rattle.wt_seam_spec.specs.Reports.{credit}
-use Rattle.wt_seam_spec.specs.Streams.{local_uni}
+use Rattle.wt_turn.specs.Reports.{credit}
+use Rattle.wt_turn.specs.Streams.{local_uni}
 use Rattle.wt_turn.specs.declared.call.Call.{Call}
 use Rattle.std.proofs.lemmas.Bool.{eqb-true}
-use Rattle.wt_seam_spec.specs.Sent.{finishes}
+use Rattle.wt_turn.specs.Sent.{finishes}
 use Rattle.wt_promise.proofs.Accepted.{and-left, and-right, or-first}
 use Rattle.wt_promise.specs.Owed.{control_bytes, handshake_stream, header_on}
 use Rattle.wt_promise.proofs.HeaderOut.{header-goes-out}

@@ -19,8 +19,8 @@ use Rattle.wt_promise.specs.Found.{can_set_up, code_if, datagrams_fault, early_f
 use Rattle.wt_proto.specs.Uni.{is_final}
 use Rattle.wt_proto.specs.declared.verdict.Verdict.{Verdict}
 use Rattle.wt_promise.proofs.OnePass.{bi-kind, uni-kind}
-use Rattle.wt_seam_spec.specs.Reports.{datagrams_of, end_of, is_running, stop_of}
-use Rattle.wt_seam_spec.specs.Streams.{local_uni, peer_bi, peer_count, peer_uni}
+use Rattle.wt_turn.specs.Reports.{datagrams_of, end_of, is_running, stop_of}
+use Rattle.wt_turn.specs.Streams.{local_uni, peer_bi, peer_count, peer_uni}
 use Rattle.wt_wire.specs.declared.error.ErrorCode.{ErrorCode}
 use Rattle.wt_wire.specs.declared.side.Side.{Side}
 use Rattle.wt_proto.specs.declared.verdict.Verdict.TheVariants as verdicts

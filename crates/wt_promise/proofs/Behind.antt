@@ -12,8 +12,8 @@ use Rattle.wt_promise.proofs.Accepted.{or-left, or-right, or-true}
 use Rattle.wt_promise.proofs.Actions.{any-join_one, none-append, none-if, or-assoc}
 use Rattle.wt_promise.proofs.Flow.{clash}
 use Rattle.wt_promise.specs.Promise.{NoneBehind, acts_on, sends_on}
-use Rattle.wt_seam_spec.specs.Joined.{join_all, join_one}
-use Rattle.wt_seam_spec.specs.Reports.{end_of, is_running}
+use Rattle.wt_turn.specs.Joined.{join_all, join_one}
+use Rattle.wt_turn.specs.Reports.{end_of, is_running}
 use Rattle.wt_turn.specs.declared.action.Action.{Action}
 use Rattle.wt_wire.specs.declared.side.Side.{Side}
 use Rattle.wt_turn.specs.declared.action.Action.TheVariants as actions

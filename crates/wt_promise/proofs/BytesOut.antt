@@ -8,9 +8,9 @@ use Rattle.wt_meaning.specs.Findings.{Classified, Faulted, Finding, SessionClose
 use Rattle.wt_meaning.specs.History.{History, Pair, actions_out, events, out}
 use Rattle.wt_meaning.specs.Sends.{actions_for, actions_for_all, session_finish}
 use Rattle.wt_promise.proofs.Actions.{none-append, none-gone, none-if}
-use Rattle.wt_seam_spec.specs.Joined.{join_all, join_one, newest_first, send_of}
-use Rattle.wt_seam_spec.specs.Reports.{stop_of}
-use Rattle.wt_seam_spec.specs.Sent.{sent_on, with_sent_piece}
+use Rattle.wt_turn.specs.Joined.{join_all, join_one, newest_first, send_of}
+use Rattle.wt_turn.specs.Reports.{stop_of}
+use Rattle.wt_turn.specs.Sent.{sent_on, with_sent_piece}
 use Rattle.wt_turn.specs.declared.action.Action.{Action}
 use Rattle.wt_wire.specs.declared.side.Side.{Side}
 use Rattle.wt_proto.specs.declared.verdict.Verdict.TheVariants as verdicts

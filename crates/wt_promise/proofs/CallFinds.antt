@@ -25,8 +25,8 @@ use Rattle.wt_proto.specs.Uni.{is_final}
 use Rattle.wt_proto.specs.declared.control_walk.ControlWalk.{ControlWalk}
 use Rattle.wt_proto.specs.declared.verdict.Verdict.{Verdict}
 use Rattle.wt_promise.proofs.Shown.{verdict-by}
-use Rattle.wt_seam_spec.specs.Reports.{datagrams_of, end_of}
-use Rattle.wt_seam_spec.specs.Streams.{peer_bi, peer_count, peer_uni}
+use Rattle.wt_turn.specs.Reports.{datagrams_of, end_of}
+use Rattle.wt_turn.specs.Streams.{peer_bi, peer_count, peer_uni}
 use Rattle.wt_turn.specs.Log.{Event}
 use Rattle.wt_turn.specs.declared.answer.Answer.{Answer}
 use Rattle.wt_turn.specs.declared.call.Call.{Call}

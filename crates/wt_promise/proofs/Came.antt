@@ -18,7 +18,7 @@ use Rattle.wt_promise.proofs.Facts.{facts}
 use Rattle.wt_promise.specs.Promise.{IsHistory}
 use Rattle.wt_promise.specs.Found.{IsSubsequence, LeftOut, Nil, Taken}
 use Rattle.wt_promise.specs.Sides.{arrived}
-use Rattle.wt_seam_spec.specs.Reports.{datagrams_of, end_of}
+use Rattle.wt_turn.specs.Reports.{datagrams_of, end_of}
 use Rattle.wt_wire.specs.declared.side.Side.{Side}
 use Rattle.wt_wire.specs.declared.side.StreamEnd.{StreamEnd}
 use Rattle.wt_turn.specs.declared.reply.Reply.TheVariants as replies

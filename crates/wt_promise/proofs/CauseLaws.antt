@@ -12,7 +12,7 @@ use Rattle.wt_meaning.specs.Moments.{findings}
 use Rattle.wt_meaning.specs.Rows.{Row, first_row, row, row_for}
 use Rattle.wt_meaning.specs.Windows.{admitted_stream, is_gone, is_number, queued_request, requests}
 use Rattle.wt_promise.specs.Causes.{Cause, closed_with, driver_answer, first_cause, left_for, left_request, session_answer, transport_answer, when, from}
-use Rattle.wt_seam_spec.specs.Reports.{loss_of}
+use Rattle.wt_turn.specs.Reports.{loss_of}
 use Rattle.wt_turn.specs.ProtoError.{error_of_loss}
 use Rattle.wt_turn.specs.declared.action.Action.{Action}
 use Rattle.wt_turn.specs.declared.connection_error.ConnectionError.{ConnectionError}

@@ -27,8 +27,8 @@ use Rattle.wt_promise.proofs.Waiting.{named-established}
 use Rattle.wt_promise.specs.Causes.{Cause, causes_of, gives_left, half_ends, is_over, of_half, of_named, opens, polls_opening, read_ends, reply_to, sets_priority, size_behind, unsent_by, when, from, writes_else}
 use Rattle.wt_promise.specs.Connects.{refusal}
 use Rattle.wt_promise.specs.Owed.{fits_credit}
-use Rattle.wt_seam_spec.specs.Reports.{datagram_fact, end_of, is_acknowledged, stop_of}
-use Rattle.wt_seam_spec.specs.Streams.{local_bi, local_uni, peer_bi, peer_uni}
+use Rattle.wt_turn.specs.Reports.{datagram_fact, end_of, is_acknowledged, stop_of}
+use Rattle.wt_turn.specs.Streams.{local_bi, local_uni, peer_bi, peer_uni}
 use Rattle.wt_turn.specs.declared.action.Action.{Action}
 use Rattle.wt_turn.specs.declared.call.Call.{Call}
 use Rattle.wt_turn.specs.declared.datagram_fact.DatagramFact.{DatagramFact}

@@ -22,8 +22,8 @@ use Rattle.wt_promise.specs.Connects.{of_url, request_head, reserved}
 use Rattle.wt_promise.specs.Owed.{fits_credit, handshake_stream, head_of, stopped_early}
 use Rattle.wt_proto.specs.ResponseWalk.{response_walk_of}
 use Rattle.wt_proto.specs.declared.response_walk.ResponseWalk.{ResponseWalk}
-use Rattle.wt_seam_spec.specs.Reports.{end_of, is_acknowledged, is_connected, stop_of}
-use Rattle.wt_seam_spec.specs.Streams.{local_count}
+use Rattle.wt_turn.specs.Reports.{end_of, is_acknowledged, is_connected, stop_of}
+use Rattle.wt_turn.specs.Streams.{local_count}
 use Rattle.wt_turn.specs.declared.action.Action.{Action}
 use Rattle.wt_turn.specs.declared.call.Call.{Call}
 use Rattle.wt_turn.specs.declared.reply.Reply.{Reply}

@@ -17,9 +17,9 @@ use Rattle.wt_meaning.specs.Moments.{ids_from}
 use Rattle.wt_promise.specs.Lists.{history_of}
 use Rattle.wt_promise.specs.Promise.{AllLawful, IsHistory, NoneBehind, acts_on, sends_on}
 use Rattle.wt_promise.specs.Sides.{opens_of}
-use Rattle.wt_seam_spec.specs.Reports.{end_of}
-use Rattle.wt_seam_spec.specs.Sent.{finishes}
-use Rattle.wt_seam_spec.specs.Streams.{local_bi, local_count, local_uni}
+use Rattle.wt_turn.specs.Reports.{end_of}
+use Rattle.wt_turn.specs.Sent.{finishes}
+use Rattle.wt_turn.specs.Streams.{local_bi, local_count, local_uni}
 use Rattle.wt_turn.specs.Turns.{is_call}
 use Rattle.wt_turn.specs.declared.call.Call.TheVariants as calls
 use Rattle.wt_turn.specs.declared.reply.Reply.TheVariants as replies

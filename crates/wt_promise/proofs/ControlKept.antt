@@ -22,7 +22,7 @@ use Rattle.wt_promise.proofs.Sent.{Given, Opening, Polled, Quiet, Sent, Wrote, f
 use Rattle.wt_promise.proofs.Shakes.{head_stream}
 use Rattle.wt_promise.proofs.Verdicts.{ByAccept, ByOpening, HandedBy, admitted-peers, given-peers, handed-by}
 use Rattle.wt_promise.specs.Promise.{IsHistory}
-use Rattle.wt_seam_spec.specs.Streams.{local_uni}
+use Rattle.wt_turn.specs.Streams.{local_uni}
 use Rattle.wt_turn.specs.declared.action.Action.{Action}
 use Rattle.wt_turn.specs.declared.call.Call.{Call}
 use Rattle.wt_turn.specs.declared.turn.Turn.{Turn}

@@ -38,8 +38,8 @@ use Rattle.wt_promise.proofs.Tables.{fits-own}
 use Rattle.wt_promise.specs.Owed.{header_on}
 use Rattle.wt_promise.specs.Promise.{EstablishedFor, IsHistory, accepted, begun_on, is_acceptance}
 use Rattle.wt_proto.specs.ResponseWalk.{response_walk_of}
-use Rattle.wt_seam_spec.specs.Reports.{end_of}
-use Rattle.wt_seam_spec.specs.Streams.{local_count, local_uni}
+use Rattle.wt_turn.specs.Reports.{end_of}
+use Rattle.wt_turn.specs.Streams.{local_count, local_uni}
 use Rattle.wt_turn.specs.declared.answer.Answer.{Answer}
 use Rattle.wt_turn.specs.declared.call.Call.{Call}
 use Rattle.wt_turn.specs.declared.reply.Reply.{Reply}

@@ -24,7 +24,7 @@ use Rattle.wt_promise.specs.Found.{FaultIsFirst, can_set_up, early_fault, first_
 use Rattle.wt_promise.specs.Promise.{IsHistory}
 use Rattle.wt_proto.proofs.ControlLaws.{settings_stay}
 use Rattle.wt_proto.specs.ControlWalk.{control_walk_of}
-use Rattle.wt_seam_spec.specs.Reports.{datagrams_of, end_of}
+use Rattle.wt_turn.specs.Reports.{datagrams_of, end_of}
 use Rattle.wt_turn.specs.Log.{Datagram, Event}
 use Rattle.wt_turn.specs.Turns.{event_of}
 use Rattle.wt_turn.specs.declared.reply.Reply.{Reply}

@@ -33,10 +33,10 @@ use Rattle.wt_promise.proofs.Silent.{established-begun}
 use Rattle.wt_promise.proofs.SilentBehind.{stream-known}
 use Rattle.wt_promise.proofs.OwnForms.{head_of}
 use Rattle.wt_promise.specs.Promise.{IsHistory, NoneBehind, sends_on}
-use Rattle.wt_seam_spec.specs.Joined.{join_all, join_one}
-use Rattle.wt_seam_spec.specs.Reports.{stop_of}
-use Rattle.wt_seam_spec.specs.Sent.{finishes}
-use Rattle.wt_seam_spec.specs.Streams.{local_uni}
+use Rattle.wt_turn.specs.Joined.{join_all, join_one}
+use Rattle.wt_turn.specs.Reports.{stop_of}
+use Rattle.wt_turn.specs.Sent.{finishes}
+use Rattle.wt_turn.specs.Streams.{local_uni}
 use Rattle.wt_turn.specs.declared.action.Action.{Action}
 use Rattle.wt_turn.specs.declared.answer.Answer.{Answer}
 use Rattle.wt_turn.specs.declared.call.Call.{Call}

@@ -24,8 +24,8 @@ use Rattle.wt_promise.proofs.Stays.{exists-stays, named-stays, peers-stay}
 use Rattle.wt_promise.proofs.Tables.{fits-own}
 use Rattle.wt_promise.proofs.Waiting.{named-established}
 use Rattle.wt_promise.specs.Promise.{IsHistory}
-use Rattle.wt_seam_spec.specs.Reports.{unis_allowed}
-use Rattle.wt_seam_spec.specs.Streams.{local_bi, local_count, local_uni, one_more_if}
+use Rattle.wt_turn.specs.Reports.{unis_allowed}
+use Rattle.wt_turn.specs.Streams.{local_bi, local_count, local_uni, one_more_if}
 use Rattle.wt_turn.specs.declared.answer.Answer.{Answer}
 use Rattle.wt_turn.specs.declared.call.Call.{Call}
 use Rattle.wt_turn.specs.declared.reply.Reply.{Reply}

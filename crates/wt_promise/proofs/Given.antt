@@ -30,7 +30,7 @@ use Rattle.wt_promise.specs.Found.{AllFound, least_control, peer_opened}
 use Rattle.wt_promise.specs.Promise.{EstablishedFor, IsHistory, is_asked_for}
 use Rattle.wt_promise.specs.Sides.{AsksFor, RequestGiven, StreamGiven}
 use Rattle.wt_proto.specs.declared.verdict.Verdict.{Verdict}
-use Rattle.wt_seam_spec.specs.Streams.{peer_bi, peer_uni}
+use Rattle.wt_turn.specs.Streams.{peer_bi, peer_uni}
 use Rattle.wt_turn.specs.declared.call.Call.{Call}
 use Rattle.wt_turn.specs.declared.reply.Reply.{Reply}
 use Rattle.wt_turn.specs.declared.turn.Turn.{Turn}

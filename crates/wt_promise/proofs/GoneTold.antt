@@ -23,9 +23,9 @@ use Rattle.wt_promise.proofs.Stays.{any-newest, exists-stays, of-session-stays}
 use Rattle.wt_promise.proofs.Tables.{by-row, no-row}
 use Rattle.wt_promise.proofs.OwnForms.{GoneByOwn, leaves_open, StreamTold, ends_sending, resets_with, stops_with}
 use Rattle.wt_promise.specs.Promise.{until_gone}
-use Rattle.wt_seam_spec.specs.Reports.{end_of, is_running}
-use Rattle.wt_seam_spec.specs.Sent.{finishes}
-use Rattle.wt_seam_spec.specs.Streams.{local_uni, peer_uni}
+use Rattle.wt_turn.specs.Reports.{end_of, is_running}
+use Rattle.wt_turn.specs.Sent.{finishes}
+use Rattle.wt_turn.specs.Streams.{local_uni, peer_uni}
 use Rattle.wt_turn.specs.Turns.{event_of}
 use Rattle.wt_turn.specs.declared.action.Action.{Action}
 use Rattle.wt_turn.specs.declared.answer.Answer.{Answer}

@@ -20,7 +20,7 @@ use Rattle.wt_promise.proofs.Opened.{opens-for}
 use Rattle.wt_promise.proofs.Tables.{by-row, by-session, no-row}
 use Rattle.wt_promise.specs.Promise.{IsHistory}
 use Rattle.wt_proto.specs.declared.verdict.Verdict.{Verdict}
-use Rattle.wt_seam_spec.specs.Streams.{local_bi, local_uni}
+use Rattle.wt_turn.specs.Streams.{local_bi, local_uni}
 use Rattle.wt_turn.specs.declared.answer.Answer.{Answer}
 use Rattle.wt_turn.specs.declared.turn.Turn.{Turn}
 use Rattle.wt_wire.specs.Ids.{is_bidirectional}

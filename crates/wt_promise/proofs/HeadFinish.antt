@@ -36,9 +36,9 @@ use Rattle.wt_promise.proofs.Shapes.{Alone, Ending, Finishing, Handshaking, Noth
 use Rattle.wt_promise.proofs.Stays.{any-newest, gone-stays}
 use Rattle.wt_promise.proofs.Tables.{OfRows, by-row, no-row}
 use Rattle.wt_promise.specs.Promise.{IsHistory, acts_on, begun_on, sends_on}
-use Rattle.wt_seam_spec.specs.Reports.{stop_of}
-use Rattle.wt_seam_spec.specs.Sent.{finishes}
-use Rattle.wt_seam_spec.specs.Streams.{local_uni}
+use Rattle.wt_turn.specs.Reports.{stop_of}
+use Rattle.wt_turn.specs.Sent.{finishes}
+use Rattle.wt_turn.specs.Streams.{local_uni}
 use Rattle.wt_turn.specs.declared.action.Action.{Action}
 use Rattle.wt_turn.specs.declared.answer.Answer.{Answer}
 use Rattle.wt_turn.specs.declared.call.Call.{Call}

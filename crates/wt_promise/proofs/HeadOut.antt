@@ -39,8 +39,8 @@ use Rattle.wt_promise.specs.Promise.{IsHistory, accepted, begun_on, head_may_go}
 use Rattle.wt_promise.proofs.Waits.{connect_waits, handshake_waits, on_target}
 use Rattle.wt_proto.specs.ResponseWalk.{response_walk_of}
 use Rattle.wt_proto.specs.declared.response_walk.ResponseWalk.{ResponseWalk}
-use Rattle.wt_seam_spec.specs.Reports.{bis_allowed, credit, end_of, is_connected}
-use Rattle.wt_seam_spec.specs.Streams.{local_count, local_uni, one_more_if, peer_count, peer_opens}
+use Rattle.wt_turn.specs.Reports.{bis_allowed, credit, end_of, is_connected}
+use Rattle.wt_turn.specs.Streams.{local_count, local_uni, one_more_if, peer_count, peer_opens}
 use Rattle.wt_turn.specs.Log.{Event}
 use Rattle.wt_turn.specs.declared.action.Action.{Action}
 use Rattle.wt_turn.specs.declared.answer.Answer.{Answer}

@@ -13,7 +13,7 @@ use Rattle.std.specs.Option.{option_or}
 use Rattle.wt_turn.specs.declared.call.Call.{Call}
 use Rattle.wt_turn.specs.declared.turn.Turn.{Turn}
 use Rattle.wt_promise.specs.Owed.{control_bytes, fits_credit, living, stopped_early, begun_in, begun_last}
-use Rattle.wt_seam_spec.specs.Reports.{stop_of}
+use Rattle.wt_turn.specs.Reports.{stop_of}
 use Rattle.wt_wire.specs.Varint.{varint_bytes}
 use Rattle.wt_wire.specs.declared.side.Side.{Side}
 use Rattle.wt_turn.specs.declared.turn.Turn.TheVariants as turns

@@ -29,8 +29,8 @@ use Rattle.wt_promise.proofs.Tables.{OfRows, by-row, by-session, fits, fits-own}
 use Rattle.wt_promise.proofs.Verdicts.{accept-admits, admitted-later, admitted-peers}
 use Rattle.wt_promise.specs.Owed.{header_for, header_on}
 use Rattle.wt_promise.specs.Promise.{IsHistory, begun_on}
-use Rattle.wt_seam_spec.specs.Reports.{credit}
-use Rattle.wt_seam_spec.specs.Streams.{local_uni}
+use Rattle.wt_turn.specs.Reports.{credit}
+use Rattle.wt_turn.specs.Streams.{local_uni}
 use Rattle.wt_turn.specs.declared.answer.Answer.{Answer}
 use Rattle.wt_turn.specs.declared.call.Call.{Call}
 use Rattle.wt_turn.specs.declared.reply.Reply.{Reply}

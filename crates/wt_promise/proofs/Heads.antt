@@ -24,7 +24,7 @@ use Rattle.wt_promise.proofs.Stays.{named-stays}
 use Rattle.wt_promise.proofs.Verdicts.{ByAccept, ByOpening, HandedBy, admitted-peers, given-kept, given-not-admitted, given-peers, handed-by}
 use Rattle.wt_promise.specs.Owed.{control_bytes, header_for, header_on}
 use Rattle.wt_promise.specs.Promise.{IsHistory, accepted, accepted_by, begun_on}
-use Rattle.wt_seam_spec.specs.Streams.{local_bi, local_uni}
+use Rattle.wt_turn.specs.Streams.{local_bi, local_uni}
 use Rattle.wt_turn.specs.declared.answer.Answer.{Answer}
 use Rattle.wt_turn.specs.declared.call.Call.{Call}
 use Rattle.wt_turn.specs.declared.turn.Turn.{Turn}

@@ -16,7 +16,7 @@ use Rattle.wt_promise.proofs.SettingsOut.{control-out}
 use Rattle.wt_promise.proofs.HeadTests.{same-control}
 use Rattle.wt_promise.specs.Owed.{control_bytes, header_on}
 use Rattle.wt_promise.specs.Promise.{IsHistory, accepted, begun_on}
-use Rattle.wt_seam_spec.specs.Streams.{local_uni}
+use Rattle.wt_turn.specs.Streams.{local_uni}
 use Rattle.wt_wire.specs.declared.side.Side.{Side}
 
 -- a part of the head, where nothing was accepted

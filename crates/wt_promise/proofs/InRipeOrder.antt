@@ -17,8 +17,8 @@ use Rattle.wt_promise.specs.Found.{IsSubsequence, LeftOut, Nil, Taken, classifie
 use Rattle.wt_promise.specs.Promise.{IsHistory}
 use Rattle.wt_proto.specs.declared.session_walk.SessionWalk.{SessionWalk}
 use Rattle.wt_proto.specs.declared.verdict.Verdict.{Verdict}
-use Rattle.wt_seam_spec.specs.Reports.{datagrams_of, end_of, is_running, stop_of}
-use Rattle.wt_seam_spec.specs.Streams.{local_uni, peer_bi, peer_count, peer_uni}
+use Rattle.wt_turn.specs.Reports.{datagrams_of, end_of, is_running, stop_of}
+use Rattle.wt_turn.specs.Streams.{local_uni, peer_bi, peer_count, peer_uni}
 use Rattle.wt_wire.specs.declared.error.ErrorCode.{ErrorCode}
 use Rattle.wt_wire.specs.declared.side.Side.{Side}
 use Rattle.wt_proto.specs.declared.session_walk.SessionWalk.TheVariants as walks

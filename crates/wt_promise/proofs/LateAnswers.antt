@@ -18,10 +18,10 @@ use Rattle.wt_meaning.specs.Windows.{admitted_datagram, admitted_stream, is_esta
 use Rattle.wt_promise.proofs.LateTurns.{Same, later, named-same, now, still-shut}
 use Rattle.wt_proto.specs.ResponseWalk.{response_walk_of}
 use Rattle.wt_proto.specs.declared.response_walk.ResponseWalk.{ResponseWalk}
-use Rattle.wt_seam_spec.specs.Joined.{join_all, send_of}
-use Rattle.wt_seam_spec.specs.Reports.{end_of, is_acknowledged, is_connected, loss_of, stop_of}
-use Rattle.wt_seam_spec.specs.Sent.{is_finished, sent_on}
-use Rattle.wt_seam_spec.specs.Streams.{local_bi, local_count, local_uni, peer_bi, peer_uni}
+use Rattle.wt_turn.specs.Joined.{join_all, send_of}
+use Rattle.wt_turn.specs.Reports.{end_of, is_acknowledged, is_connected, loss_of, stop_of}
+use Rattle.wt_turn.specs.Sent.{is_finished, sent_on}
+use Rattle.wt_turn.specs.Streams.{local_bi, local_count, local_uni, peer_bi, peer_uni}
 use Rattle.wt_turn.specs.Log.{Event}
 use Rattle.wt_turn.specs.Turns.{is_call}
 use Rattle.wt_turn.specs.declared.action.Action.{Action}

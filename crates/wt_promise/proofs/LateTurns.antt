@@ -13,7 +13,7 @@ use Rattle.wt_meaning.specs.Moments.{findings}
 use Rattle.wt_meaning.specs.Rows.{answer}
 use Rattle.wt_meaning.specs.Windows.{establishes, first_session, gone_in, is_gone_by_call, is_number, named, received_count, receives, requests}
 use Rattle.wt_promise.proofs.Facts.{ended-found}
-use Rattle.wt_seam_spec.specs.Joined.{newest_first}
+use Rattle.wt_turn.specs.Joined.{newest_first}
 use Rattle.wt_turn.specs.Turns.{event_of, is_call}
 use Rattle.wt_turn.specs.declared.reply.Reply.{Reply}
 use Rattle.wt_turn.specs.declared.turn.Turn.{Turn}

@@ -1,7 +1,7 @@
 -- A lawful list is answered whole, and a piece may be cut.
 use Rattle.std.specs.Prelude.{[], ◌++◌, ◌∷◌, ◌≡◌, List, true, ℕ}
 use Rattle.std.proofs.Common.{◌∙◌, ap, refl, sym}
-use Rattle.wt_seam_spec.specs.Joined.{join_all}
+use Rattle.wt_turn.specs.Joined.{join_all}
 use Rattle.wt_turn.specs.declared.turn.Turn.{Turn}
 use Rattle.wt_wire.specs.declared.side.Side.{Side}
 use Rattle.wt_meaning.specs.History.{History}

@@ -18,8 +18,8 @@ use Rattle.wt_promise.proofs.Grows.{AClassified, AClosed, ADatagram, ADequeued, 
 use Rattle.wt_promise.proofs.OwnActs.{gone-sends-not, reset-new, reset-of-session}
 use Rattle.wt_promise.specs.Promise.{sends_on}
 use Rattle.wt_proto.specs.declared.verdict.Verdict.{Verdict}
-use Rattle.wt_seam_spec.specs.Reports.{stop_of}
-use Rattle.wt_seam_spec.specs.Streams.{local_uni}
+use Rattle.wt_turn.specs.Reports.{stop_of}
+use Rattle.wt_turn.specs.Streams.{local_uni}
 use Rattle.wt_turn.specs.declared.action.Action.{Action}
 use Rattle.wt_wire.specs.declared.side.Side.{Side}
 use Rattle.wt_proto.specs.declared.verdict.Verdict.TheVariants as verdicts

@@ -23,8 +23,8 @@ use Rattle.wt_promise.proofs.Settles.{KeptStreams, SettledAt, kept-check, other-
 use Rattle.wt_promise.specs.Found.{can_set_up, datagrams_fault, early_fault, first_fault, peer_opened, read_in, sessions_fault, streams_fault}
 use Rattle.wt_proto.specs.declared.session_walk.SessionWalk.{SessionWalk}
 use Rattle.wt_proto.specs.declared.verdict.Verdict.{Verdict}
-use Rattle.wt_seam_spec.specs.Reports.{datagrams_of, end_of, is_running}
-use Rattle.wt_seam_spec.specs.Streams.{peer_bi, peer_count, peer_uni}
+use Rattle.wt_turn.specs.Reports.{datagrams_of, end_of, is_running}
+use Rattle.wt_turn.specs.Streams.{peer_bi, peer_count, peer_uni}
 use Rattle.wt_wire.specs.declared.error.ErrorCode.{ErrorCode}
 use Rattle.wt_wire.specs.declared.side.Side.{Side}
 use Rattle.wt_wire.specs.declared.side.Side.TheVariants.{Client, Server}

@@ -14,9 +14,9 @@ use Rattle.wt_meaning.specs.Windows.{is_gone, named}
 use Rattle.wt_promise.proofs.Actions.{any-next, opened, opened-append, opened-join, opened-out}
 use Rattle.wt_promise.proofs.Tables.{by-row, by-session, no-row}
 use Rattle.wt_promise.specs.Promise.{IsHistory}
-use Rattle.wt_seam_spec.specs.Joined.{join_all, send_of}
-use Rattle.wt_seam_spec.specs.Reports.{unis_allowed}
-use Rattle.wt_seam_spec.specs.Streams.{local_count, local_uni, one_more_if, opens}
+use Rattle.wt_turn.specs.Joined.{join_all, send_of}
+use Rattle.wt_turn.specs.Reports.{unis_allowed}
+use Rattle.wt_turn.specs.Streams.{local_count, local_uni, one_more_if, opens}
 use Rattle.wt_turn.specs.Log.{closes}
 use Rattle.wt_turn.specs.declared.action.Action.{Action}
 use Rattle.wt_turn.specs.declared.answer.Answer.{Answer}

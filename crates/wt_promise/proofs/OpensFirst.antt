@@ -43,9 +43,9 @@ use Rattle.wt_promise.proofs.WasReset.{Admitted, Of, Opened, of-is, of-next, ope
 use Rattle.wt_promise.proofs.OwnForms.{head_of}
 use Rattle.wt_promise.specs.Promise.{IsHistory, acts_on, sends_on}
 use Rattle.wt_promise.specs.Sides.{opened_before, opens_of}
-use Rattle.wt_seam_spec.specs.Joined.{join_all, join_one, send_of}
-use Rattle.wt_seam_spec.specs.Reports.{unis_allowed}
-use Rattle.wt_seam_spec.specs.Streams.{local_bi, local_count, local_uni, one_more_if, opens, peer_bi, peer_uni}
+use Rattle.wt_turn.specs.Joined.{join_all, join_one, send_of}
+use Rattle.wt_turn.specs.Reports.{unis_allowed}
+use Rattle.wt_turn.specs.Streams.{local_bi, local_count, local_uni, one_more_if, opens, peer_bi, peer_uni}
 use Rattle.wt_turn.specs.declared.action.Action.{Action}
 use Rattle.wt_turn.specs.declared.answer.Answer.{Answer}
 use Rattle.wt_turn.specs.declared.call.Call.{Call}

@@ -11,9 +11,9 @@ use Rattle.wt_promise.proofs.HeadTests.{none-some, same-control}
 use Rattle.wt_promise.proofs.OpenStays.{same-findings}
 use Rattle.wt_promise.proofs.OwedCalls.{turn-owed}
 use Rattle.wt_promise.specs.Owed.{as_called, owed_if, owed_by_control, owed_by_finding, owed_by_findings, owed_by_moment, owed_by_turn, rest_of}
-use Rattle.wt_seam_spec.specs.Joined.{join_all}
-use Rattle.wt_seam_spec.specs.Reports.{stop_of, unis_allowed}
-use Rattle.wt_seam_spec.specs.Streams.{local_count, local_uni}
+use Rattle.wt_turn.specs.Joined.{join_all}
+use Rattle.wt_turn.specs.Reports.{stop_of, unis_allowed}
+use Rattle.wt_turn.specs.Streams.{local_count, local_uni}
 use Rattle.wt_turn.specs.declared.action.Action.{Action}
 use Rattle.wt_turn.specs.declared.turn.Turn.{Turn}
 use Rattle.wt_wire.specs.declared.side.Side.{Side}

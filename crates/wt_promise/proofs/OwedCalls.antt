@@ -28,9 +28,9 @@ use Rattle.wt_promise.proofs.HeadTests.{none-some, same-begun}
 use Rattle.wt_promise.proofs.OwedShakes.{shakes-owed}
 use Rattle.wt_promise.proofs.Tables.{OfRows, by-row, by-session, by-value, no-row}
 use Rattle.wt_promise.specs.Owed.{owed_by_call, owed_by_end, owed_by_turn, owed_by_handshake}
-use Rattle.wt_seam_spec.specs.Joined.{send_of}
-use Rattle.wt_seam_spec.specs.Reports.{datagram_fact, end_of, is_acknowledged, stop_of}
-use Rattle.wt_seam_spec.specs.Streams.{local_bi, local_uni, peer_bi, peer_uni}
+use Rattle.wt_turn.specs.Joined.{send_of}
+use Rattle.wt_turn.specs.Reports.{datagram_fact, end_of, is_acknowledged, stop_of}
+use Rattle.wt_turn.specs.Streams.{local_bi, local_uni, peer_bi, peer_uni}
 use Rattle.wt_turn.specs.declared.action.Action.{Action}
 use Rattle.wt_turn.specs.declared.answer.Answer.{Answer}
 use Rattle.wt_turn.specs.declared.call.Call.{Call}

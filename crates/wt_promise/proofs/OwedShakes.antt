@@ -25,7 +25,7 @@ use Rattle.wt_promise.proofs.HeadTests.{early, lacking, none-living, none-taken}
 use Rattle.wt_promise.proofs.Tables.{OfRows, by-row, by-value, no-row}
 use Rattle.wt_proto.specs.ResponseWalk.{response_walk_of}
 use Rattle.wt_proto.specs.declared.response_walk.ResponseWalk.{ResponseWalk}
-use Rattle.wt_seam_spec.specs.Reports.{end_of, is_connected, loss_of}
+use Rattle.wt_turn.specs.Reports.{end_of, is_connected, loss_of}
 use Rattle.wt_turn.specs.declared.action.Action.{Action}
 use Rattle.wt_turn.specs.declared.answer.Answer.{Answer}
 use Rattle.wt_turn.specs.declared.call.Call.{Call}
@@ -34,8 +34,8 @@ use Rattle.wt_turn.specs.declared.reply.Reply.{Reply}
 use Rattle.wt_wire.specs.declared.side.Side.{Side}
 use Rattle.wt_turn.specs.declared.action.Action.TheVariants as actions
 use Rattle.wt_turn.specs.declared.call.Call.TheVariants as calls
-use Rattle.wt_seam_spec.specs.Joined.{send_of}
-use Rattle.wt_seam_spec.specs.Streams.{local_count}
+use Rattle.wt_turn.specs.Joined.{send_of}
+use Rattle.wt_turn.specs.Streams.{local_count}
 use Rattle.wt_turn.specs.declared.connecting_error.ConnectingError.TheVariants as connects
 use Rattle.wt_turn.specs.declared.loss.LossReason.TheVariants as losses
 use Rattle.wt_wire.specs.Codes.{code_of}

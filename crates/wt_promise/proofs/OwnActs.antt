@@ -24,7 +24,7 @@ use Rattle.wt_promise.proofs.Shapes.{going}
 use Rattle.wt_promise.proofs.Sessions.{is_connect}
 use Rattle.wt_promise.proofs.Shakes.{Finishes, Goes, GoesShuts, Rejects, Shake, Shut, Shuts, Still, head_stream, rest}
 use Rattle.wt_promise.specs.Promise.{IsHistory, acts_on, sends_on}
-use Rattle.wt_seam_spec.specs.Reports.{end_of, is_running}
+use Rattle.wt_turn.specs.Reports.{end_of, is_running}
 use Rattle.wt_turn.specs.declared.action.Action.{Action}
 use Rattle.wt_turn.specs.declared.answer.Answer.{Answer}
 use Rattle.wt_turn.specs.declared.call.Call.{Call}

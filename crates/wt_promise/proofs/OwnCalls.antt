@@ -21,7 +21,7 @@ use Rattle.wt_promise.proofs.Flow.{clash}
 use Rattle.wt_promise.proofs.OwnActs.{Ends, GoneBy, Held, Opens, OwnActs, Writes, asked-of, gone-sends-not, neither, on-stream, reset-new, reset-of-session, sends-no-reset, sends-other, shake-acts}
 use Rattle.wt_promise.proofs.Shapes.{Alone, Ending, Finishing, Handshaking, Nothing, Nought, Polling, Resetting, Shape, Writing, shape}
 use Rattle.wt_promise.specs.Promise.{IsHistory, acts_on, sends_on}
-use Rattle.wt_seam_spec.specs.Reports.{stop_of}
+use Rattle.wt_turn.specs.Reports.{stop_of}
 use Rattle.wt_turn.specs.declared.action.Action.{Action}
 use Rattle.wt_turn.specs.declared.answer.Answer.{Answer}
 use Rattle.wt_turn.specs.declared.call.Call.{Call}

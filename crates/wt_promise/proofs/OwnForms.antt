@@ -18,8 +18,8 @@ use Rattle.wt_meaning.specs.Sends.{is_of_session, admits}
 use Rattle.wt_meaning.specs.Windows.{gone_in, is_established, is_gone, is_number, last_request, named}
 use Rattle.wt_promise.specs.Promise.{SettingsOut, accepted, begun_on, head_may_go, until_gone}
 use Rattle.wt_proto.specs.ResponseWalk.{response_walk_of}
-use Rattle.wt_seam_spec.specs.Reports.{credit, end_of, unis_allowed, is_running}
-use Rattle.wt_seam_spec.specs.Streams.{local_uni, peer_bi, peer_uni}
+use Rattle.wt_turn.specs.Reports.{credit, end_of, unis_allowed, is_running}
+use Rattle.wt_turn.specs.Streams.{local_uni, peer_bi, peer_uni}
 use Rattle.wt_turn.specs.Log.{closes}
 use Rattle.wt_turn.specs.declared.action.Action.{Action}
 use Rattle.wt_turn.specs.declared.answer.Answer.{Answer}

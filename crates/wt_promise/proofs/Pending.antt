@@ -4,8 +4,8 @@ use Rattle.std.proofs.Common.{◌∙◌, ap, refl, sym}
 use Rattle.url.specs.Parser.{parse_url}
 use Rattle.wt_message.specs.Datagram.{datagram_bytes}
 use Rattle.wt_message.specs.FixedBytes.{response_bytes}
-use Rattle.wt_seam_spec.specs.Reports.{datagram_fact, end_of, is_acknowledged, stop_of}
-use Rattle.wt_seam_spec.specs.Streams.{local_bi, local_uni, peer_bi, peer_uni}
+use Rattle.wt_turn.specs.Reports.{datagram_fact, end_of, is_acknowledged, stop_of}
+use Rattle.wt_turn.specs.Streams.{local_bi, local_uni, peer_bi, peer_uni}
 use Rattle.wt_turn.specs.declared.call.Call.{Call}
 use Rattle.wt_turn.specs.declared.connecting_error.ConnectingError.{ConnectingError}
 use Rattle.wt_turn.specs.declared.reply.Reply.{Reply}

@@ -5,7 +5,7 @@ use Rattle.std.proofs.Math.Seq.{drop-nil}
 use Rattle.url.specs.Parser.{parse_url}
 use Rattle.wt_proto.specs.ResponseWalk.{response_walk_of}
 use Rattle.wt_proto.specs.declared.response_walk.ResponseWalk.{ResponseWalk}
-use Rattle.wt_seam_spec.specs.Reports.{end_of, is_connected}
+use Rattle.wt_turn.specs.Reports.{end_of, is_connected}
 use Rattle.wt_turn.specs.declared.action.Action.{Action}
 use Rattle.wt_turn.specs.declared.answer.Answer.{Answer}
 use Rattle.wt_turn.specs.declared.call.Call.{Call}

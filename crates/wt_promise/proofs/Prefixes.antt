@@ -8,8 +8,8 @@ use Rattle.wt_meaning.specs.Meaning.{after_bytes, answer_to, history_after, mean
 use Rattle.wt_promise.proofs.Stays.{exists-stays}
 use Rattle.wt_promise.specs.Lists.{LongestPrefix, StopsRightly, history_of}
 use Rattle.wt_promise.specs.Promise.{AllLawful, IsHistory}
-use Rattle.wt_seam_spec.specs.Reports.{end_of, is_connected, is_running}
-use Rattle.wt_seam_spec.specs.Streams.{local_uni}
+use Rattle.wt_turn.specs.Reports.{end_of, is_connected, is_running}
+use Rattle.wt_turn.specs.Streams.{local_uni}
 use Rattle.wt_turn.specs.declared.answer.Answer.{Answer}
 use Rattle.wt_turn.specs.declared.turn.Turn.{Turn}
 use Rattle.wt_wire.specs.declared.side.Side.{Side}

@@ -33,10 +33,10 @@ use Rattle.wt_proto.specs.ResponseWalk.{response_walk_of}
 use Rattle.wt_proto.specs.Uni.{is_final}
 use Rattle.wt_proto.specs.declared.control_walk.ControlWalk.{ControlWalk}
 use Rattle.wt_proto.specs.declared.verdict.Verdict.{Verdict}
-use Rattle.wt_seam_spec.specs.Joined.{join_all, send_of}
-use Rattle.wt_seam_spec.specs.Reports.{credit, datagrams_of, end_of, unis_allowed}
-use Rattle.wt_seam_spec.specs.Sent.{sent_on}
-use Rattle.wt_seam_spec.specs.Streams.{local_count, local_uni, peer_bi, peer_count, peer_uni}
+use Rattle.wt_turn.specs.Joined.{join_all, send_of}
+use Rattle.wt_turn.specs.Reports.{credit, datagrams_of, end_of, unis_allowed}
+use Rattle.wt_turn.specs.Sent.{sent_on}
+use Rattle.wt_turn.specs.Streams.{local_count, local_uni, peer_bi, peer_count, peer_uni}
 use Rattle.wt_turn.specs.Log.{Event, closes}
 use Rattle.wt_turn.specs.Turns.{event_of}
 use Rattle.wt_turn.specs.declared.action.Action.{Action}

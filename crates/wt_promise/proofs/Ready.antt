@@ -4,8 +4,8 @@ use Rattle.std.proofs.Common.{◌∙◌, ap, arith, refl, sym}
 use Rattle.std.proofs.lemmas.Bool.{eqb-true}
 use Rattle.wt_meaning.specs.History.{History, Pair, all_events, can_send, events, is_open, with_event}
 use Rattle.wt_meaning.specs.Lawful.{has_begun, is_lawful, is_lost}
-use Rattle.wt_seam_spec.specs.Reports.{credit, is_connected, unis_allowed}
-use Rattle.wt_seam_spec.specs.Streams.{local_uni}
+use Rattle.wt_turn.specs.Reports.{credit, is_connected, unis_allowed}
+use Rattle.wt_turn.specs.Streams.{local_uni}
 use Rattle.wt_promise.proofs.SettingsOut.{open-events}
 use Rattle.wt_promise.specs.Found.{can_set_up}
 use Rattle.wt_turn.specs.Log.{Event, MaxData}

@@ -20,7 +20,7 @@ use Rattle.wt_promise.proofs.Tables.{fits, fits-own, is_rejected}
 use Rattle.wt_promise.proofs.OwnForms.{ErrorStays}
 use Rattle.wt_promise.specs.Promise.{IsHistory}
 use Rattle.wt_proto.specs.declared.verdict.Verdict.{Verdict}
-use Rattle.wt_seam_spec.specs.Reports.{loss_of}
+use Rattle.wt_turn.specs.Reports.{loss_of}
 use Rattle.wt_turn.specs.Log.{Event}
 use Rattle.wt_turn.specs.declared.call.Call.{Call}
 use Rattle.wt_turn.specs.declared.connection_error.ConnectionError.{ConnectionError}

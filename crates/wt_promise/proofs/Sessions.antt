@@ -15,7 +15,7 @@ use Rattle.wt_promise.proofs.OwnForms.{frame_of, head_of}
 use Rattle.wt_promise.proofs.Tables.{OfRows, by-row, by-value, no-row, rejects-pass}
 use Rattle.wt_proto.specs.ResponseWalk.{response_walk_of}
 use Rattle.wt_proto.specs.declared.response_walk.ResponseWalk.{ResponseWalk}
-use Rattle.wt_seam_spec.specs.Reports.{end_of}
+use Rattle.wt_turn.specs.Reports.{end_of}
 use Rattle.wt_turn.specs.declared.action.Action.{Action}
 use Rattle.wt_turn.specs.declared.answer.Answer.{Answer}
 use Rattle.wt_turn.specs.declared.call.Call.{Call}

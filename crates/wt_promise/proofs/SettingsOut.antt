@@ -19,9 +19,9 @@ use Rattle.wt_promise.proofs.Sent.{front-bytes, if-bytes, send-bytes}
 use Rattle.wt_promise.proofs.HeadTests.{same-control}
 use Rattle.wt_promise.proofs.OwnForms.{SettingsByOwn, leaves_open}
 use Rattle.wt_promise.specs.Promise.{IsHistory}
-use Rattle.wt_seam_spec.specs.Joined.{send_of}
-use Rattle.wt_seam_spec.specs.Reports.{connects, credit, credit_reported, is_connected, unis_allowed}
-use Rattle.wt_seam_spec.specs.Streams.{local_count, local_uni}
+use Rattle.wt_turn.specs.Joined.{send_of}
+use Rattle.wt_turn.specs.Reports.{connects, credit, credit_reported, is_connected, unis_allowed}
+use Rattle.wt_turn.specs.Streams.{local_count, local_uni}
 use Rattle.wt_turn.specs.Log.{Event, newest}
 use Rattle.wt_turn.specs.Turns.{event_of}
 use Rattle.wt_turn.specs.declared.action.Action.{Action}

@@ -16,7 +16,7 @@ use Rattle.wt_promise.proofs.Tables.{OfRows, by-row, by-value, is_plain, is_sess
 use Rattle.wt_promise.proofs.OwnForms.{fault_closes, frame_of, handshake_ends, head_of, rejection_ends}
 use Rattle.wt_proto.specs.ResponseWalk.{response_walk_of}
 use Rattle.wt_proto.specs.declared.response_walk.ResponseWalk.{ResponseWalk}
-use Rattle.wt_seam_spec.specs.Reports.{end_of}
+use Rattle.wt_turn.specs.Reports.{end_of}
 use Rattle.wt_turn.specs.declared.action.Action.{Action}
 use Rattle.wt_turn.specs.declared.answer.Answer.{Answer}
 use Rattle.wt_turn.specs.declared.call.Call.{Call}

@@ -22,8 +22,8 @@ use Rattle.wt_promise.proofs.Tables.{OfRows, by-row, by-session, by-value, no-ro
 use Rattle.wt_promise.proofs.OwnForms.{call_ends, handshake_ends, head_of, is_end}
 use Rattle.wt_promise.proofs.OwnForms.{says_accepted}
 use Rattle.wt_promise.specs.Promise.{accepted_by, acts_on}
-use Rattle.wt_seam_spec.specs.Reports.{datagram_fact, end_of, is_acknowledged, stop_of}
-use Rattle.wt_seam_spec.specs.Streams.{local_bi, local_uni, peer_bi, peer_uni}
+use Rattle.wt_turn.specs.Reports.{datagram_fact, end_of, is_acknowledged, stop_of}
+use Rattle.wt_turn.specs.Streams.{local_bi, local_uni, peer_bi, peer_uni}
 use Rattle.wt_turn.specs.declared.action.Action.{Action}
 use Rattle.wt_turn.specs.declared.answer.Answer.{Answer}
 use Rattle.wt_turn.specs.declared.call.Call.{Call}

@@ -15,8 +15,8 @@ use Rattle.wt_proto.proofs.UniLaws.{uni_verdict_stays}
 use Rattle.wt_proto.specs.Bi.{bi_verdict_of}
 use Rattle.wt_proto.specs.Uni.{is_final, uni_verdict_of}
 use Rattle.wt_proto.specs.declared.verdict.Verdict.{Verdict}
-use Rattle.wt_seam_spec.specs.Reports.{end_of, end_reported, is_connected, is_running}
-use Rattle.wt_seam_spec.specs.Streams.{one_more_if, peer_count, peer_opens}
+use Rattle.wt_turn.specs.Reports.{end_of, end_reported, is_connected, is_running}
+use Rattle.wt_turn.specs.Streams.{one_more_if, peer_count, peer_opens}
 use Rattle.wt_turn.specs.Log.{Event, newest}
 use Rattle.wt_turn.specs.Turns.{event_of}
 use Rattle.wt_turn.specs.declared.turn.Turn.{Turn}

@@ -39,7 +39,7 @@ use Rattle.wt_promise.proofs.Tables.{by-session, fits, fits-own}
 use Rattle.wt_promise.proofs.Verdicts.{accept-admits, admitted-later, admitted-peers}
 use Rattle.wt_promise.proofs.WasReset.{Admitted, ByHand, Closed, Later, Opened, WasReset, WithSession, opened-first, was-reset}
 use Rattle.wt_promise.specs.Promise.{IsHistory, acts_on, sends_on}
-use Rattle.wt_seam_spec.specs.Streams.{local_uni}
+use Rattle.wt_turn.specs.Streams.{local_uni}
 use Rattle.wt_turn.specs.declared.action.Action.{Action}
 use Rattle.wt_turn.specs.declared.answer.Answer.{Answer}
 use Rattle.wt_turn.specs.declared.call.Call.{Call}

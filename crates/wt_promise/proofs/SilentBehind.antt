@@ -30,8 +30,8 @@ use Rattle.wt_promise.proofs.Stays.{any-newest}
 use Rattle.wt_promise.proofs.Verdicts.{admitted-once, admitted-peers, given-classified}
 use Rattle.wt_promise.proofs.WasReset.{Admitted, Of, Opened, WasReset, new-reset, of-is, of-later, of-next, opened-first}
 use Rattle.wt_promise.specs.Promise.{IsHistory, acts_on, sends_on}
-use Rattle.wt_seam_spec.specs.Reports.{stop_of}
-use Rattle.wt_seam_spec.specs.Streams.{local_uni}
+use Rattle.wt_turn.specs.Reports.{stop_of}
+use Rattle.wt_turn.specs.Streams.{local_uni}
 use Rattle.wt_turn.specs.declared.action.Action.{Action}
 use Rattle.wt_turn.specs.declared.answer.Answer.{Answer}
 use Rattle.wt_turn.specs.declared.turn.Turn.{Turn}

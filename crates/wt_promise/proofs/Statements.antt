@@ -15,10 +15,10 @@ use Rattle.wt_promise.specs.Owed.{living, owed_by_moment, owed_by_turn}
 use Rattle.wt_promise.specs.Promise.{EstablishedFor, IsHistory, NoneBehind, SettingsOut, acts_on, leaves_open, payloads, sends_on}
 use Rattle.wt_promise.specs.Sides.{RequestGiven, SessionGiven, StreamGiven, arrived, opened_first, opens_of}
 use Rattle.wt_proto.specs.declared.verdict.Verdict.{Verdict}
-use Rattle.wt_seam_spec.specs.Joined.{join_all}
-use Rattle.wt_seam_spec.specs.Reports.{datagrams_of, end_of, unis_allowed}
-use Rattle.wt_seam_spec.specs.Sent.{finishes}
-use Rattle.wt_seam_spec.specs.Streams.{local_bi, local_count, local_uni, peer_bi, peer_count, peer_uni}
+use Rattle.wt_turn.specs.Joined.{join_all}
+use Rattle.wt_turn.specs.Reports.{datagrams_of, end_of, unis_allowed}
+use Rattle.wt_turn.specs.Sent.{finishes}
+use Rattle.wt_turn.specs.Streams.{local_bi, local_count, local_uni, peer_bi, peer_count, peer_uni}
 use Rattle.wt_turn.specs.Log.{closes}
 use Rattle.wt_turn.specs.declared.answer.Answer.{Answer}
 use Rattle.wt_turn.specs.declared.call.Call.TheVariants as calls

@@ -15,8 +15,8 @@ use Rattle.wt_promise.proofs.Actions.{opened-out}
 use Rattle.wt_promise.proofs.Datagrams.{numbered}
 use Rattle.wt_promise.proofs.Few.{gone-later, gone-more}
 use Rattle.wt_promise.proofs.Grows.{findings-add, news}
-use Rattle.wt_seam_spec.specs.Joined.{newest_first}
-use Rattle.wt_seam_spec.specs.Streams.{local_count, one_more_if, peer_count, peer_opens}
+use Rattle.wt_turn.specs.Joined.{newest_first}
+use Rattle.wt_turn.specs.Streams.{local_count, one_more_if, peer_count, peer_opens}
 use Rattle.wt_turn.specs.Log.{Event}
 use Rattle.wt_turn.specs.Turns.{event_of}
 use Rattle.wt_turn.specs.declared.action.Action.{Action}

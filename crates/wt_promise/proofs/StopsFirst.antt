@@ -33,9 +33,9 @@ use Rattle.wt_promise.specs.Promise.{IsHistory}
 use Rattle.wt_promise.specs.Sides.{opened_before, opens_of}
 use Rattle.wt_proto.specs.declared.verdict.Verdict.TheVariants as verdicts
 use Rattle.wt_proto.specs.declared.verdict.Verdict.{Verdict}
-use Rattle.wt_seam_spec.specs.Joined.{join_all, join_one, send_of}
-use Rattle.wt_seam_spec.specs.Reports.{end_of, if_same, is_running, stop_of}
-use Rattle.wt_seam_spec.specs.Streams.{local_bi, local_count, local_uni}
+use Rattle.wt_turn.specs.Joined.{join_all, join_one, send_of}
+use Rattle.wt_turn.specs.Reports.{end_of, if_same, is_running, stop_of}
+use Rattle.wt_turn.specs.Streams.{local_bi, local_count, local_uni}
 use Rattle.wt_turn.specs.declared.action.Action.TheVariants as actions
 use Rattle.wt_turn.specs.declared.action.Action.{Action}
 use Rattle.wt_turn.specs.declared.call.Call.TheVariants as calls

@@ -12,8 +12,8 @@ use Rattle.wt_meaning.specs.Windows.{last_request, named}
 use Rattle.wt_message.specs.Datagram.{datagram_bytes}
 use Rattle.wt_proto.specs.ResponseWalk.{response_walk_of}
 use Rattle.wt_proto.specs.declared.response_walk.ResponseWalk.{ResponseWalk}
-use Rattle.wt_seam_spec.specs.Reports.{datagram_fact, end_of, stop_of}
-use Rattle.wt_seam_spec.specs.Streams.{peer_bi, peer_uni}
+use Rattle.wt_turn.specs.Reports.{datagram_fact, end_of, stop_of}
+use Rattle.wt_turn.specs.Streams.{peer_bi, peer_uni}
 use Rattle.wt_turn.specs.declared.action.Action.{Action}
 use Rattle.wt_turn.specs.declared.answer.Answer.{Answer}
 use Rattle.wt_turn.specs.declared.call.Call.{Call}

@@ -32,9 +32,9 @@ use Rattle.wt_proto.specs.ResponseWalk.{response_walk_of}
 use Rattle.wt_proto.specs.declared.response_walk.ResponseWalk.TheVariants as responses
 use Rattle.wt_proto.specs.declared.response_walk.ResponseWalk.{ResponseWalk}
 use Rattle.wt_proto.specs.declared.verdict.Verdict.TheVariants as verdicts
-use Rattle.wt_seam_spec.specs.Reports.{bis_allowed, end_of, is_connected, loss_of, unis_allowed}
-use Rattle.wt_seam_spec.specs.Sent.{is_finished, sent_on}
-use Rattle.wt_seam_spec.specs.Streams.{local_bi, local_count, local_uni, peer_bi, peer_uni}
+use Rattle.wt_turn.specs.Reports.{bis_allowed, end_of, is_connected, loss_of, unis_allowed}
+use Rattle.wt_turn.specs.Sent.{is_finished, sent_on}
+use Rattle.wt_turn.specs.Streams.{local_bi, local_count, local_uni, peer_bi, peer_uni}
 use Rattle.wt_turn.specs.Log.{Event}
 use Rattle.wt_turn.specs.ProtoError.{error_of_loss}
 use Rattle.wt_turn.specs.Turns.{event_of, is_call}

@@ -24,9 +24,9 @@ use Rattle.wt_promise.specs.Promise.{IsHistory, acts_on}
 use Rattle.wt_promise.specs.Sides.{StillWaits, is_about, waits_on}
 use Rattle.wt_promise.proofs.Waits.{nothing_left}
 use Rattle.wt_proto.specs.declared.verdict.Verdict.{Verdict}
-use Rattle.wt_seam_spec.specs.Reports.{credit, end_of, is_acknowledged, stop_of}
-use Rattle.wt_seam_spec.specs.Sent.{finishes}
-use Rattle.wt_seam_spec.specs.Streams.{local_uni, peer_uni}
+use Rattle.wt_turn.specs.Reports.{credit, end_of, is_acknowledged, stop_of}
+use Rattle.wt_turn.specs.Sent.{finishes}
+use Rattle.wt_turn.specs.Streams.{local_uni, peer_uni}
 use Rattle.wt_turn.specs.Log.{Event}
 use Rattle.wt_turn.specs.Turns.{event_of}
 use Rattle.wt_turn.specs.declared.action.Action.{Action}

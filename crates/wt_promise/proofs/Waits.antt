@@ -5,8 +5,8 @@ use Rattle.std.specs.List.{list_any}
 use Rattle.url.specs.Parser.{parse_url}
 use Rattle.wt_message.specs.FixedBytes.{response_bytes}
 use Rattle.wt_proto.specs.ResponseWalk.{response_walk_of}
-use Rattle.wt_seam_spec.specs.Reports.{end_of, is_acknowledged, is_connected, is_running, stop_of}
-use Rattle.wt_seam_spec.specs.Streams.{local_bi, local_uni, peer_bi, peer_uni}
+use Rattle.wt_turn.specs.Reports.{end_of, is_acknowledged, is_connected, is_running, stop_of}
+use Rattle.wt_turn.specs.Streams.{local_bi, local_uni, peer_bi, peer_uni}
 use Rattle.wt_turn.specs.declared.call.Call.{Call}
 use Rattle.wt_turn.specs.declared.connecting_error.ConnectingError.{ConnectingError}
 use Rattle.wt_wire.specs.HeaderList.{Fields}

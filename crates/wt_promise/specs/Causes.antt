@@ -6,8 +6,8 @@ use Rattle.url.specs.Parts.{Parts}
 use Rattle.wt_message.specs.Responses.{status_of}
 use Rattle.wt_proto.specs.ResponseWalk.{response_walk_of}
 use Rattle.wt_proto.specs.declared.response_walk.ResponseWalk.{ResponseWalk}
-use Rattle.wt_seam_spec.specs.Reports.{datagram_fact, end_of, is_acknowledged, is_connected, loss_of, stop_of}
-use Rattle.wt_seam_spec.specs.Streams.{local_bi, local_count, local_uni, peer_bi, peer_uni}
+use Rattle.wt_turn.specs.Reports.{datagram_fact, end_of, is_acknowledged, is_connected, loss_of, stop_of}
+use Rattle.wt_turn.specs.Streams.{local_bi, local_count, local_uni, peer_bi, peer_uni}
 use Rattle.wt_turn.specs.ProtoError.{error_of_loss}
 use Rattle.wt_turn.specs.declared.call.Call.{Call}
 use Rattle.wt_turn.specs.declared.connection_error.ConnectionError.{ConnectionError}

@@ -10,8 +10,8 @@ use Rattle.wt_message.specs.Datagram.{datagram_of}
 use Rattle.wt_proto.specs.Uni.{is_final}
 use Rattle.wt_proto.specs.declared.session_walk.SessionWalk.{SessionWalk}
 use Rattle.wt_proto.specs.declared.verdict.Verdict.{Verdict}
-use Rattle.wt_seam_spec.specs.Reports.{credit, datagrams_of, end_of, is_connected, is_running, stop_of, unis_allowed}
-use Rattle.wt_seam_spec.specs.Streams.{local_uni, peer_count, peer_uni}
+use Rattle.wt_turn.specs.Reports.{credit, datagrams_of, end_of, is_connected, is_running, stop_of, unis_allowed}
+use Rattle.wt_turn.specs.Streams.{local_uni, peer_count, peer_uni}
 use Rattle.wt_wire.specs.declared.error.ErrorCode.{ErrorCode}
 use Rattle.wt_wire.specs.declared.side.Side.{Side}
 use Rattle.wt_proto.specs.declared.session_walk.SessionWalk.TheVariants as walks

@@ -5,7 +5,7 @@ use Rattle.wt_meaning.specs.History.{History, all_events}
 use Rattle.wt_meaning.specs.Lawful.{is_lawful}
 use Rattle.wt_meaning.specs.Meaning.{history_after, meaning, run}
 use Rattle.wt_promise.specs.Promise.{AllLawful}
-use Rattle.wt_seam_spec.specs.Reports.{is_connected, loss_of}
+use Rattle.wt_turn.specs.Reports.{is_connected, loss_of}
 use Rattle.wt_turn.specs.declared.turn.Turn.{Turn}
 use Rattle.wt_wire.specs.declared.side.Side.{Side}
 

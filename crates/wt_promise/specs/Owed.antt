@@ -3,9 +3,9 @@ use Rattle.std.specs.Prelude.{[], ◌&&◌, ◌++◌, ◌+◌, ◌/◌, ◌==◌
 use Rattle.url.specs.Parser.{parse_url}
 use Rattle.url.specs.Parts.{Parts, host_or_empty}
 use Rattle.wt_message.specs.FixedBytes.{headers_frame_bytes, response_bytes}
-use Rattle.wt_seam_spec.specs.Joined.{send_of}
-use Rattle.wt_seam_spec.specs.Reports.{end_of, is_connected, is_running, stop_of, unis_allowed}
-use Rattle.wt_seam_spec.specs.Streams.{local_count, local_uni}
+use Rattle.wt_turn.specs.Joined.{send_of}
+use Rattle.wt_turn.specs.Reports.{end_of, is_connected, is_running, stop_of, unis_allowed}
+use Rattle.wt_turn.specs.Streams.{local_count, local_uni}
 use Rattle.wt_turn.specs.declared.action.Action.{Action}
 use Rattle.wt_turn.specs.declared.answer.Answer.{Answer}
 use Rattle.wt_turn.specs.declared.call.Call.{Call}

@@ -13,10 +13,10 @@ use Rattle.wt_meaning.specs.Sends.{is_of_session}
 use Rattle.wt_meaning.specs.Windows.{gone_in, is_established, is_gone, is_number, last_request, makes_gone, receives}
 use Rattle.wt_promise.specs.Owed.{as_called, begun_in, begun_last, control_bytes, handshake_stream, head_of, header_on, owed_by_turn}
 use Rattle.wt_proto.specs.ResponseWalk.{response_walk_of}
-use Rattle.wt_seam_spec.specs.Joined.{join_all}
-use Rattle.wt_seam_spec.specs.Reports.{bis_allowed, credit, end_of, is_connected, is_running}
-use Rattle.wt_seam_spec.specs.Sent.{finishes}
-use Rattle.wt_seam_spec.specs.Streams.{local_count, local_uni}
+use Rattle.wt_turn.specs.Joined.{join_all}
+use Rattle.wt_turn.specs.Reports.{bis_allowed, credit, end_of, is_connected, is_running}
+use Rattle.wt_turn.specs.Sent.{finishes}
+use Rattle.wt_turn.specs.Streams.{local_count, local_uni}
 use Rattle.wt_turn.specs.declared.action.Action.TheVariants as actions
 use Rattle.wt_turn.specs.declared.action.Action.{Action}
 use Rattle.wt_turn.specs.declared.answer.Answer.{Answer}

@@ -10,7 +10,7 @@ use Rattle.wt_message.specs.Datagram.{datagram_of}
 use Rattle.wt_meaning.specs.Lawful.{is_lawful, is_pending}
 use Rattle.wt_promise.specs.Found.{least_control, peer_opened, said_by}
 use Rattle.wt_promise.specs.Promise.{acts_on}
-use Rattle.wt_seam_spec.specs.Reports.{datagrams_of}
+use Rattle.wt_turn.specs.Reports.{datagrams_of}
 use Rattle.wt_turn.specs.declared.action.Action.{Action}
 use Rattle.wt_turn.specs.declared.answer.Answer.{Answer}
 use Rattle.wt_turn.specs.declared.call.Call.{Call}

@@ -3,8 +3,8 @@
 ghost use Rattle.wt_meaning.specs.Findings.{Finding, verdict_of};
 ghost use Rattle.wt_meaning.specs.Moments.{findings, ids_from};
 ghost use Rattle.wt_message.specs.Datagram.{datagram_of};
-ghost use Rattle.wt_seam_spec.specs.Reports.{datagrams_of};
-ghost use Rattle.wt_seam_spec.specs.Streams.{peer_bi, peer_count, peer_uni};
+ghost use Rattle.wt_turn.specs.Reports.{datagrams_of};
+ghost use Rattle.wt_turn.specs.Streams.{peer_bi, peer_count, peer_uni};
 ghost use Rattle.wt_proto.specs.declared.verdict.Verdict.{Verdict};
 ghost use Rattle.std.specs.Prelude.{◌≡◌, ◌∷◌, true, List, Some, filter_map, length, map, take, ℕ, ◌++◌};
 ghost use Rattle.wt_meaning.specs.History.{History, Pair, is_open, events};

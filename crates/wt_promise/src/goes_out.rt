@@ -1,7 +1,7 @@
 //! What goes out with each answer.
 #![tactic(auto)]
 
-ghost use Rattle.wt_seam_spec.specs.Joined.{join_all};
+ghost use Rattle.wt_turn.specs.Joined.{join_all};
 ghost use Rattle.wt_promise.specs.Owed.{owed_by_moment, owed_by_turn};
 ghost use Rattle.std.specs.Prelude.{◌≡◌, false, true, ℕ, [], ◌++◌};
 ghost use Rattle.wt_meaning.specs.History.{History};

@@ -22,7 +22,7 @@ ghost use Rattle.wt_meaning.specs.Windows.{admitted_datagram, is_established, re
 ghost use Rattle.wt_promise.specs.Causes.{body, is_over, pieces, session_answer};
 ghost use Rattle.wt_promise.specs.Owed.{living, owed_by_turn, told};
 ghost use Rattle.wt_promise.specs.Promise.{AllLawful, CutsFreely, EstablishedFor, GoneIsTold, HeadGoesOut, IsHistory, NoneBehind, SendsInOrder, SettingsOut, acts_on, leaves_open, payloads};
-ghost use Rattle.wt_seam_spec.specs.Reports.{unis_allowed};
+ghost use Rattle.wt_turn.specs.Reports.{unis_allowed};
 ghost use Rattle.wt_turn.specs.Log.{closes};
 ghost use Rattle.wt_turn.specs.declared.turn.Turn.{Turn};
 ghost use Rattle.wt_wire.specs.declared.side.Side.{Side};

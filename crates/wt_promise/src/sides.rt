@@ -15,9 +15,9 @@ ghost use Rattle.wt_promise.specs.Promise.{IsHistory, NoneBehind, acts_on, paylo
 ghost use Rattle.wt_promise.specs.Sides.{RequestGiven, SessionGiven, StillWaits, StreamGiven, arrived, brings_streams, is_about, opened_before, opened_first, opens_of};
 ghost use Rattle.wt_proto.specs.Uni.{is_final};
 ghost use Rattle.wt_proto.specs.declared.session_walk.SessionWalk.TheVariants as walks;
-ghost use Rattle.wt_seam_spec.specs.Reports.{end_of};
-ghost use Rattle.wt_seam_spec.specs.Sent.{finishes};
-ghost use Rattle.wt_seam_spec.specs.Streams.{local_bi, local_count, local_uni, peer_bi, peer_uni};
+ghost use Rattle.wt_turn.specs.Reports.{end_of};
+ghost use Rattle.wt_turn.specs.Sent.{finishes};
+ghost use Rattle.wt_turn.specs.Streams.{local_bi, local_count, local_uni, peer_bi, peer_uni};
 ghost use Rattle.wt_turn.specs.Turns.{is_call};
 ghost use Rattle.wt_turn.specs.declared.action.Action.TheVariants as actions;
 ghost use Rattle.wt_turn.specs.declared.action.Action.{Action};

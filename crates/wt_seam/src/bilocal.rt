@@ -1,7 +1,7 @@
 //! Bidirectional streams of this end.
 ghost use Rattle.std.specs.Prelude.{◌≡◌, ◌↔◌, ◌%◌, IfOk, IsTrue, OnErr, OnOk, false, true};
 ghost use Rattle.wt_proto.specs.WalkProgress.{at_item};
-ghost use Rattle.wt_seam_spec.specs.Streams.{local_bi};
+ghost use Rattle.wt_turn.specs.Streams.{local_bi};
 ghost use Rattle.wt_transport.specs.Rules.{after_write, sending_half_now};
 ghost use Rattle.wt_transport.specs.Step.{after_opening, opened_id_now};
 ghost use Rattle.wt_seam.specs.declared.next_frame.FrameSource.TheVariants as sources;

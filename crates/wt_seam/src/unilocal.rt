@@ -3,7 +3,7 @@ ghost use Rattle.std.specs.Prelude.{◌≡◌, ◌↔◌, IfOk, IsTrue, OnErr, O
 ghost use Rattle.wt_proto.specs.StreamHeader.{header_bytes, header_kind};
 ghost use Rattle.wt_proto.specs.declared.stream_header.StreamKind.TheVariants as kinds;
 ghost use Rattle.wt_wire.specs.FrameBytes.{frame_bytes};
-ghost use Rattle.wt_seam_spec.specs.Streams.{local_uni};
+ghost use Rattle.wt_turn.specs.Streams.{local_uni};
 ghost use Rattle.wt_transport.specs.HalfRules.{stopped_answer};
 ghost use Rattle.wt_transport.specs.Rules.{after_write, sending_half_now};
 ghost use Rattle.wt_transport.specs.Step.{after_opening, can_send_now, opened_id_now};

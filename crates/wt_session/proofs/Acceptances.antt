@@ -18,10 +18,10 @@ use Rattle.wt_session.proofs.Middle.{calls-stay, open-stays, sent-more, table-st
 use Rattle.wt_session.proofs.Sessions.{Rests, later-within}
 use Rattle.wt_session.specs.Handshakes.{HasAcceptance, IsBegun, Response}
 use Rattle.wt_session.specs.Replies.{accepting_reply}
-use Rattle.wt_seam_spec.specs.Joined.{send_of}
-use Rattle.wt_seam_spec.specs.Outgoing.{bytes_within_credit, credit_left, if_open}
-use Rattle.wt_seam_spec.specs.Reports.{stop_of}
-use Rattle.wt_seam_spec.specs.Sent.{is_finished, sent_on}
+use Rattle.wt_turn.specs.Joined.{send_of}
+use Rattle.wt_turn.specs.Outgoing.{bytes_within_credit, credit_left, if_open}
+use Rattle.wt_turn.specs.Reports.{stop_of}
+use Rattle.wt_turn.specs.Sent.{is_finished, sent_on}
 use Rattle.wt_sessions.specs.Answers.{call_effect}
 use Rattle.wt_sessions.specs.Driver.{accepts_stream, call_view, delivers, ends_session, members_of, receives, sessions_of, stream_table}
 use Rattle.wt_sessions.specs.Effect.{Effect, close_when_open, head_left, is_covered, log_call, reply_with, transport_error}

@@ -16,10 +16,10 @@ use Rattle.wt_session.specs.Replies.{connecting_reply}
 use Rattle.wt_proto.specs.ResponseWalk.{response_walk_of}
 use Rattle.wt_proto.specs.declared.response_walk.ResponseWalk.{ResponseWalk}
 use Rattle.wt_proto.specs.declared.response_walk.ResponseWalk.TheVariants as responses
-use Rattle.wt_seam_spec.specs.Joined.{send_of}
-use Rattle.wt_seam_spec.specs.Outgoing.{bytes_within_credit, credit_left}
-use Rattle.wt_seam_spec.specs.Reports.{end_of, stop_of}
-use Rattle.wt_seam_spec.specs.Streams.{contents, local_bi, local_count}
+use Rattle.wt_turn.specs.Joined.{send_of}
+use Rattle.wt_turn.specs.Outgoing.{bytes_within_credit, credit_left}
+use Rattle.wt_turn.specs.Reports.{end_of, stop_of}
+use Rattle.wt_turn.specs.Streams.{contents, local_bi, local_count}
 use Rattle.wt_sessions.specs.Driver.{sessions_of}
 use Rattle.wt_sessions.specs.Effect.{Effect, driver_error, head_left, is_covered, log_call, poll_sending}
 use Rattle.wt_sessions.specs.Handshake.{abandon, await_response, establish, fail_connect, handshake_state, has_success, loss_to_connect, read_response, send_request}

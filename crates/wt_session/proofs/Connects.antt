@@ -15,10 +15,10 @@ use Rattle.wt_session.specs.Connects.{MayRespond, establish_if_open}
 use Rattle.wt_proto.specs.ResponseWalk.{response_walk_of}
 use Rattle.wt_proto.specs.declared.response_walk.ResponseWalk.{ResponseWalk}
 use Rattle.wt_proto.specs.declared.response_walk.ResponseWalk.TheVariants as responses
-use Rattle.wt_seam_spec.specs.Joined.{send_of}
-use Rattle.wt_seam_spec.specs.Outgoing.{bytes_within_credit, credit_left, if_open}
-use Rattle.wt_seam_spec.specs.Reports.{end_of, stop_of}
-use Rattle.wt_seam_spec.specs.Streams.{contents}
+use Rattle.wt_turn.specs.Joined.{send_of}
+use Rattle.wt_turn.specs.Outgoing.{bytes_within_credit, credit_left, if_open}
+use Rattle.wt_turn.specs.Reports.{end_of, stop_of}
+use Rattle.wt_turn.specs.Streams.{contents}
 use Rattle.wt_sessions.specs.Driver.{stream_table}
 use Rattle.wt_sessions.specs.Effect.{Effect, close_when_open, driver_error, is_covered, poll_only, poll_sending}
 use Rattle.wt_sessions.specs.Handshake.{abandon, await_or_fail, await_response, establish, fail_connect, has_success, loss_to_connect, read_response, send_request}

@@ -21,9 +21,9 @@ use Rattle.wt_seam.specs.declared.stream.Session.{Session}
 use Rattle.wt_session.specs.Connects.{AsksAs, ConnectsOn, IsAsking, OpenedGoesOn, StillAsks, connect_effect, new_asked}
 use Rattle.wt_session.specs.Handshakes.{Asked, Asking, Connect, Dialled, HasConnect, IsConnecting, Reserved}
 use Rattle.wt_session.specs.Replies.{connecting_reply}
-use Rattle.wt_seam_spec.specs.Outgoing.{actions_to_open, may_open, next_id}
-use Rattle.wt_seam_spec.specs.Reports.{is_connected}
-use Rattle.wt_seam_spec.specs.Streams.{can_send, local_bi, local_count, peer_count, stream_count}
+use Rattle.wt_turn.specs.Outgoing.{actions_to_open, may_open, next_id}
+use Rattle.wt_turn.specs.Reports.{is_connected}
+use Rattle.wt_turn.specs.Streams.{can_send, local_bi, local_count, peer_count, stream_count}
 use Rattle.wt_sessions.specs.Answers.{call_effect}
 use Rattle.wt_sessions.specs.Driver.{settings_came, stream_table}
 use Rattle.wt_sessions.specs.Effect.{Effect, driver_error, error_of_fault, head_left, poll_only, transport_error}

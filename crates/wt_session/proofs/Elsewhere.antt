@@ -9,7 +9,7 @@ use Rattle.wt_follows.proofs.Lists.{refuted}
 use Rattle.wt_meaning.specs.Lawful.{is_client}
 use Rattle.wt_session.proofs.Acceptances.{view-of}
 use Rattle.wt_session.proofs.Middle.{calls-stay}
-use Rattle.wt_seam_spec.specs.Streams.{local_bi, local_uni}
+use Rattle.wt_turn.specs.Streams.{local_bi, local_uni}
 use Rattle.wt_sessions.specs.Driver.{is_living, is_session_gone}
 use Rattle.wt_sessions.specs.StreamTable.{was_established}
 use Rattle.wt_turn.specs.Log.{CallRecord, Log, with_actions}

@@ -7,10 +7,10 @@ use Rattle.std.specs.Prelude.{[], ◌&&◌, ◌++◌, ◌+◌, ◌∷◌, ◌||�
 use Rattle.wt_driver_laws.specs.Handing.{write_actions, write_answer, write_leaves}
 use Rattle.wt_meaning.specs.Handshakes.{is_nothing}
 use Rattle.wt_session.specs.Handshakes.{is_all_out}
-use Rattle.wt_seam_spec.specs.Joined.{send_of}
-use Rattle.wt_seam_spec.specs.Outgoing.{bytes_within_credit}
-use Rattle.wt_seam_spec.specs.Reports.{stop_of}
-use Rattle.wt_seam_spec.specs.Sent.{is_finished, sent_on}
+use Rattle.wt_turn.specs.Joined.{send_of}
+use Rattle.wt_turn.specs.Outgoing.{bytes_within_credit}
+use Rattle.wt_turn.specs.Reports.{stop_of}
+use Rattle.wt_turn.specs.Sent.{is_finished, sent_on}
 use Rattle.wt_sessions.specs.Effect.{head_left, is_covered}
 use Rattle.wt_turn.specs.Log.{Log, actions_of, events_of, is_open, with_actions}
 use Rattle.wt_turn.specs.declared.action.Action.TheVariants as actions

@@ -2,9 +2,9 @@
 use Rattle.std.proofs.Common.{refl}
 use Rattle.std.specs.Prelude.{[], ◌&&◌, ◌++◌, ◌∷◌, ◌≡◌, Bool, List, false, if◌then◌else◌, is_some, not, true, ℕ}
 use Rattle.wt_driver_laws.specs.Handing.{MayWrite, write_actions}
-use Rattle.wt_seam_spec.specs.Joined.{send_of}
-use Rattle.wt_seam_spec.specs.Outgoing.{bytes_within_credit}
-use Rattle.wt_seam_spec.specs.Reports.{stop_of}
+use Rattle.wt_turn.specs.Joined.{send_of}
+use Rattle.wt_turn.specs.Outgoing.{bytes_within_credit}
+use Rattle.wt_turn.specs.Reports.{stop_of}
 use Rattle.wt_sessions.specs.Driver.{stream_table}
 use Rattle.wt_turn.specs.Log.{Log, Sent, all_events_of, calls_of, events_of, is_open, with_actions}
 use Rattle.wt_turn.specs.declared.action.Action.{Action}

@@ -17,11 +17,11 @@ use Rattle.wt_session.proofs.Heads.{all-sent, finished-after, left-after, some-l
 use Rattle.wt_session.proofs.Middle.{calls-stay, sent-more}
 use Rattle.wt_session.proofs.Sessions.{Rests, later-within, within}
 use Rattle.wt_session.specs.Handshakes.{HasRejection, IsNewRejection, IsRejecting, Rejection, is_all_out, rejected_actions}
-use Rattle.wt_seam_spec.specs.Joined.{send_of}
-use Rattle.wt_seam_spec.specs.Outgoing.{bytes_within_credit, credit_left}
-use Rattle.wt_seam_spec.specs.Reports.{is_acknowledged, stop_of}
-use Rattle.wt_seam_spec.specs.Sent.{is_finished, is_reset}
-use Rattle.wt_seam_spec.specs.Streams.{can_send}
+use Rattle.wt_turn.specs.Joined.{send_of}
+use Rattle.wt_turn.specs.Outgoing.{bytes_within_credit, credit_left}
+use Rattle.wt_turn.specs.Reports.{is_acknowledged, stop_of}
+use Rattle.wt_turn.specs.Sent.{is_finished, is_reset}
+use Rattle.wt_turn.specs.Streams.{can_send}
 use Rattle.wt_sessions.specs.Answers.{call_effect}
 use Rattle.wt_sessions.specs.Driver.{ending_actions, has_no_session}
 use Rattle.wt_sessions.specs.Effect.{Effect, head_left, is_covered, log_call, reply_with}

@@ -12,9 +12,9 @@ use Rattle.wt_driver_laws.specs.Having.{HasSession, OpeningStream}
 use Rattle.wt_driver_laws.specs.Records.{is_unnoticed}
 use Rattle.wt_session.specs.Errors.{reported_error}
 use Rattle.wt_session.specs.Replies.{HasAny}
-use Rattle.wt_seam_spec.specs.Outgoing.{actions_to_open, if_open, may_open, next_id}
-use Rattle.wt_seam_spec.specs.Reports.{datagram_fact}
-use Rattle.wt_seam_spec.specs.Streams.{local_bi, local_uni, peer_bi, peer_uni}
+use Rattle.wt_turn.specs.Outgoing.{actions_to_open, if_open, may_open, next_id}
+use Rattle.wt_turn.specs.Reports.{datagram_fact}
+use Rattle.wt_turn.specs.Streams.{local_bi, local_uni, peer_bi, peer_uni}
 use Rattle.wt_sessions.specs.Answers.{call_effect, in_session, named_session}
 use Rattle.wt_sessions.specs.Connection.{accept_stream, close_connection, closed_reply, give_datagram, give_stream, open_stream, payload_limit, receive_datagram}
 use Rattle.wt_sessions.specs.Driver.{call_view, is_session_gone, stream_table}

@@ -14,7 +14,7 @@ use Rattle.wt_driver.specs.Opening.{OpensFor}
 use Rattle.wt_driver.specs.declared.driver.OpenSession.{OpenSession}
 use Rattle.wt_session.specs.Handshakes.{Asked, Asking, Connect, Dialled, HasConnect, IsConnecting, Reserved}
 use Rattle.wt_session.specs.Replies.{connecting_reply}
-use Rattle.wt_seam_spec.specs.Streams.{local_bi, local_count}
+use Rattle.wt_turn.specs.Streams.{local_bi, local_count}
 use Rattle.wt_sessions.specs.Answers.{call_effect}
 use Rattle.wt_sessions.specs.Driver.{call_view}
 use Rattle.wt_sessions.specs.Effect.{Effect, driver_error, head_left}

@@ -10,9 +10,9 @@ use Rattle.wt_driver_laws.specs.Handing.{BeginsSession, finish_actions, is_at_ha
 use Rattle.wt_driver_laws.specs.LogLaws.{RequestLaws}
 use Rattle.wt_driver_laws.specs.Records.{is_unnoticed}
 use Rattle.wt_session.specs.Replies.{Request, accepting_reply, rejecting_reply}
-use Rattle.wt_seam_spec.specs.Joined.{send_of}
-use Rattle.wt_seam_spec.specs.Sent.{is_finished}
-use Rattle.wt_seam_spec.specs.Streams.{local_bi, local_count}
+use Rattle.wt_turn.specs.Joined.{send_of}
+use Rattle.wt_turn.specs.Sent.{is_finished}
+use Rattle.wt_turn.specs.Streams.{local_bi, local_count}
 use Rattle.wt_sessions.specs.Effect.{head_left, log_call}
 use Rattle.wt_sessions.specs.Handshake.{Connecting, Requested, Responding, accept_response, handshake_state, queued_requests, reject_response, request_fields_of, requested_stream, response_head}
 use Rattle.wt_sessions.specs.StreamTable.{Classified}

@@ -5,7 +5,7 @@ ghost use Rattle.wt_driver_laws.specs.Driving.{Follows, pieces_of};
 ghost use Rattle.wt_driver_laws.specs.Handing.{IsAnswering, finish_actions, rejecting_actions};
 ghost use Rattle.wt_session.specs.Handshakes.{HasRejection, IsAtRest, IsRejecting, RejectionEnds, RejectionGoesOn, RejectionStays, is_all_out, new_rejection};
 ghost use Rattle.wt_session.specs.Replies.{rejecting_reply};
-ghost use Rattle.wt_seam_spec.specs.Streams.{can_send, local_uni};
+ghost use Rattle.wt_turn.specs.Streams.{can_send, local_uni};
 ghost use Rattle.wt_sessions.specs.Answers.{call_effect};
 ghost use Rattle.wt_sessions.specs.Driver.{is_living};
 ghost use Rattle.wt_sessions.specs.Handshake.{end_rejection};

@@ -9,13 +9,13 @@ use Rattle.wt_meaning.specs.Lawful.{is_client}
 use Rattle.wt_meaning.specs.Targets.{Target}
 use Rattle.wt_proto.specs.declared.response_walk.ResponseWalk.{ResponseWalk}
 use Rattle.wt_proto.specs.declared.verdict.Verdict.{Verdict}
-use Rattle.wt_seam_spec.specs.Joined.{send_of}
-use Rattle.wt_seam_spec.specs.Outgoing.{actions_to_open, bytes_within_credit, may_open, next_id}
+use Rattle.wt_turn.specs.Joined.{send_of}
+use Rattle.wt_turn.specs.Outgoing.{actions_to_open, bytes_within_credit, may_open, next_id}
 use Rattle.wt_message.specs.Datagram.{datagram_bytes}
 use Rattle.wt_proto.specs.ResponseWalk.{response_walk_of}
-use Rattle.wt_seam_spec.specs.Reports.{datagram_fact, end_of, is_acknowledged, is_connected, stop_of}
-use Rattle.wt_seam_spec.specs.Sent.{is_finished}
-use Rattle.wt_seam_spec.specs.Streams.{contents, local_bi, local_count, local_uni, stream_count}
+use Rattle.wt_turn.specs.Reports.{datagram_fact, end_of, is_acknowledged, is_connected, stop_of}
+use Rattle.wt_turn.specs.Sent.{is_finished}
+use Rattle.wt_turn.specs.Streams.{contents, local_bi, local_count, local_uni, stream_count}
 use Rattle.wt_sessions.proofs.Entries.{any-insert}
 use Rattle.wt_sessions.proofs.Indexed.{AllOf, all-filter, all-found, all-have-verdicts, log-indexed}
 use Rattle.wt_sessions.proofs.Turns.{Holds, MayCome, call-holds, classified-known, delivered-known, established-known, is_asked, is_dialling, own-known}

@@ -9,7 +9,7 @@ use Rattle.wt_sessions.proofs.Scans.{eqb-other, filter-filter, neither, not-eith
 use Rattle.wt_sessions.specs.DriverState.{DriverState, state_by, state_of}
 use Rattle.wt_sessions.specs.Step.{after_entry, forget, with_member_now}
 use Rattle.wt_sessions.specs.Driver.{with_session, call_view, control_sent, stream_table, transport_view, with_member}
-use Rattle.wt_seam_spec.specs.Reports.{if_same}
+use Rattle.wt_turn.specs.Reports.{if_same}
 use Rattle.wt_sessions.specs.StreamTable.{Admitted, CallView, Classified, Session, StreamTable, Waiting, dispatched_streams, is_closed, is_gone, is_queued, is_session, is_turned_away, queued_id, waits_by, waits_in, with_id}
 use Rattle.wt_proto.specs.declared.verdict.Verdict.{Verdict}
 use Rattle.wt_proto.specs.declared.verdict.Verdict.TheVariants as verdicts

@@ -11,7 +11,7 @@ use Rattle.wt_proto.specs.Uni.{uni_verdict_of}
 use Rattle.wt_wire.specs.declared.side.StreamEnd.TheVariants.{Running}
 use Rattle.wt_proto.specs.declared.session_walk.SessionWalk.{SessionWalk}
 use Rattle.wt_proto.specs.declared.verdict.Verdict.{Verdict}
-use Rattle.wt_seam_spec.specs.Streams.{local_uni, peer_bi, peer_uni}
+use Rattle.wt_turn.specs.Streams.{local_uni, peer_bi, peer_uni}
 use Rattle.wt_sessions.proofs.Moment.{MayWork, Sound, miss-filter, scan-datagrams, scan-keeps}
 use Rattle.wt_sessions.proofs.Scans.{IsFresh, classified-here, is_in, more, other-verdict, scan-same, still-fresh}
 use Rattle.wt_sessions.proofs.Steps.{AreDistinct, gone-apart, is_among}

@@ -8,7 +8,7 @@ use Rattle.wt_proto.specs.Bi.{bi_verdict_of}
 use Rattle.wt_proto.specs.Uni.{uni_verdict_of}
 use Rattle.wt_proto.specs.declared.session_walk.SessionWalk.{SessionWalk}
 use Rattle.wt_proto.specs.declared.verdict.Verdict.{Verdict}
-use Rattle.wt_seam_spec.specs.Streams.{local_uni}
+use Rattle.wt_turn.specs.Streams.{local_uni}
 use Rattle.wt_sessions.specs.Driver.{apply_if, call_view, is_moment, stream_table, transport_view}
 use Rattle.wt_sessions.specs.Scan.{admit_datagram, bi_ids, check_control, check_each, check_living, check_qpack, classify, critical_if, in_order, is_admitted, is_unclassified, on_progress, places_after, scan, scan_kind, scan_order, session_walked, steps, take_datagrams, take_each, take_parsed, uni_ids, unless_ended, with_fault, with_no_actions}
 use Rattle.wt_sessions.specs.StreamTable.{Admitted, CallView, Classified, DriverProgress, Session, StreamTable, TransportView, consequence, control_start, decoder_start, dispatched_streams, encoder_start, first_at, is_gone, verdict_of}

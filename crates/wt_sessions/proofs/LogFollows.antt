@@ -4,8 +4,8 @@ use Rattle.std.specs.Prelude.{None, ◌==◌, ◌||◌, ◌&&◌, not}
 use Rattle.std.specs.List.{list_any}
 use Rattle.std.proofs.lemmas.Bool.{eqb-true, false_from_ne_true}
 use Rattle.wt_meaning.specs.Moments.{ids_from}
-use Rattle.wt_seam_spec.specs.Sent.{sent_on, with_sent_piece}
-use Rattle.wt_seam_spec.specs.Streams.{local_count, local_uni, one_more_if, opens, peer_bi, peer_count, peer_opens, peer_uni}
+use Rattle.wt_turn.specs.Sent.{sent_on, with_sent_piece}
+use Rattle.wt_turn.specs.Streams.{local_count, local_uni, one_more_if, opens, peer_bi, peer_count, peer_opens, peer_uni}
 use Rattle.wt_sessions.proofs.Entries.{AreSorted, accepted-follows, any-insert, delivered-follows, distinct-insert, ended-follows, established-follows, opening-follows, received-follows, sorted-insert}
 use Rattle.wt_sessions.proofs.Following.{Kept, moment-kept, moment-works}
 use Rattle.wt_sessions.proofs.Moment.{scan-state}

@@ -6,7 +6,7 @@ use Rattle.wt_proto.specs.Bi.{bi_verdict_of}
 use Rattle.wt_proto.specs.Uni.{uni_verdict_of}
 use Rattle.wt_proto.specs.declared.verdict.Verdict.{Verdict}
 use Rattle.wt_proto.specs.declared.verdict.Verdict.TheVariants as verdicts
-use Rattle.wt_seam_spec.specs.Streams.{local_uni}
+use Rattle.wt_turn.specs.Streams.{local_uni}
 use Rattle.wt_sessions.proofs.Scans.{AllFresh, IsFresh, filter-filter, is_in, led, left_by, more, scan-follows, scan-same, still-fresh}
 use Rattle.wt_sessions.proofs.Steps.{AreDistinct, AreUnreceived, check-follows, kept_of, take-follows}
 use Rattle.wt_sessions.specs.DriverState.{DriverState}

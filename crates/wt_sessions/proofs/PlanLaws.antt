@@ -1,7 +1,7 @@
 -- The plans of the calls on a session, performed, are what these calls do.
 use Rattle.std.specs.Prelude.{◌++◌, ◌≡◌, Bool, None, Option, Some, false, true, ℕ}
 use Rattle.std.proofs.Common.{refl}
-use Rattle.wt_seam_spec.specs.Outgoing.{may_open}
+use Rattle.wt_turn.specs.Outgoing.{may_open}
 use Rattle.wt_sessions.specs.Connection.{accept_stream, end_session, give_datagram, give_stream, next_datagram, next_stream, open_stream, receive_datagram}
 use Rattle.wt_sessions.specs.Answers.{in_session, named_session, on_session}
 use Rattle.wt_sessions.specs.Driver.{ending_actions, is_session_gone}

@@ -3,7 +3,7 @@ use Rattle.std.proofs.Common.{arith, ◌≡◌, ◌≢◌, ◌<◌, ◌≤◌, �
 use Rattle.std.specs.Prelude.{◌==◌, ◌||◌}
 use Rattle.std.proofs.lemmas.Bool.{eq-eqb, eqb-true, or_from, or_parts, false_from_ne_true}
 use Rattle.wt_meaning.specs.Moments.{ids_from}
-use Rattle.wt_seam_spec.specs.Streams.{peer_bi, peer_uni}
+use Rattle.wt_turn.specs.Streams.{peer_bi, peer_uni}
 use Rattle.wt_sessions.proofs.Moment.{AllMiss}
 use Rattle.wt_sessions.proofs.Scans.{is_in}
 use Rattle.wt_sessions.specs.Moment.{is_peers}

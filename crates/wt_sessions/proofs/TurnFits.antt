@@ -6,11 +6,11 @@ use Rattle.url.specs.Parser.{parse_url}
 use Rattle.wt_meaning.specs.Lawful.{is_client}
 use Rattle.wt_meaning.specs.Targets.{target_of}
 use Rattle.wt_message.specs.FixedBytes.{response_bytes}
-use Rattle.wt_seam_spec.specs.Arrivals.{event_entry, log_event}
-use Rattle.wt_seam_spec.specs.Joined.{send_of}
-use Rattle.wt_seam_spec.specs.Outgoing.{bytes_within_credit, if_open}
-use Rattle.wt_seam_spec.specs.Reports.{datagram_fact, end_of}
-use Rattle.wt_seam_spec.specs.Streams.{local_bi, local_uni, peer_bi, peer_uni}
+use Rattle.wt_turn.specs.Arrivals.{event_entry, log_event}
+use Rattle.wt_turn.specs.Joined.{send_of}
+use Rattle.wt_turn.specs.Outgoing.{bytes_within_credit, if_open}
+use Rattle.wt_turn.specs.Reports.{datagram_fact, end_of}
+use Rattle.wt_turn.specs.Streams.{local_bi, local_uni, peer_bi, peer_uni}
 use Rattle.wt_sessions.proofs.CallFits.{Leads, accept-leads, continue-leads, dial-leads, does, either, end-leads, incoming-leads, not-true, open-leads, poll-leads, polls, receive-leads, respond-leads, send-leads, session-leads}
 use Rattle.wt_sessions.proofs.Turns.{Holds, entry-holds, flush-holds, is_asked, start-holds}
 use Rattle.wt_sessions.specs.Claims.{AllLawful}

@@ -3,10 +3,10 @@
 use Rattle.std.specs.Prelude.{[], ◌&&◌, ◌-◌, ◌∷◌, Bool, List, None, Option, Some, codes, false, if◌then◌else◌, length, not, take, true, ℕ}
 use Rattle.wt_meaning.specs.Lawful.{is_client}
 use Rattle.wt_message.specs.FixedBytes.{response_bytes}
-use Rattle.wt_seam_spec.specs.Arrivals.{fits, log_turn}
-use Rattle.wt_seam_spec.specs.Joined.{joined_actions}
-use Rattle.wt_seam_spec.specs.Reports.{datagram_fact}
-use Rattle.wt_seam_spec.specs.Streams.{local_bi, local_uni, peer_bi, peer_uni}
+use Rattle.wt_turn.specs.Arrivals.{fits, log_turn}
+use Rattle.wt_turn.specs.Joined.{joined_actions}
+use Rattle.wt_turn.specs.Reports.{datagram_fact}
+use Rattle.wt_turn.specs.Streams.{local_bi, local_uni, peer_bi, peer_uni}
 use Rattle.wt_turn.specs.Log.{Log, Received, actions_of, calls_of, events_of, is_open}
 use Rattle.wt_turn.specs.declared.action.Action.{Action}
 use Rattle.wt_turn.specs.declared.answer.Answer.{Answer}

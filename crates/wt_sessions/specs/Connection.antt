@@ -4,9 +4,9 @@ use Rattle.std.specs.Prelude.{[], ◌%◌, ◌&&◌, ◌++◌, ◌-◌, ◌/◌,
 use Rattle.std.specs.List.{list_any}
 use Rattle.wt_meaning.specs.Sends.{action_if}
 use Rattle.wt_message.specs.Datagram.{datagram_bytes}
-use Rattle.wt_seam_spec.specs.Joined.{send_of}
-use Rattle.wt_seam_spec.specs.Outgoing.{actions_to_open, bytes_within_credit, if_open, may_open, next_id}
-use Rattle.wt_seam_spec.specs.Reports.{datagram_fact, if_same, stop_of}
+use Rattle.wt_turn.specs.Joined.{send_of}
+use Rattle.wt_turn.specs.Outgoing.{actions_to_open, bytes_within_credit, if_open, may_open, next_id}
+use Rattle.wt_turn.specs.Reports.{datagram_fact, if_same, stop_of}
 use Rattle.wt_turn.specs.Log.{CallRecord, DatagramReceived, Log, OpeningFailed, OpeningStarted, RequestRejected, StreamAccepted, calls_of, events_of, is_open, newest}
 use Rattle.wt_turn.specs.declared.action.Action.{Action}
 use Rattle.wt_turn.specs.declared.datagram_fact.DatagramFact.{DatagramFact}

@@ -1,9 +1,9 @@
 -- What a turn leads to, and how an ended connection is reported.
 use Rattle.std.specs.Prelude.{[], ◌&&◌, Bool, List, None, Option, Some, drop, false, find, if◌then◌else◌, length, true, ℕ}
 use Rattle.wt_meaning.specs.Handshakes.{is_nothing, loss_error}
-use Rattle.wt_seam_spec.specs.Outgoing.{bytes_within_credit, if_open}
-use Rattle.wt_seam_spec.specs.Reports.{loss_of}
-use Rattle.wt_seam_spec.specs.Sent.{sent_on}
+use Rattle.wt_turn.specs.Outgoing.{bytes_within_credit, if_open}
+use Rattle.wt_turn.specs.Reports.{loss_of}
+use Rattle.wt_turn.specs.Sent.{sent_on}
 use Rattle.wt_turn.specs.Log.{CallRecord, Called, Log, Polled, actions_of, events_of, is_open, with_actions}
 use Rattle.wt_turn.specs.declared.action.Action.{Action}
 use Rattle.wt_turn.specs.declared.connection_error.ConnectionError.{ConnectionError}

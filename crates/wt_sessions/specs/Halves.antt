@@ -2,11 +2,11 @@
 use Rattle.std.specs.Prelude.{[], ◌%◌, ◌&&◌, ◌+◌, ◌==◌, ◌||◌, ◌∷◌, Bool, List, None, Option, Some, drop, false, if◌then◌else◌, is_some, length, nat_lt, not, suc, take, true, zero, ℕ, ℤ}
 use Rattle.std.specs.List.{list_any}
 use Rattle.wt_meaning.specs.Halves.{body_start}
-use Rattle.wt_seam_spec.specs.Joined.{send_of}
-use Rattle.wt_seam_spec.specs.Outgoing.{bytes_within_credit, if_open}
-use Rattle.wt_seam_spec.specs.Reports.{end_of, is_acknowledged, stop_of}
-use Rattle.wt_seam_spec.specs.Sent.{is_finished, is_reset, priority_of}
-use Rattle.wt_seam_spec.specs.Streams.{contents, local_uni, peer_uni}
+use Rattle.wt_turn.specs.Joined.{send_of}
+use Rattle.wt_turn.specs.Outgoing.{bytes_within_credit, if_open}
+use Rattle.wt_turn.specs.Reports.{end_of, is_acknowledged, stop_of}
+use Rattle.wt_turn.specs.Sent.{is_finished, is_reset, priority_of}
+use Rattle.wt_turn.specs.Streams.{contents, local_uni, peer_uni}
 use Rattle.wt_turn.specs.Log.{BytesRead, CallRecord, Log, PrioritySet, ResetUnsent, StreamGivenUp, actions_of, calls_of, events_of, is_open}
 use Rattle.wt_turn.specs.declared.action.Action.{Action}
 use Rattle.wt_turn.specs.declared.reply.Reply.{Reply}

@@ -7,11 +7,11 @@ use Rattle.wt_proto.specs.ResponseWalk.{response_walk_of}
 use Rattle.wt_message.specs.Responses.{status_of}
 use Rattle.wt_proto.specs.declared.response_walk.ResponseWalk.{ResponseWalk}
 use Rattle.wt_proto.specs.declared.verdict.Verdict.{Verdict}
-use Rattle.wt_seam_spec.specs.Joined.{send_of}
-use Rattle.wt_seam_spec.specs.Outgoing.{bytes_within_credit, may_open, actions_to_open}
-use Rattle.wt_seam_spec.specs.Reports.{end_of, is_acknowledged, is_connected, stop_of}
-use Rattle.wt_seam_spec.specs.Sent.{is_finished}
-use Rattle.wt_seam_spec.specs.Streams.{contents, local_bi, local_count}
+use Rattle.wt_turn.specs.Joined.{send_of}
+use Rattle.wt_turn.specs.Outgoing.{bytes_within_credit, may_open, actions_to_open}
+use Rattle.wt_turn.specs.Reports.{end_of, is_acknowledged, is_connected, stop_of}
+use Rattle.wt_turn.specs.Sent.{is_finished}
+use Rattle.wt_turn.specs.Streams.{contents, local_bi, local_count}
 use Rattle.wt_turn.specs.Log.{AcceptanceFailed, CallRecord, ConnectStarted, HandshakeOver, Log, Polled, RequestDelivered, RequestRejected, ResponseStarted, SessionEstablished, actions_of, calls_of, events_of, is_open}
 use Rattle.wt_turn.specs.declared.action.Action.{Action}
 use Rattle.wt_turn.specs.declared.connecting_error.ConnectingError.{ConnectingError}

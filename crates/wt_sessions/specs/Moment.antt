@@ -1,6 +1,6 @@
 -- Which entries may follow a log, as far as a driver is concerned; and one moment on what is kept, with what goes out.
 use Rattle.std.specs.Prelude.{[], ◌%◌, ◌&&◌, ◌<◌, ◌==◌, ◌||◌, ◌∷◌, ◌≡◌, Bool, List, false, not, true, ℕ}
-use Rattle.wt_seam_spec.specs.Streams.{peer_bi, peer_uni}
+use Rattle.wt_turn.specs.Streams.{peer_bi, peer_uni}
 use Rattle.wt_sessions.specs.Driver.{apply_if, call_view, is_moment, stream_table}
 use Rattle.wt_sessions.specs.DriverState.{DriverState}
 use Rattle.wt_sessions.specs.Scan.{is_unclassified}

@@ -1,7 +1,7 @@
 -- What the calls on a session do, as data, by what they ask of the driver and of the transport. Only those are here whose
 -- plans differ once there are several sessions: accepts, receives, openings, the end of a session and that of a rejection.
 use Rattle.std.specs.Prelude.{[], ◌&&◌, ◌++◌, ◌∷◌, Bool, List, None, Option, Some, if◌then◌else◌, not, ℕ}
-use Rattle.wt_seam_spec.specs.Outgoing.{may_open, next_id}
+use Rattle.wt_turn.specs.Outgoing.{may_open, next_id}
 use Rattle.wt_sessions.specs.Answers.{named_session}
 use Rattle.wt_sessions.specs.Connection.{next_datagram, next_stream, session_end_actions}
 use Rattle.wt_sessions.specs.Driver.{ending_actions, has_no_session, is_living, is_session_gone}

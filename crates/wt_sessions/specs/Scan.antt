@@ -11,8 +11,8 @@ use Rattle.wt_proto.specs.Uni.{uni_verdict_of}
 use Rattle.wt_proto.specs.declared.control_walk.ControlWalk.{ControlWalk}
 use Rattle.wt_proto.specs.declared.session_walk.SessionWalk.{SessionWalk}
 use Rattle.wt_proto.specs.declared.verdict.Verdict.{Verdict}
-use Rattle.wt_seam_spec.specs.Reports.{is_running}
-use Rattle.wt_seam_spec.specs.Streams.{local_uni, peer_bi, peer_uni}
+use Rattle.wt_turn.specs.Reports.{is_running}
+use Rattle.wt_turn.specs.Streams.{local_uni, peer_bi, peer_uni}
 use Rattle.wt_turn.specs.declared.action.Action.{Action}
 use Rattle.wt_wire.specs.Codes.{code_of}
 use Rattle.wt_wire.specs.declared.error.ErrorCode.{ErrorCode}

@@ -7,7 +7,7 @@ use Rattle.wt_proto.specs.SessionWalk.{is_over, session_walk_of}
 use Rattle.wt_proto.specs.Uni.{uni_verdict_of}
 use Rattle.wt_proto.specs.declared.session_walk.SessionWalk.{SessionWalk}
 use Rattle.wt_proto.specs.declared.verdict.Verdict.{Verdict}
-use Rattle.wt_seam_spec.specs.Streams.{local_uni, opens, peer_bi, peer_uni}
+use Rattle.wt_turn.specs.Streams.{local_uni, opens, peer_bi, peer_uni}
 use Rattle.wt_sessions.specs.Driver.{ControlSent, actions_after, with_session}
 use Rattle.wt_sessions.specs.Scan.{check_control, check_qpack, critical_if, is_admitted, places_after, session_end, unless_ended, with_consequence, with_fault, with_looked_at, with_more, with_no_actions}
 use Rattle.wt_sessions.specs.StreamTable.{Admitted, Classified, Closed, Consequence, Dispatched, DriverProgress, Session, TransportView, Waiting, consequence, gone_actions, with_id}

@@ -7,10 +7,10 @@ use Rattle.wt_meaning.specs.History.{History, actions_out, events}
 use Rattle.wt_meaning.specs.Meaning.{completed, with_pair}
 use Rattle.wt_meaning.specs.Sends.{action_if, moment_actions}
 use Rattle.wt_meaning.specs.Sends as sends
-use Rattle.wt_seam_spec.specs.Joined.{join_all, newest_first, send_of}
-use Rattle.wt_seam_spec.specs.Reports.{credit, unis_allowed}
-use Rattle.wt_seam_spec.specs.Sent.{sent_on}
-use Rattle.wt_seam_spec.specs.Streams.{local_count, local_uni}
+use Rattle.wt_turn.specs.Joined.{join_all, newest_first, send_of}
+use Rattle.wt_turn.specs.Reports.{credit, unis_allowed}
+use Rattle.wt_turn.specs.Sent.{sent_on}
+use Rattle.wt_turn.specs.Streams.{local_count, local_uni}
 use Rattle.wt_sessions.specs.Answers.{actions_since}
 use Rattle.wt_sessions.specs.Driver.{apply_if, control_actions, control_sent, flush, pending_actions}
 use Rattle.wt_sessions.specs.Effect.{log_call}

@@ -16,9 +16,9 @@ use Rattle.wt_meaning.specs.Windows.{first_session, gone_in, is_established, is_
 use Rattle.wt_promise.proofs.Actions.{any-join_all}
 use Rattle.wt_promise.proofs.Owed.{has-left}
 use Rattle.wt_promise.specs.Promise.{IsHistory}
-use Rattle.wt_seam_spec.specs.Joined.{join_all, newest_first}
-use Rattle.wt_seam_spec.specs.Sent as sends
-use Rattle.wt_seam_spec.specs.Streams as streams
+use Rattle.wt_turn.specs.Joined.{join_all, newest_first}
+use Rattle.wt_turn.specs.Sent as sends
+use Rattle.wt_turn.specs.Streams as streams
 use Rattle.wt_sessions.specs.Answers as answers
 use Rattle.wt_sessions.specs.Driver.{accepts_stream, call_view, delivers, ends_session, gives_up, members_of, receives, sessions_of, stream_table}
 use Rattle.wt_sessions.specs.Driver as drivers

@@ -22,7 +22,7 @@ use Rattle.wt_promise.proofs.Stays.{exists-stays, named-stays}
 use Rattle.wt_promise.proofs.Tables.{OfRows, by-row, by-session, is_bi, is_uni, no-row}
 use Rattle.wt_promise.proofs.Verdicts.{ByAccept, ByOpening, HandedBy, admitted-peers, handed-by}
 use Rattle.wt_promise.specs.Promise.{IsHistory}
-use Rattle.wt_seam_spec.specs.Streams.{local_bi, local_uni}
+use Rattle.wt_turn.specs.Streams.{local_bi, local_uni}
 use Rattle.wt_sessions.specs.Connection.{ends_opening, opened_for, starts_opening}
 use Rattle.wt_sessions.specs.Driver.{accepts_stream}
 use Rattle.wt_sessions_agree.proofs.CallReplies.{gives_bytes, gives_exact, is_usual, suits, suits-own}

@@ -11,8 +11,8 @@ use Rattle.wt_meaning.specs.Targets.{Target, target_of}
 use Rattle.wt_meaning.specs.Windows.{named}
 use Rattle.wt_message.specs.Datagram.{datagram_bytes}
 use Rattle.wt_promise.proofs.Tables.{OfRows, Says, accepts-pass, by-row, by-session, by-value, connect-passes, is_bi, is_opening, is_ready_one, is_uni, no-row, rejects-pass}
-use Rattle.wt_seam_spec.specs.Reports.{datagram_fact, end_of, stop_of}
-use Rattle.wt_seam_spec.specs.Streams.{peer_bi, peer_uni}
+use Rattle.wt_turn.specs.Reports.{datagram_fact, end_of, stop_of}
+use Rattle.wt_turn.specs.Streams.{peer_bi, peer_uni}
 use Rattle.wt_turn.specs.declared.action.Action.{Action}
 use Rattle.wt_turn.specs.declared.call.Call.{Call}
 use Rattle.wt_turn.specs.declared.connecting_error.ConnectingError.{ConnectingError}

@@ -19,7 +19,7 @@ use Rattle.wt_promise.proofs.ResultKept.{APolled, AResponse, Rejecting, rejectin
 use Rattle.wt_promise.proofs.Sessions.{is_connect}
 use Rattle.wt_promise.proofs.Tables.{connect-passes, fits, fits-own, is_rejected}
 use Rattle.wt_promise.specs.Promise.{IsHistory}
-use Rattle.wt_seam_spec.specs.Sent.{priority_set}
+use Rattle.wt_turn.specs.Sent.{priority_set}
 use Rattle.wt_sessions.specs.Driver.{ends_session, gives_up}
 use Rattle.wt_sessions.specs.Halves.{bytes_read}
 use Rattle.wt_sessions_agree.proofs.CallReplies.{suits}

@@ -10,7 +10,7 @@ use Rattle.wt_meaning.specs.Sends.{moment_actions}
 use Rattle.wt_promise.proofs.Actions.{any-join_all}
 use Rattle.wt_promise.proofs.Grows.{peers-checked}
 use Rattle.wt_promise.proofs.OpenStays.{same-findings}
-use Rattle.wt_seam_spec.specs.Joined.{join_all, newest_first}
+use Rattle.wt_turn.specs.Joined.{join_all, newest_first}
 use Rattle.wt_sessions.specs.Answers.{call_effect, log_after}
 use Rattle.wt_sessions.specs.Answers as answers
 use Rattle.wt_sessions.specs.Driver.{call_view, is_moment, pending_actions, stream_table, transport_view}

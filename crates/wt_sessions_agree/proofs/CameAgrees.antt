@@ -5,10 +5,10 @@ use Rattle.wt_message.specs.FixedBytes.{local_control_bytes}
 use Rattle.wt_meaning.specs.History.{History, all_events, contents, events, is_open, with_bytes, with_event}
 use Rattle.wt_meaning.specs.Meaning.{with_pair}
 use Rattle.wt_meaning.specs.Moments.{is_ready}
-use Rattle.wt_seam_spec.specs.Arrivals.{event_entry}
-use Rattle.wt_seam_spec.specs.Reports.{credit}
-use Rattle.wt_seam_spec.specs.Streams.{local_uni}
-use Rattle.wt_seam_spec.specs.Streams as streams
+use Rattle.wt_turn.specs.Arrivals.{event_entry}
+use Rattle.wt_turn.specs.Reports.{credit}
+use Rattle.wt_turn.specs.Streams.{local_uni}
+use Rattle.wt_turn.specs.Streams as streams
 use Rattle.wt_sessions.specs.Answers.{log_after}
 use Rattle.wt_sessions.specs.Driver.{apply_if, flush, is_moment, log_and_flush, pending_actions, settings_ready}
 use Rattle.wt_sessions_agree.specs.Agrees.{Agrees}

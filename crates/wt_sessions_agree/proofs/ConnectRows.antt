@@ -11,11 +11,11 @@ use Rattle.wt_meaning.specs.Rows.{first_row}
 use Rattle.wt_meaning.specs.Targets.{Target}
 use Rattle.wt_proto.specs.ResponseWalk.{response_walk_of}
 use Rattle.wt_proto.specs.declared.response_walk.ResponseWalk.{ResponseWalk}
-use Rattle.wt_seam_spec.specs.Joined.{send_of}
-use Rattle.wt_seam_spec.specs.Outgoing as outgoing
-use Rattle.wt_seam_spec.specs.Reports.{end_of, is_connected, stop_of}
-use Rattle.wt_seam_spec.specs.Streams.{local_count, one_more_if, peer_count, peer_opens}
-use Rattle.wt_seam_spec.specs.Streams as streams
+use Rattle.wt_turn.specs.Joined.{send_of}
+use Rattle.wt_turn.specs.Outgoing as outgoing
+use Rattle.wt_turn.specs.Reports.{end_of, is_connected, stop_of}
+use Rattle.wt_turn.specs.Streams.{local_count, one_more_if, peer_count, peer_opens}
+use Rattle.wt_turn.specs.Streams as streams
 use Rattle.wt_sessions.specs.Driver as drivers
 use Rattle.wt_sessions.specs.Effect.{is_covered}
 use Rattle.wt_sessions.specs.Effect as effects

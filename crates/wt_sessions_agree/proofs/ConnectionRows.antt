@@ -10,11 +10,11 @@ use Rattle.wt_meaning.specs.Sends.{action_if, session_finish, session_gone_actio
 use Rattle.wt_meaning.specs.Windows.{named}
 use Rattle.wt_message.specs.Datagram.{datagram_bytes}
 use Rattle.wt_promise.proofs.Accepted.{and-left}
-use Rattle.wt_seam_spec.specs.Joined.{send_of}
-use Rattle.wt_seam_spec.specs.Outgoing as outgoing
-use Rattle.wt_seam_spec.specs.Reports.{datagram_fact}
-use Rattle.wt_seam_spec.specs.Streams.{local_uni}
-use Rattle.wt_seam_spec.specs.Streams as streams
+use Rattle.wt_turn.specs.Joined.{send_of}
+use Rattle.wt_turn.specs.Outgoing as outgoing
+use Rattle.wt_turn.specs.Reports.{datagram_fact}
+use Rattle.wt_turn.specs.Streams.{local_uni}
+use Rattle.wt_turn.specs.Streams as streams
 use Rattle.wt_sessions.specs.Answers as answers
 use Rattle.wt_sessions.specs.Connection.{next_datagram, next_stream, opening_session}
 use Rattle.wt_sessions.specs.Connection as ladders

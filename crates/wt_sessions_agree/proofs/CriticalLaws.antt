@@ -8,8 +8,8 @@ use Rattle.wt_meaning.specs.Moments.{Check, ControlFault, DecoderEnd, EncoderEnd
 use Rattle.wt_promise.proofs.Accepted.{or-true}
 use Rattle.wt_proto.specs.ControlWalk.{control_walk_of}
 use Rattle.wt_proto.specs.declared.control_walk.ControlWalk.{ControlWalk}
-use Rattle.wt_seam_spec.specs.Reports.{end_of, is_running, stop_of}
-use Rattle.wt_seam_spec.specs.Streams.{local_uni}
+use Rattle.wt_turn.specs.Reports.{end_of, is_running, stop_of}
+use Rattle.wt_turn.specs.Streams.{local_uni}
 use Rattle.wt_sessions.specs.Scan.{check_control, check_qpack, control_read, critical_if, in_order, on_progress, unless_ended, with_fault}
 use Rattle.wt_sessions.specs.StreamTable.{DriverProgress, StreamTable, TransportView, control_start, decoder_start, encoder_start, first_at}
 use Rattle.wt_sessions_agree.proofs.Appends.{any-append, drops, filter-drops, first-append}

@@ -5,8 +5,8 @@ use Rattle.std.proofs.Common.{◌∙◌, ap, refl, sym}
 use Rattle.wt_meaning.specs.Halves.{is_done}
 use Rattle.wt_meaning.specs.History.{History, Pair, actions_out, answers_reset, events, is_open, is_reset, is_reset_of, was_finished, with_event}
 use Rattle.wt_promise.proofs.Accepted.{or-true}
-use Rattle.wt_seam_spec.specs.Reports.{acknowledges, is_acknowledged}
-use Rattle.wt_seam_spec.specs.Sent as sends
+use Rattle.wt_turn.specs.Reports.{acknowledges, is_acknowledged}
+use Rattle.wt_turn.specs.Sent as sends
 use Rattle.wt_sessions_agree.proofs.OutLaws.{any-newest}
 use Rattle.wt_turn.specs.Log.{Event}
 use Rattle.wt_turn.specs.Turns.{event_of}

@@ -18,8 +18,8 @@ use Rattle.wt_promise.proofs.Phases.{server-begun}
 use Rattle.wt_promise.proofs.Sessions.{is_connect}
 use Rattle.wt_promise.specs.Promise.{IsHistory}
 use Rattle.wt_proto.specs.declared.verdict.Verdict.{Verdict}
-use Rattle.wt_seam_spec.specs.Reports.{is_connected, stop_of}
-use Rattle.wt_seam_spec.specs.Streams.{local_count}
+use Rattle.wt_turn.specs.Reports.{is_connected, stop_of}
+use Rattle.wt_turn.specs.Streams.{local_count}
 use Rattle.wt_sessions.specs.Driver.{call_view, ending_actions, is_living, is_session_gone, stream_table, transport_view}
 use Rattle.wt_sessions.specs.Handshake.{HandshakeState, handshake_state, request_end, requested_stream}
 use Rattle.wt_sessions.specs.Handshake as handshakes

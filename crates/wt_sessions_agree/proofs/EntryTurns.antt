@@ -11,9 +11,9 @@ use Rattle.wt_meaning.specs.Rows.{answer}
 use Rattle.wt_promise.proofs.Actions.{any-join_all, or-assoc}
 use Rattle.wt_promise.proofs.Opened.{open-before}
 use Rattle.wt_promise.specs.Promise.{IsHistory}
-use Rattle.wt_seam_spec.specs.Arrivals.{event_entry}
-use Rattle.wt_seam_spec.specs.Joined.{join_all, newest_first}
-use Rattle.wt_seam_spec.specs.Streams as streams
+use Rattle.wt_turn.specs.Arrivals.{event_entry}
+use Rattle.wt_turn.specs.Joined.{join_all, newest_first}
+use Rattle.wt_turn.specs.Streams as streams
 use Rattle.wt_sessions.specs.Answers.{log_after}
 use Rattle.wt_sessions.specs.Driver.{apply_if, call_view, flush, is_moment, log_and_flush, pending_actions, stream_table, transport_view}
 use Rattle.wt_sessions.specs.StreamTable.{CallView}

@@ -13,8 +13,8 @@ use Rattle.wt_message.specs.Datagram.{datagram_of}
 use Rattle.wt_promise.proofs.Accepted.{and-left, and-right}
 use Rattle.wt_proto.specs.declared.session_walk.SessionWalk.{SessionWalk}
 use Rattle.wt_proto.specs.declared.verdict.Verdict.{Verdict}
-use Rattle.wt_seam_spec.specs.Reports.{end_of, is_running, stop_of}
-use Rattle.wt_seam_spec.specs.Streams.{local_uni}
+use Rattle.wt_turn.specs.Reports.{end_of, is_running, stop_of}
+use Rattle.wt_turn.specs.Streams.{local_uni}
 use Rattle.wt_sessions_agree.proofs.Appends.{classified-append, cons-append, dequeued-append, filter-fewer}
 use Rattle.wt_sessions_agree.proofs.Basics.{or-false}
 use Rattle.wt_sessions_agree.specs.Orderly.{Few, unclassified}

@@ -9,10 +9,10 @@ use Rattle.wt_meaning.specs.Moments.{findings}
 use Rattle.wt_meaning.specs.Rows.{Row, first_row, row}
 use Rattle.wt_meaning.specs.Sends.{action_if}
 use Rattle.wt_promise.proofs.Opened.{open-before}
-use Rattle.wt_seam_spec.specs.Outgoing.{bytes_within_credit}
-use Rattle.wt_seam_spec.specs.Outgoing as outgoing
-use Rattle.wt_seam_spec.specs.Reports.{credit, end_of, is_acknowledged, stop_of}
-use Rattle.wt_seam_spec.specs.Sent as sends
+use Rattle.wt_turn.specs.Outgoing.{bytes_within_credit}
+use Rattle.wt_turn.specs.Outgoing as outgoing
+use Rattle.wt_turn.specs.Reports.{credit, end_of, is_acknowledged, stop_of}
+use Rattle.wt_turn.specs.Sent as sends
 use Rattle.wt_sessions.specs.Driver.{stream_table}
 use Rattle.wt_sessions.specs.Effect.{Effect, poll_only}
 use Rattle.wt_sessions.specs.Halves.{on_half}

@@ -3,10 +3,10 @@ use Rattle.std.specs.Prelude.{◌%◌, ◌&&◌, ◌==◌, ◌≡◌, Bool, not,
 use Rattle.std.specs.List.{list_any}
 use Rattle.std.proofs.Common.{◌∙◌, ap, refl, sym}
 use Rattle.wt_meaning.specs.History.{History, actions_out, all_events, events, exists, is_given_up, is_reset}
-use Rattle.wt_seam_spec.specs.Reports.{end_of, is_running}
-use Rattle.wt_seam_spec.specs.Sent as sends
-use Rattle.wt_seam_spec.specs.Streams.{local_uni, peer_uni}
-use Rattle.wt_seam_spec.specs.Streams as streams
+use Rattle.wt_turn.specs.Reports.{end_of, is_running}
+use Rattle.wt_turn.specs.Sent as sends
+use Rattle.wt_turn.specs.Streams.{local_uni, peer_uni}
+use Rattle.wt_turn.specs.Streams as streams
 use Rattle.wt_sessions.specs.Driver.{gives_up, transport_view}
 use Rattle.wt_sessions_agree.proofs.Basics.{eqb-sym}
 use Rattle.wt_sessions_agree.specs.Members.{HalvesSeen}

@@ -12,8 +12,8 @@ use Rattle.wt_meaning.specs.Rows.{first_row}
 use Rattle.wt_meaning.specs.Sends.{session_gone_actions}
 use Rattle.wt_meaning.specs.Targets.{Target, target_of}
 use Rattle.wt_meaning.specs.Windows.{last_request, queued_request}
-use Rattle.wt_seam_spec.specs.Reports.{is_acknowledged, stop_of}
-use Rattle.wt_seam_spec.specs.Sent.{is_finished}
+use Rattle.wt_turn.specs.Reports.{is_acknowledged, stop_of}
+use Rattle.wt_turn.specs.Sent.{is_finished}
 use Rattle.wt_sessions.specs.Connect.{dial}
 use Rattle.wt_sessions.specs.Driver.{delivers, dispatched, ending_actions, has_no_session, stream_table}
 use Rattle.wt_sessions.specs.Driver as drivers

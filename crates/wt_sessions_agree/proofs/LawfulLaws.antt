@@ -4,13 +4,13 @@ use Rattle.std.specs.List.{list_any}
 use Rattle.std.proofs.Common.{◌∙◌, ap, arith, refl, sym}
 use Rattle.wt_meaning.specs.History.{History, Pair, all_events, can_receive, can_send, exists}
 use Rattle.wt_meaning.specs.Lawful.{all_answered, fails_incoming, has_begun, has_request, is_awaited, is_client, is_first, is_lawful, is_lost, may_call, may_receive}
-use Rattle.wt_seam_spec.specs.Arrivals.{fits, may_begin}
-use Rattle.wt_seam_spec.specs.Arrivals as arrivals
-use Rattle.wt_seam_spec.specs.Reports.{bis_allowed, credit, end_of, is_acknowledged, is_connected, is_running, loss_of, stop_of, unis_allowed}
-use Rattle.wt_seam_spec.specs.Sent.{has_dialled, is_finished}
-use Rattle.wt_seam_spec.specs.Sent as sends
-use Rattle.wt_seam_spec.specs.Streams.{local_uni, peer_bi, peer_uni}
-use Rattle.wt_seam_spec.specs.Streams as streams
+use Rattle.wt_turn.specs.Arrivals.{fits, may_begin}
+use Rattle.wt_turn.specs.Arrivals as arrivals
+use Rattle.wt_turn.specs.Reports.{bis_allowed, credit, end_of, is_acknowledged, is_connected, is_running, loss_of, stop_of, unis_allowed}
+use Rattle.wt_turn.specs.Sent.{has_dialled, is_finished}
+use Rattle.wt_turn.specs.Sent as sends
+use Rattle.wt_turn.specs.Streams.{local_uni, peer_bi, peer_uni}
+use Rattle.wt_turn.specs.Streams as streams
 use Rattle.wt_sessions.specs.Answers as answers
 use Rattle.wt_sessions.specs.Handshake.{awaits_answer, awaits_request, handshake_state}
 use Rattle.wt_sessions_agree.proofs.Basics.{and-false, and-true, eqb-sym}

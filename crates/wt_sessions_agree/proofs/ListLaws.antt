@@ -8,9 +8,9 @@ use Rattle.wt_meaning.specs.Rows.{answer}
 use Rattle.wt_promise.proofs.Actions.{opened-out}
 use Rattle.wt_promise.proofs.Joins.{join_all-assoc}
 use Rattle.wt_promise.specs.Promise.{AllLawful}
-use Rattle.wt_seam_spec.specs.Joined.{join_all, join_one, newest_first}
-use Rattle.wt_seam_spec.specs.Reports.{end_of, is_connected, is_running}
-use Rattle.wt_seam_spec.specs.Streams.{local_uni}
+use Rattle.wt_turn.specs.Joined.{join_all, join_one, newest_first}
+use Rattle.wt_turn.specs.Reports.{end_of, is_connected, is_running}
+use Rattle.wt_turn.specs.Streams.{local_uni}
 use Rattle.wt_sessions.specs.Answers.{AtUnlawful, actions_since, answers_from, log_after, receive}
 use Rattle.wt_sessions.specs.Answers as answers
 use Rattle.wt_sessions.specs.Driver.{apply_if, flush, is_moment, pending_actions}

@@ -22,7 +22,7 @@ use Rattle.wt_promise.proofs.Stays.{exists-stays, named-stays, peers-stay}
 use Rattle.wt_promise.proofs.Tables.{by-session, fits, fits-own}
 use Rattle.wt_promise.proofs.Verdicts.{admitted-once, admitted-peers}
 use Rattle.wt_promise.specs.Promise.{IsHistory}
-use Rattle.wt_seam_spec.specs.Streams.{local_bi, local_uni, one_more_if}
+use Rattle.wt_turn.specs.Streams.{local_bi, local_uni, one_more_if}
 use Rattle.wt_sessions.specs.Driver.{call_view, member_by, members_of, with_member}
 use Rattle.wt_sessions.specs.StreamTable.{CallView}
 use Rattle.wt_sessions_agree.proofs.Basics.{and-false}

@@ -17,8 +17,8 @@ use Rattle.wt_proto.specs.ControlWalk.{control_walk_of}
 use Rattle.wt_proto.specs.declared.control_walk.ControlWalk.{ControlWalk}
 use Rattle.wt_proto.specs.declared.session_walk.SessionWalk.{SessionWalk}
 use Rattle.wt_proto.specs.declared.verdict.Verdict.{Verdict}
-use Rattle.wt_seam_spec.specs.Reports.{datagrams_of, end_of, is_running, stop_of}
-use Rattle.wt_seam_spec.specs.Streams.{local_uni}
+use Rattle.wt_turn.specs.Reports.{datagrams_of, end_of, is_running, stop_of}
+use Rattle.wt_turn.specs.Streams.{local_uni}
 use Rattle.wt_sessions.specs.Driver.{close_actions}
 use Rattle.wt_sessions.specs.Scan.{admit_datagram, check_control, check_qpack, critical_if, in_order, is_admitted, on_progress, scan_order, session_end, session_walked, take_datagrams, take_each, take_parsed, unless_ended, with_classified, with_fault, with_more, with_no_actions}
 use Rattle.wt_sessions.specs.StreamTable.{CallView, Consequence, DriverProgress, StreamTable, TransportView, admit_or_stop, consequence, control_start, decoder_start, dispatched_streams, encoder_start, first_at, gone_actions, has_room, only_once}

@@ -17,8 +17,8 @@ use Rattle.wt_promise.proofs.Sessions.{Accepted, AcceptGives, ConnectGives, Conn
 use Rattle.wt_promise.proofs.Tables.{fits-own}
 use Rattle.wt_promise.proofs.OwnForms.{head_of}
 use Rattle.wt_promise.specs.Promise.{IsHistory}
-use Rattle.wt_seam_spec.specs.Sent as sends
-use Rattle.wt_seam_spec.specs.Streams as streams
+use Rattle.wt_turn.specs.Sent as sends
+use Rattle.wt_turn.specs.Streams as streams
 use Rattle.wt_sessions.specs.Answers.{call_effect}
 use Rattle.wt_sessions.specs.Driver.{call_view, gives_up, is_moment, log_and_flush, pending_actions, stream_table, transport_view}
 use Rattle.wt_sessions.specs.StreamTable.{CallView, was_established}

@@ -20,8 +20,8 @@ use Rattle.wt_promise.proofs.Tables.{fits, fits-own, is_payload}
 use Rattle.wt_promise.proofs.Waiting.{named-established}
 use Rattle.wt_promise.specs.Promise.{IsHistory}
 use Rattle.wt_proto.specs.ResponseWalk.{response_walk_of}
-use Rattle.wt_seam_spec.specs.Joined.{join_all}
-use Rattle.wt_seam_spec.specs.Reports.{end_of}
+use Rattle.wt_turn.specs.Joined.{join_all}
+use Rattle.wt_turn.specs.Reports.{end_of}
 use Rattle.wt_sessions.specs.Driver.{accepts_stream, call_view, delivers, ends_session, members_of, sessions_of}
 use Rattle.wt_sessions.specs.Driver as drivers
 use Rattle.wt_sessions.specs.Moment.{is_peers}

@@ -7,8 +7,8 @@ use Rattle.std.proofs.lemmas.Bool.{eqb-true}
 use Rattle.std.proofs.lemmas.List.{append-nil, length-append}
 use Rattle.wt_meaning.specs.History.{is_reset_of}
 use Rattle.wt_promise.proofs.Actions.{AnyPiece, any-join_all, opened-join, opened-out}
-use Rattle.wt_seam_spec.specs.Joined.{join_all, join_one, joined_actions, newest_first}
-use Rattle.wt_seam_spec.specs.Sent.{dials, finishes, sent_on}
+use Rattle.wt_turn.specs.Joined.{join_all, join_one, joined_actions, newest_first}
+use Rattle.wt_turn.specs.Sent.{dials, finishes, sent_on}
 use Rattle.wt_sessions.specs.Answers.{actions_since}
 use Rattle.wt_sessions_agree.proofs.Basics.{or-false}
 use Rattle.wt_sessions_agree.specs.Stands.{SameOut}

@@ -30,7 +30,7 @@ use Rattle.wt_proto.specs.Uni.{header_by_type, or_at_stream_end, session_header_
 use Rattle.wt_proto.specs.Walk.{whole_walk}
 use Rattle.wt_proto.specs.declared.response_walk.ResponseWalk.{ResponseWalk}
 use Rattle.wt_proto.specs.declared.verdict.Verdict.{Verdict}
-use Rattle.wt_seam_spec.specs.Reports.{end_of}
+use Rattle.wt_turn.specs.Reports.{end_of}
 use Rattle.wt_sessions_agree.proofs.Basics.{is-none, or-first}
 use Rattle.wt_sessions_agree.specs.Orderly.{begins_at}
 use Rattle.wt_turn.specs.declared.answer.Answer.{Answer}

@@ -11,7 +11,7 @@ use Rattle.wt_promise.proofs.Grows.{checks-add, more, more-by, news-dropped, new
 use Rattle.wt_promise.proofs.OpenStays.{no-fault}
 use Rattle.wt_promise.proofs.Opened.{open-before}
 use Rattle.wt_promise.specs.Promise.{IsHistory}
-use Rattle.wt_seam_spec.specs.Streams.{local_uni}
+use Rattle.wt_turn.specs.Streams.{local_uni}
 use Rattle.wt_sessions.specs.Driver.{actions_after, call_view, close_actions, control_actions, control_sent, is_moment, pending_actions, stream_table, transport_view}
 use Rattle.wt_sessions.specs.Scan.{scan_order}
 use Rattle.wt_sessions.specs.StreamTable.{StreamTable}

@@ -7,8 +7,8 @@ use Rattle.wt_meaning.specs.History.{History, all_events, can_send, events, is_o
 use Rattle.wt_meaning.specs.Lawful.{has_begun, is_lawful, is_lost}
 use Rattle.wt_meaning.specs.Meaning.{with_pair}
 use Rattle.wt_meaning.specs.Moments.{is_ready}
-use Rattle.wt_seam_spec.specs.Reports.{credit, is_connected, unis_allowed}
-use Rattle.wt_seam_spec.specs.Streams.{local_uni}
+use Rattle.wt_turn.specs.Reports.{credit, is_connected, unis_allowed}
+use Rattle.wt_turn.specs.Streams.{local_uni}
 use Rattle.wt_sessions_agree.proofs.HalfRows.{open-events}
 use Rattle.wt_sessions_agree.specs.Orderly.{NoneEarly}
 use Rattle.wt_turn.specs.Log.{Event, MaxData}

@@ -16,8 +16,8 @@ use Rattle.wt_promise.proofs.Accepted.{and-left, or-true}
 use Rattle.wt_promise.proofs.Grows.{first_of-append, first_of-stays}
 use Rattle.wt_proto.specs.declared.session_walk.SessionWalk.{SessionWalk}
 use Rattle.wt_proto.specs.declared.verdict.Verdict.{Verdict}
-use Rattle.wt_seam_spec.specs.Reports.{end_of, is_running, stop_of}
-use Rattle.wt_seam_spec.specs.Streams.{local_uni}
+use Rattle.wt_turn.specs.Reports.{end_of, is_running, stop_of}
+use Rattle.wt_turn.specs.Streams.{local_uni}
 use Rattle.wt_sessions_agree.proofs.Appends.{classified-append, classified-more, dequeued-append, filter-fewer, filter-ids, ids-more, one-if}
 use Rattle.wt_sessions_agree.proofs.Basics.{or-false}
 use Rattle.wt_sessions_agree.specs.Orderly.{unclassified}

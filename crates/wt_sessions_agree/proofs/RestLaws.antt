@@ -16,8 +16,8 @@ use Rattle.wt_promise.proofs.Accepted.{and-left, or-true}
 use Rattle.wt_promise.proofs.Grows.{adds, asks_peers, checks-add, checks-keep, more, peers-checked}
 use Rattle.wt_promise.proofs.MomentActs.{lives-before}
 use Rattle.wt_proto.specs.declared.session_walk.SessionWalk.{SessionWalk}
-use Rattle.wt_seam_spec.specs.Reports.{datagrams_of, end_of}
-use Rattle.wt_seam_spec.specs.Streams.{peer_bi, peer_count, peer_uni}
+use Rattle.wt_turn.specs.Reports.{datagrams_of, end_of}
+use Rattle.wt_turn.specs.Streams.{peer_bi, peer_count, peer_uni}
 use Rattle.wt_sessions_agree.proofs.Appends.{any-append}
 use Rattle.wt_sessions_agree.proofs.CriticalLaws.{checks-append}
 use Rattle.wt_sessions_agree.proofs.OrderlyLaws.{Parts, parts-kept}

@@ -20,8 +20,8 @@ use Rattle.wt_promise.specs.Promise.{IsHistory}
 use Rattle.wt_sessions.specs.Moment.{is_peers}
 use Rattle.wt_proto.specs.declared.control_walk.ControlWalk.{ControlWalk}
 use Rattle.wt_proto.specs.declared.verdict.Verdict.{Verdict}
-use Rattle.wt_seam_spec.specs.Reports.{credit, datagrams_of, end_of, is_connected, stop_of, unis_allowed}
-use Rattle.wt_seam_spec.specs.Streams.{local_uni, peer_bi, peer_count, peer_uni}
+use Rattle.wt_turn.specs.Reports.{credit, datagrams_of, end_of, is_connected, stop_of, unis_allowed}
+use Rattle.wt_turn.specs.Streams.{local_uni, peer_bi, peer_count, peer_uni}
 use Rattle.wt_sessions_agree.proofs.Appends.{filter-ids}
 use Rattle.wt_sessions_agree.proofs.Basics.{and-false}
 use Rattle.wt_sessions_agree.proofs.RestKinds.{Left, Still, Taken, is_incomplete, is_stuck, stuck}

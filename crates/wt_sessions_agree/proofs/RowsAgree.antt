@@ -11,7 +11,7 @@ use Rattle.wt_meaning.specs.Rows.{Row, first_row}
 use Rattle.wt_meaning.specs.Sends.{session_gone_actions}
 use Rattle.wt_meaning.specs.Windows.{last_request, named}
 use Rattle.wt_message.specs.FixedBytes.{response_bytes}
-use Rattle.wt_seam_spec.specs.Streams.{local_bi, local_uni, peer_bi, peer_uni}
+use Rattle.wt_turn.specs.Streams.{local_bi, local_uni, peer_bi, peer_uni}
 use Rattle.wt_sessions.specs.Answers.{call_effect, may_call, named_session, on_receiving, on_sending, on_session}
 use Rattle.wt_sessions.specs.Driver.{ending_actions, has_no_session, is_living, stream_table}
 use Rattle.wt_sessions.specs.Effect as effects

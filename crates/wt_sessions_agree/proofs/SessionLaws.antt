@@ -11,7 +11,7 @@ use Rattle.wt_meaning.specs.Windows.{after_request, after_response, is_establish
 use Rattle.wt_proto.specs.ResponseWalk.{response_walk_of}
 use Rattle.wt_proto.specs.declared.session_walk.SessionWalk.{SessionWalk}
 use Rattle.wt_proto.specs.declared.verdict.Verdict.{Verdict}
-use Rattle.wt_seam_spec.specs.Reports.{end_of}
+use Rattle.wt_turn.specs.Reports.{end_of}
 use Rattle.wt_sessions.specs.Scan.{check_each, check_living, check_session, session_walked, unless_ended}
 use Rattle.wt_sessions.specs.StreamTable.{CallView, Closed, Session, StreamTable, TransportView}
 use Rattle.wt_sessions.specs.StreamTable as tables

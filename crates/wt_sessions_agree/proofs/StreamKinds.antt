@@ -3,7 +3,7 @@ use Rattle.std.specs.Prelude.{◌%◌, ◌*◌, ◌+◌, ◌/◌, ◌==◌, ◌|
 use Rattle.std.proofs.Common.{◌∙◌, ap, arith, refl}
 use Rattle.wt_promise.proofs.Accepted.{or-true}
 use Rattle.wt_promise.proofs.Grows.{is_peers}
-use Rattle.wt_seam_spec.specs.Streams.{local_bi, local_uni, peer_bi, peer_uni}
+use Rattle.wt_turn.specs.Streams.{local_bi, local_uni, peer_bi, peer_uni}
 use Rattle.wt_wire.specs.Ids.{is_bidirectional}
 use Rattle.wt_wire.specs.declared.side.Side.{Side}
 use Rattle.wt_wire.specs.declared.side.Side.TheVariants.{Client, Server}

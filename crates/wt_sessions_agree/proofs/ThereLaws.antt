@@ -14,8 +14,8 @@ use Rattle.wt_promise.proofs.HandedOut.{only-peers}
 use Rattle.wt_promise.proofs.Stays.{exists-stays}
 use Rattle.wt_promise.specs.Promise.{IsHistory}
 use Rattle.wt_proto.specs.declared.verdict.Verdict.{Verdict}
-use Rattle.wt_seam_spec.specs.Reports.{datagrams_of}
-use Rattle.wt_seam_spec.specs.Streams.{one_more_if, peer_bi, peer_count, peer_opens, peer_uni}
+use Rattle.wt_turn.specs.Reports.{datagrams_of}
+use Rattle.wt_turn.specs.Streams.{one_more_if, peer_bi, peer_count, peer_opens, peer_uni}
 use Rattle.wt_sessions_agree.proofs.Few.{dequeues-none, is-other, none-dequeued, plain-other}
 use Rattle.wt_sessions_agree.proofs.PartLaws.{ByRequest, ByResponse, Parted, parted}
 use Rattle.wt_sessions_agree.proofs.StreamKinds.{bi-small, uni-small}

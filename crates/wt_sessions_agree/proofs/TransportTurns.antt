@@ -9,9 +9,9 @@ use Rattle.wt_meaning.specs.Moments.{after_checks, checks, findings}
 use Rattle.wt_meaning.specs.Rows.{answer}
 use Rattle.wt_meaning.specs.Sends.{moment_actions}
 use Rattle.wt_promise.specs.Promise.{IsHistory}
-use Rattle.wt_seam_spec.specs.Arrivals.{event_entry}
-use Rattle.wt_seam_spec.specs.Joined.{join_all}
-use Rattle.wt_seam_spec.specs.Streams as streams
+use Rattle.wt_turn.specs.Arrivals.{event_entry}
+use Rattle.wt_turn.specs.Joined.{join_all}
+use Rattle.wt_turn.specs.Streams as streams
 use Rattle.wt_sessions.specs.Answers.{log_after}
 use Rattle.wt_sessions.specs.Driver.{call_view, is_moment, log_and_flush, pending_actions, transport_view}
 use Rattle.wt_sessions_agree.proofs.CameAgrees.{is_single}

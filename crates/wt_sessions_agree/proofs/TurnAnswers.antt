@@ -8,7 +8,7 @@ use Rattle.wt_meaning.specs.Moments.{findings}
 use Rattle.wt_meaning.specs.Rows.{answer}
 use Rattle.wt_meaning.specs.Sends.{moment_actions}
 use Rattle.wt_promise.specs.Promise.{IsHistory}
-use Rattle.wt_seam_spec.specs.Joined.{join_all, newest_first}
+use Rattle.wt_turn.specs.Joined.{join_all, newest_first}
 use Rattle.wt_sessions.specs.Answers.{log_after}
 use Rattle.wt_sessions.specs.Answers as answers
 use Rattle.wt_sessions.specs.Driver.{call_view, stream_table}

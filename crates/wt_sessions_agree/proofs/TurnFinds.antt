@@ -5,9 +5,9 @@ use Rattle.wt_meaning.specs.Findings.{Finding}
 use Rattle.wt_meaning.specs.History.{History, Pair, contents, events, is_open, stream_count}
 use Rattle.wt_meaning.specs.Moments.{after_checks, after_moments, checks, findings, ids_from}
 use Rattle.wt_promise.proofs.Grows.{peers-checked}
-use Rattle.wt_seam_spec.specs.Reports.{datagrams_of, end_of, stop_of}
-use Rattle.wt_seam_spec.specs.Streams.{peer_bi, peer_count, peer_uni}
-use Rattle.wt_seam_spec.specs.Streams as streams
+use Rattle.wt_turn.specs.Reports.{datagrams_of, end_of, stop_of}
+use Rattle.wt_turn.specs.Streams.{peer_bi, peer_count, peer_uni}
+use Rattle.wt_turn.specs.Streams as streams
 use Rattle.wt_sessions.specs.Driver.{apply_if, call_view, flush, is_moment, log_and_flush, pending_actions, stream_table, transport_view}
 use Rattle.wt_sessions.specs.Scan.{scan_order}
 use Rattle.wt_sessions.specs.StreamTable.{CallView}

@@ -17,10 +17,10 @@ use Rattle.wt_meaning.specs.Rows.{answer}
 use Rattle.wt_meaning.specs.Windows.{first_session, gone_in, is_established, named}
 use Rattle.wt_promise.proofs.Actions.{opened-out, or-assoc}
 use Rattle.wt_promise.proofs.Stays.{exists-stays}
-use Rattle.wt_seam_spec.specs.Arrivals.{event_entry}
-use Rattle.wt_seam_spec.specs.Joined.{join_all, newest_first}
-use Rattle.wt_seam_spec.specs.Sent as sends
-use Rattle.wt_seam_spec.specs.Streams.{one_more_if, peer_count, peer_opens}
+use Rattle.wt_turn.specs.Arrivals.{event_entry}
+use Rattle.wt_turn.specs.Joined.{join_all, newest_first}
+use Rattle.wt_turn.specs.Sent as sends
+use Rattle.wt_turn.specs.Streams.{one_more_if, peer_count, peer_opens}
 use Rattle.wt_sessions.specs.Answers.{log_after}
 use Rattle.wt_sessions.specs.Answers as answers
 use Rattle.wt_sessions.specs.Connection.{opening_session}

@@ -2,7 +2,7 @@
 use Rattle.std.specs.Prelude.{◌≡◌, List, None, Option, Some, filter, filter_map, length, true, ℕ}
 use Rattle.wt_turn.specs.Log.{Log, all_events_of, events_of}
 use Rattle.wt_turn.specs.Log as logs
-use Rattle.wt_seam_spec.specs.Streams as streams
+use Rattle.wt_turn.specs.Streams as streams
 use Rattle.wt_sessions.specs.StreamTable.{Admitted, Classified, Closed, StreamTable}
 use Rattle.wt_meaning.specs.Findings.{DatagramRead, Finding, SessionClosed, fault_of, is_datagram, settings_came}
 use Rattle.wt_meaning.specs.History.{History, all_events, contents, events, is_open}

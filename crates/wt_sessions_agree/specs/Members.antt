@@ -4,7 +4,7 @@ use Rattle.std.specs.List.{list_any}
 use Rattle.wt_meaning.specs.Findings.{Finding}
 use Rattle.wt_meaning.specs.History.{History, Pair, can_receive, can_send, events, exists, is_given_up, is_handed_out, is_reset, was_finished}
 use Rattle.wt_meaning.specs.Sends.{admits, is_of_session, opens_for}
-use Rattle.wt_seam_spec.specs.Reports.{end_of, is_running}
+use Rattle.wt_turn.specs.Reports.{end_of, is_running}
 use Rattle.wt_sessions.specs.StreamTable.{CallView, TransportView}
 use Rattle.wt_wire.specs.declared.side.Side.{Side}
 

@@ -6,7 +6,7 @@ use Rattle.wt_meaning.specs.History.{History, contents, events}
 use Rattle.wt_meaning.specs.Moments.{ids_from, is_ready}
 use Rattle.wt_meaning.specs.Windows.{after_request, after_response, is_established, received_count}
 use Rattle.wt_proto.specs.ResponseWalk.{response_walk_of}
-use Rattle.wt_seam_spec.specs.Reports.{end_of}
+use Rattle.wt_turn.specs.Reports.{end_of}
 use Rattle.wt_sessions.specs.Moment.{is_peers}
 use Rattle.wt_sessions.specs.StreamTable.{Admitted, CallView, Session}
 use Rattle.wt_sessions_agree.specs.Agrees.{admitted_in}

@@ -11,10 +11,10 @@ use Rattle.wt_meaning.specs.Moments.{findings, ids_from, is_ready}
 use Rattle.wt_meaning.specs.Targets.{Target, target_of}
 use Rattle.wt_meaning.specs.Windows.{first_session, is_established, is_gone_by_call, last_request, named}
 use Rattle.wt_message.specs.FixedBytes.{response_bytes}
-use Rattle.wt_seam_spec.specs.Reports.{datagrams_of, end_of, stop_of}
-use Rattle.wt_seam_spec.specs.Sent.{has_dialled, is_finished, sent_on}
-use Rattle.wt_seam_spec.specs.Sent as sends
-use Rattle.wt_seam_spec.specs.Streams.{local_count, peer_bi, peer_count, peer_uni}
+use Rattle.wt_turn.specs.Reports.{datagrams_of, end_of, stop_of}
+use Rattle.wt_turn.specs.Sent.{has_dialled, is_finished, sent_on}
+use Rattle.wt_turn.specs.Sent as sends
+use Rattle.wt_turn.specs.Streams.{local_count, peer_bi, peer_count, peer_uni}
 use Rattle.wt_sessions.specs.Answers as answers
 use Rattle.wt_sessions.specs.Connection.{opening_session}
 use Rattle.wt_sessions.specs.Driver as drivers

@@ -5,8 +5,8 @@ use Rattle.wt_wire.specs.declared.side.Side.{Side}
 use Rattle.wt_wire.specs.declared.side.Side.TheVariants.{Client, Server}
 use Rattle.wt_turn.specs.declared.action.Action.{Action}
 use Rattle.wt_turn.specs.Log.{Log}
-use Rattle.wt_seam_spec.specs.Streams.{local_uni, peer_bi, peer_uni, stream_count}
-use Rattle.wt_seam_spec.specs.Unread.{ReadPosition}
+use Rattle.wt_turn.specs.Streams.{local_uni, peer_bi, peer_uni, stream_count}
+use Rattle.wt_turn.specs.Unread.{ReadPosition}
 use Rattle.wt_transport.specs.StreamState.{has_stream}
 use Rattle.wt_transport.specs.State.{AcceptedCounts, TransportState, Refines}
 use Rattle.wt_transport.specs.Step.{can_receive_now, can_send_now, count_now}

@@ -10,12 +10,12 @@ use Rattle.wt_turn.specs.declared.turn.Turn.{Turn}
 use Rattle.wt_turn.specs.declared.turn.Turn.TheVariants as turns
 use Rattle.wt_turn.specs.Log.{Event, Received, Log, events_of, all_events_of, actions_of, calls_of, is_open}
 use Rattle.wt_transport.specs.StreamState.{Stream}
-use Rattle.wt_seam_spec.specs.Streams.{contents, local_uni, peer_uni, peer_count, local_count, stream_count, exists, can_receive, can_send}
-use Rattle.wt_seam_spec.specs.Reports.{is_connected, is_running, loss_of, end_of, credit, unis_allowed, bis_allowed, initial_credit, datagram_fact}
-use Rattle.wt_seam_spec.specs.Sent.{sent_on, is_finished, is_reset, has_dialled, priority_of}
-use Rattle.wt_seam_spec.specs.Arrivals.{may_begin, may_receive, may_come, fits, event_entry, log_bytes, log_bytes_if, log_turn}
-use Rattle.wt_seam_spec.specs.Joined.{joined_actions}
-use Rattle.wt_seam_spec.specs.Unread.{ReadPosition, AtOffset, GivenUp, is_given_up, from_position}
+use Rattle.wt_turn.specs.Streams.{contents, local_uni, peer_uni, peer_count, local_count, stream_count, exists, can_receive, can_send}
+use Rattle.wt_turn.specs.Reports.{is_connected, is_running, loss_of, end_of, credit, unis_allowed, bis_allowed, initial_credit, datagram_fact}
+use Rattle.wt_turn.specs.Sent.{sent_on, is_finished, is_reset, has_dialled, priority_of}
+use Rattle.wt_turn.specs.Arrivals.{may_begin, may_receive, may_come, fits, event_entry, log_bytes, log_bytes_if, log_turn}
+use Rattle.wt_turn.specs.Joined.{joined_actions}
+use Rattle.wt_turn.specs.Unread.{ReadPosition, AtOffset, GivenUp, is_given_up, from_position}
 use Rattle.wt_transport.specs.Pieces.{AreFilled}
 use Rattle.wt_transport.specs.StreamState.{with_changed, with_bytes}
 use Rattle.wt_transport.specs.StreamState.{rows}

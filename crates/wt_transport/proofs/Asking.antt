@@ -5,10 +5,10 @@ use Rattle.wt_wire.specs.declared.side.Side.{Side}
 use Rattle.wt_turn.specs.declared.action.Action.{Action}
 use Rattle.wt_turn.specs.Log.{Log, events_of, all_events_of, actions_of, is_open}
 use Rattle.wt_transport.specs.StreamState.{Stream}
-use Rattle.wt_seam_spec.specs.Streams.{peer_uni, peer_bi, stream_count, exists}
-use Rattle.wt_seam_spec.specs.Reports.{bis_allowed, credit, initial_credit, is_acknowledged, is_connected, stop_of, unis_allowed}
-use Rattle.wt_seam_spec.specs.Sent.{is_finished, is_reset, sent_on}
-use Rattle.wt_seam_spec.specs.Unread.{ReadPosition}
+use Rattle.wt_turn.specs.Streams.{peer_uni, peer_bi, stream_count, exists}
+use Rattle.wt_turn.specs.Reports.{bis_allowed, credit, initial_credit, is_acknowledged, is_connected, stop_of, unis_allowed}
+use Rattle.wt_turn.specs.Sent.{is_finished, is_reset, sent_on}
+use Rattle.wt_turn.specs.Unread.{ReadPosition}
 use Rattle.wt_transport.specs.StreamState.{fresh, has_stream, stream_at}
 use Rattle.wt_transport.specs.State.{TransportState, Refines, state_of, stream_of}
 use Rattle.wt_transport.specs.Step.{count_now, credit_now, stop_now, sent_now, is_finished_now, is_reset_now, is_acknowledged_now}

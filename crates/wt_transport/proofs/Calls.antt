@@ -11,11 +11,11 @@ use Rattle.wt_turn.specs.declared.action.Action.{Action}
 use Rattle.wt_turn.specs.declared.action.Action.TheVariants as actions
 use Rattle.wt_turn.specs.Log.{Log, Sent, Called, ResetUnsent, PrioritySet, events_of, all_events_of, actions_of, is_open, ends_by, closes, with_actions}
 use Rattle.wt_transport.specs.StreamState.{Stream}
-use Rattle.wt_seam_spec.specs.Streams.{contents, one_more_if, peer_count, local_count, stream_count, exists, peer_uni, can_send}
-use Rattle.wt_seam_spec.specs.Reports.{is_connected, end_of, initial_credit}
-use Rattle.wt_seam_spec.specs.Joined.{send_of, join_one, joined_actions, newest_first}
-use Rattle.wt_seam_spec.specs.Outgoing.{streams_allowed, may_open, next_id, opened_id, actions_to_open, may_send, credit_left, bytes_within_credit, actions_to_send, if_open, reset_entry}
-use Rattle.wt_seam_spec.specs.Unread.{ReadPosition, AtOffset, GivenUp, from_position, unread, advance, position_after, given_up}
+use Rattle.wt_turn.specs.Streams.{contents, one_more_if, peer_count, local_count, stream_count, exists, peer_uni, can_send}
+use Rattle.wt_turn.specs.Reports.{is_connected, end_of, initial_credit}
+use Rattle.wt_turn.specs.Joined.{send_of, join_one, joined_actions, newest_first}
+use Rattle.wt_turn.specs.Outgoing.{streams_allowed, may_open, next_id, opened_id, actions_to_open, may_send, credit_left, bytes_within_credit, actions_to_send, if_open, reset_entry}
+use Rattle.wt_turn.specs.Unread.{ReadPosition, AtOffset, GivenUp, from_position, unread, advance, position_after, given_up}
 use Rattle.wt_transport.specs.Pieces.{AreFilled, skip}
 use Rattle.wt_transport.specs.StreamState.{fresh, stream_at, with_changed, with_pushed, credit_of, with_sent, with_finish, with_reset, with_priority, consume, give_up}
 use Rattle.wt_transport.specs.StreamState.{rows}

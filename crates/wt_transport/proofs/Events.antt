@@ -10,10 +10,10 @@ use Rattle.wt_turn.specs.declared.datagram_fact.DatagramFact.{DatagramFact}
 use Rattle.wt_turn.specs.declared.loss.LossReason.{LossReason}
 use Rattle.wt_turn.specs.Log.{Event, Connected, PeerUni, PeerBi, End, Reset, Stop, Acked, Datagram, MaxUni, MaxBi, MaxData, DatagramLimit, Loss, Reported, Log, all_events_of, actions_of, is_open}
 use Rattle.wt_transport.specs.StreamState.{Signals, Stream}
-use Rattle.wt_seam_spec.specs.Streams.{peer_uni, peer_bi, peer_count, local_count, one_more_if, stream_count, exists}
-use Rattle.wt_seam_spec.specs.Reports.{is_connected, initial_credit}
-use Rattle.wt_seam_spec.specs.Arrivals.{event_entry}
-use Rattle.wt_seam_spec.specs.Unread.{ReadPosition}
+use Rattle.wt_turn.specs.Streams.{peer_uni, peer_bi, peer_count, local_count, one_more_if, stream_count, exists}
+use Rattle.wt_turn.specs.Reports.{is_connected, initial_credit}
+use Rattle.wt_turn.specs.Arrivals.{event_entry}
+use Rattle.wt_turn.specs.Unread.{ReadPosition}
 use Rattle.wt_transport.specs.StreamState.{fresh, signal, with_end, with_stop, with_ack, with_credit, with_changed, with_pushed}
 use Rattle.wt_transport.specs.StreamState.{rows}
 use Rattle.wt_transport.specs.State.{TransportState, stream_of, state_of, IsStream, Facts}

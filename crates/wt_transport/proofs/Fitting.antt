@@ -10,11 +10,11 @@ use Rattle.wt_turn.specs.declared.turn.Turn.{Turn}
 use Rattle.wt_turn.specs.declared.turn.Turn.TheVariants as turns
 use Rattle.wt_turn.specs.Log.{Log, all_events_of, actions_of}
 use Rattle.wt_transport.specs.StreamState.{Stream}
-use Rattle.wt_seam_spec.specs.Streams.{local_uni, peer_uni, peer_bi, stream_count, exists, can_receive, can_send}
-use Rattle.wt_seam_spec.specs.Reports.{is_connected, is_running, loss_of, stop_of, is_acknowledged, credit}
-use Rattle.wt_seam_spec.specs.Sent.{is_finished}
-use Rattle.wt_seam_spec.specs.Arrivals.{may_receive, may_come, fits}
-use Rattle.wt_seam_spec.specs.Unread.{ReadPosition}
+use Rattle.wt_turn.specs.Streams.{local_uni, peer_uni, peer_bi, stream_count, exists, can_receive, can_send}
+use Rattle.wt_turn.specs.Reports.{is_connected, is_running, loss_of, stop_of, is_acknowledged, credit}
+use Rattle.wt_turn.specs.Sent.{is_finished}
+use Rattle.wt_turn.specs.Arrivals.{may_receive, may_come, fits}
+use Rattle.wt_turn.specs.Unread.{ReadPosition}
 use Rattle.wt_transport.specs.StreamState.{has_stream, stream_at}
 use Rattle.wt_transport.specs.State.{TransportState, stream_of, state_of, Facts}
 use Rattle.wt_transport.specs.Step.{count_now, can_receive_now, can_send_now, may_receive_now, may_stop_now, may_ack_now, may_raise_now, may_come_now, fits_now}

@@ -6,8 +6,8 @@ use Rattle.std.proofs.lemmas.Bool.{eqb-true}
 use Rattle.wt_wire.specs.declared.side.Side.{Side}
 use Rattle.wt_turn.specs.declared.action.Action.{Action}
 use Rattle.wt_turn.specs.Log.{Log}
-use Rattle.wt_seam_spec.specs.Streams.{contents}
-use Rattle.wt_seam_spec.specs.Unread.{ReadPosition, GivenUp, from_position, given_up}
+use Rattle.wt_turn.specs.Streams.{contents}
+use Rattle.wt_turn.specs.Unread.{ReadPosition, GivenUp, from_position, given_up}
 use Rattle.wt_transport.specs.StreamState.{Stream}
 use Rattle.wt_transport.specs.Pieces.{AreFilled}
 use Rattle.wt_transport.specs.State.{TransportState, state_of, Refines}

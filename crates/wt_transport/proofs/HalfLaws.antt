@@ -8,9 +8,9 @@ use Rattle.wt_wire.specs.declared.side.Side.{Side}
 use Rattle.wt_turn.specs.declared.action.Action.{Action}
 use Rattle.wt_turn.specs.declared.action.Action.TheVariants as actions
 use Rattle.wt_turn.specs.Log.{Log, Called, PrioritySet, is_open, with_actions}
-use Rattle.wt_seam_spec.specs.Joined.{newest_first}
-use Rattle.wt_seam_spec.specs.Outgoing.{actions_to_send, if_open, reset_entry}
-use Rattle.wt_seam_spec.specs.Unread.{ReadPosition, unread, given_up}
+use Rattle.wt_turn.specs.Joined.{newest_first}
+use Rattle.wt_turn.specs.Outgoing.{actions_to_send, if_open, reset_entry}
+use Rattle.wt_turn.specs.Unread.{ReadPosition, unread, given_up}
 use Rattle.wt_transport.specs.StreamState.{stream_at}
 use Rattle.wt_transport.specs.State.{TransportState, Refines}
 use Rattle.wt_transport.specs.Step.{can_send_now, can_receive_now, may_send_now, after_send, after_finish, after_reset, after_priority, after_stop, after_give_up, unread_now, with_action, if_so}

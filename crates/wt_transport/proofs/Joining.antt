@@ -3,7 +3,7 @@ use Rattle.std.proofs.Common.{arith, ◌≡◌, ◌<◌, ◌+◌, ◌-◌, ℕ, 
 use Rattle.std.proofs.Math.ListN.{set}
 use Rattle.wt_turn.specs.declared.action.Action.{Action}
 use Rattle.wt_turn.specs.declared.action.Action.TheVariants as actions
-use Rattle.wt_seam_spec.specs.Joined.{join_two, join_one}
+use Rattle.wt_turn.specs.Joined.{join_two, join_one}
 use Rattle.wt_transport.specs.LastAction.{is_other, is_send, ends_with_send, with_more}
 
 two-other : (b a : Action) → is_other a ≡ true → join_two b a ≡ b ∷ a ∷ []

@@ -9,11 +9,11 @@ use Rattle.wt_turn.specs.declared.datagram_fact.DatagramFact.{DatagramFact}
 use Rattle.wt_turn.specs.declared.loss.LossReason.{LossReason}
 use Rattle.wt_turn.specs.Log.{Event, Connected, PeerUni, PeerBi, End, Reset, Stop, Acked, Datagram, MaxUni, MaxBi, MaxData, DatagramLimit, Loss, Reported, ReportedLate, Log, events_of, all_events_of, actions_of, is_open}
 use Rattle.wt_transport.specs.StreamState.{Stream}
-use Rattle.wt_seam_spec.specs.Streams.{local_uni, peer_uni, peer_bi, peer_count, local_count, one_more_if, stream_count, exists}
-use Rattle.wt_seam_spec.specs.Reports.{is_connected, initial_credit, credit}
-use Rattle.wt_seam_spec.specs.Arrivals.{event_entry}
-use Rattle.wt_seam_spec.specs.Outgoing.{streams_allowed}
-use Rattle.wt_seam_spec.specs.Unread.{ReadPosition}
+use Rattle.wt_turn.specs.Streams.{local_uni, peer_uni, peer_bi, peer_count, local_count, one_more_if, stream_count, exists}
+use Rattle.wt_turn.specs.Reports.{is_connected, initial_credit, credit}
+use Rattle.wt_turn.specs.Arrivals.{event_entry}
+use Rattle.wt_turn.specs.Outgoing.{streams_allowed}
+use Rattle.wt_turn.specs.Unread.{ReadPosition}
 use Rattle.wt_transport.specs.StreamState.{fresh, signal, with_end, with_stop, with_ack, with_credit, with_sent, with_finish, with_reset, with_priority, receive_unless, with_bytes, consume, give_up, credit_of}
 use Rattle.wt_transport.specs.Pieces.{skip}
 use Rattle.wt_transport.specs.State.{stream_of, IsStream, Facts}

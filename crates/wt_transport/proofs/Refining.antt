@@ -12,12 +12,12 @@ use Rattle.wt_turn.specs.declared.turn.Turn.{Turn}
 use Rattle.wt_turn.specs.declared.turn.Turn.TheVariants as turns
 use Rattle.wt_turn.specs.Log.{Log, Sent, Called, ResetUnsent, PrioritySet, events_of, is_open, with_actions}
 use Rattle.wt_transport.specs.StreamState.{Stream}
-use Rattle.wt_seam_spec.specs.Streams.{local_bi, local_uni, peer_uni, exists, contents, can_send, can_receive}
-use Rattle.wt_seam_spec.specs.Reports.{end_of, datagram_fact, loss_of}
-use Rattle.wt_seam_spec.specs.Arrivals.{fits, log_turn}
-use Rattle.wt_seam_spec.specs.Joined.{joined_actions, newest_first}
-use Rattle.wt_seam_spec.specs.Outgoing.{may_send, actions_to_open, opened_id, credit_left, bytes_within_credit, actions_to_send, if_open, reset_entry}
-use Rattle.wt_seam_spec.specs.Unread.{ReadPosition, unread, at_start, position_after, given_up, IsFront}
+use Rattle.wt_turn.specs.Streams.{local_bi, local_uni, peer_uni, exists, contents, can_send, can_receive}
+use Rattle.wt_turn.specs.Reports.{end_of, datagram_fact, loss_of}
+use Rattle.wt_turn.specs.Arrivals.{fits, log_turn}
+use Rattle.wt_turn.specs.Joined.{joined_actions, newest_first}
+use Rattle.wt_turn.specs.Outgoing.{may_send, actions_to_open, opened_id, credit_left, bytes_within_credit, actions_to_send, if_open, reset_entry}
+use Rattle.wt_turn.specs.Unread.{ReadPosition, unread, at_start, position_after, given_up, IsFront}
 use Rattle.wt_transport.specs.Pieces.{AreFilled, first_piece}
 use Rattle.wt_transport.specs.StreamState.{stream_at}
 use Rattle.wt_transport.specs.State.{TransportState, but_accepted, state_of, Facts, Holds, Refines}

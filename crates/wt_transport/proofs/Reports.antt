@@ -3,7 +3,7 @@ use Rattle.std.proofs.Common.{◌≡◌, ℕ, Bool, true, false, Option, Some, N
 use Rattle.std.specs.Prelude.{is_some, not, if◌then◌else◌}
 use Rattle.wt_wire.specs.declared.side.StreamEnd.{StreamEnd}
 use Rattle.wt_wire.specs.declared.side.StreamEnd.TheVariants as ends
-use Rattle.wt_seam_spec.specs.Reports.{is_running}
+use Rattle.wt_turn.specs.Reports.{is_running}
 use Rattle.wt_transport.specs.declared.reported.Reported.{Reported}
 use Rattle.wt_transport.specs.declared.stream.Stream.TheInside.{Inside}
 use Rattle.wt_transport.specs.contracts.stream.Stream.{the_view}

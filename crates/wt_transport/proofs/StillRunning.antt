@@ -5,11 +5,11 @@ use Rattle.wt_wire.specs.declared.side.Side.{Side}
 use Rattle.wt_turn.specs.declared.action.Action.{Action}
 use Rattle.wt_turn.specs.declared.action.Action.TheVariants as actions
 use Rattle.wt_turn.specs.Log.{Log, events_of, with_actions}
-use Rattle.wt_seam_spec.specs.Streams.{can_receive, can_send, exists, local_uni, peer_uni, stream_count}
-use Rattle.wt_seam_spec.specs.Reports.{end_of, is_running}
-use Rattle.wt_seam_spec.specs.Joined.{newest_first}
-use Rattle.wt_seam_spec.specs.Outgoing.{if_open, reset_entry}
-use Rattle.wt_seam_spec.specs.Unread.{ReadPosition, unread}
+use Rattle.wt_turn.specs.Streams.{can_receive, can_send, exists, local_uni, peer_uni, stream_count}
+use Rattle.wt_turn.specs.Reports.{end_of, is_running}
+use Rattle.wt_turn.specs.Joined.{newest_first}
+use Rattle.wt_turn.specs.Outgoing.{if_open, reset_entry}
+use Rattle.wt_turn.specs.Unread.{ReadPosition, unread}
 use Rattle.wt_transport.specs.StreamState.{Stream, stream_at}
 use Rattle.wt_transport.specs.State.{TransportState, Refines, state_of}
 use Rattle.wt_transport.specs.Step.{after_reset, after_stop, can_send_now, end_now}

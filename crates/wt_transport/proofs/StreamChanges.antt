@@ -7,10 +7,10 @@ use Rattle.wt_wire.specs.declared.side.StreamEnd.TheVariants as ends
 use Rattle.wt_turn.specs.declared.action.Action.TheVariants as actions
 use Rattle.wt_turn.specs.Log.{End, Reset, Stop, Acked, MaxData, ResetUnsent, PrioritySet, Sent, Called, Log, newest, events_of, all_events_of, actions_of, calls_of}
 use Rattle.wt_transport.specs.StreamState.{Stream}
-use Rattle.wt_seam_spec.specs.Reports.{end_reported, credit_reported}
-use Rattle.wt_seam_spec.specs.Sent.{sent_on, priority_set}
-use Rattle.wt_seam_spec.specs.Arrivals.{event_entry}
-use Rattle.wt_seam_spec.specs.Unread.{ReadPosition, AtOffset, GivenUp, is_given_up, advance, position_after, given_up}
+use Rattle.wt_turn.specs.Reports.{end_reported, credit_reported}
+use Rattle.wt_turn.specs.Sent.{sent_on, priority_set}
+use Rattle.wt_turn.specs.Arrivals.{event_entry}
+use Rattle.wt_turn.specs.Unread.{ReadPosition, AtOffset, GivenUp, is_given_up, advance, position_after, given_up}
 use Rattle.wt_transport.specs.Pieces.{with_piece, skip}
 use Rattle.wt_transport.specs.StreamState.{signal, with_ack, with_credit, with_end, with_finish, with_priority, with_reset, with_sent, with_stop, with_bytes, consume, give_up}
 use Rattle.wt_transport.specs.State.{stream_of}

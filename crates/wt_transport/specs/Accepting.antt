@@ -1,6 +1,6 @@
 -- Which of the peer's streams is accepted next (this repository's rule: in the order of their ids, each once).
 use Rattle.std.specs.Prelude.{ℕ, ◌+◌, ◌*◌, ◌^◌, Option, Some, None, nat_lt, ◌&&◌, if◌then◌else◌}
-use Rattle.wt_seam_spec.specs.Streams.{peer_bi, peer_uni}
+use Rattle.wt_turn.specs.Streams.{peer_bi, peer_uni}
 use Rattle.wt_transport.specs.State.{TransportState}
 use Rattle.wt_transport.specs.Step.{count_now}
 

@@ -1,7 +1,7 @@
 -- Kinds of streams by the end that opens them (RFC 9000, section 2.1).
 use Rattle.std.specs.Prelude.{ℕ, Bool, true, false}
 use Rattle.wt_wire.specs.declared.side.Side.{Side}
-use Rattle.wt_seam_spec.specs.Streams.{local_bi, local_uni, peer_bi, peer_uni}
+use Rattle.wt_turn.specs.Streams.{local_bi, local_uni, peer_bi, peer_uni}
 
 -- the kind of the streams that this end opens, bidirectional or not
 abbrev pub local_kind : Bool → Side → ℕ

@@ -1,10 +1,10 @@
-pub use Rattle.wt_seam_spec.specs.Streams
-pub use Rattle.wt_seam_spec.specs.Reports
-pub use Rattle.wt_seam_spec.specs.Sent
-pub use Rattle.wt_seam_spec.specs.Arrivals
-pub use Rattle.wt_seam_spec.specs.Joined
-pub use Rattle.wt_seam_spec.specs.Outgoing
-pub use Rattle.wt_seam_spec.specs.Unread
+pub use Rattle.wt_turn.specs.Streams
+pub use Rattle.wt_turn.specs.Reports
+pub use Rattle.wt_turn.specs.Sent
+pub use Rattle.wt_turn.specs.Arrivals
+pub use Rattle.wt_turn.specs.Joined
+pub use Rattle.wt_turn.specs.Outgoing
+pub use Rattle.wt_turn.specs.Unread
 pub mod Kind
 pub mod Pieces
 pub mod HalfRules

@@ -2,8 +2,8 @@
 -- taken, so a call says it of each log that the transport refines, however far these are.
 use Rattle.std.specs.Prelude.{List, OnOk, Result, ℕ}
 use Rattle.wt_transport.specs.State.{Refines, TransportState}
-use Rattle.wt_seam_spec.specs.Joined.{newest_first}
-use Rattle.wt_seam_spec.specs.Unread.{ReadPosition}
+use Rattle.wt_turn.specs.Joined.{newest_first}
+use Rattle.wt_turn.specs.Unread.{ReadPosition}
 use Rattle.wt_turn.specs.Log.{Log, with_actions}
 use Rattle.wt_turn.specs.declared.action.Action.{Action}
 use Rattle.wt_wire.specs.declared.side.Side.{Side}

@@ -4,10 +4,10 @@ use Rattle.wt_wire.specs.declared.side.Side.{Side}
 use Rattle.wt_turn.specs.declared.action.Action.{Action}
 use Rattle.wt_turn.specs.declared.action.Action.TheVariants as actions
 use Rattle.wt_turn.specs.Log.{Log, Called, PrioritySet, is_open, events_of, actions_of, calls_of}
-use Rattle.wt_seam_spec.specs.Reports.{end_of, stop_of, is_acknowledged}
-use Rattle.wt_seam_spec.specs.Sent.{is_finished, is_reset, priority_of}
-use Rattle.wt_seam_spec.specs.Outgoing.{credit_left, may_send, actions_to_send, if_open, reset_entry}
-use Rattle.wt_seam_spec.specs.Unread.{ReadPosition, unread}
+use Rattle.wt_turn.specs.Reports.{end_of, stop_of, is_acknowledged}
+use Rattle.wt_turn.specs.Sent.{is_finished, is_reset, priority_of}
+use Rattle.wt_turn.specs.Outgoing.{credit_left, may_send, actions_to_send, if_open, reset_entry}
+use Rattle.wt_turn.specs.Unread.{ReadPosition, unread}
 use Rattle.wt_transport.specs.HalfRules.{SendingHalf, ReceivingHalf, is_closed}
 use Rattle.wt_transport.specs.StreamState.{stream_at, sending_half_of}
 use Rattle.wt_transport.specs.State.{TransportState}

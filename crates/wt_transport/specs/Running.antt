@@ -4,11 +4,11 @@ use Rattle.wt_wire.specs.declared.side.Side.{Side}
 use Rattle.wt_turn.specs.declared.action.Action.{Action}
 use Rattle.wt_turn.specs.declared.action.Action.TheVariants as actions
 use Rattle.wt_turn.specs.Log.{Log, actions_of, events_of}
-use Rattle.wt_seam_spec.specs.Streams.{can_receive, can_send}
-use Rattle.wt_seam_spec.specs.Reports.{end_of, is_running}
-use Rattle.wt_seam_spec.specs.Sent.{is_finished, is_reset}
-use Rattle.wt_seam_spec.specs.Outgoing.{if_open, reset_entry}
-use Rattle.wt_seam_spec.specs.Unread.{ReadPosition, is_given_up}
+use Rattle.wt_turn.specs.Streams.{can_receive, can_send}
+use Rattle.wt_turn.specs.Reports.{end_of, is_running}
+use Rattle.wt_turn.specs.Sent.{is_finished, is_reset}
+use Rattle.wt_turn.specs.Outgoing.{if_open, reset_entry}
+use Rattle.wt_turn.specs.Unread.{ReadPosition, is_given_up}
 use Rattle.wt_transport.specs.StreamState.{stream_at}
 use Rattle.wt_transport.specs.Kind.{peer_kind}
 use Rattle.wt_transport.specs.State.{TransportState}

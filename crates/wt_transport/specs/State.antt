@@ -8,12 +8,12 @@ use Rattle.wt_turn.specs.declared.loss.LossReason.{LossReason}
 use Rattle.wt_turn.specs.declared.action.Action.{Action}
 use Rattle.wt_turn.specs.Log.{Event, Log, events_of, all_events_of, actions_of, calls_of, is_open}
 use Rattle.wt_transport.specs.StreamState.{Signals, Stream}
-use Rattle.wt_seam_spec.specs.Streams.{contents, stream_count, local_uni}
-use Rattle.wt_seam_spec.specs.Reports.{end_of, stop_of, is_acknowledged, credit, initial_credit, is_connected, unis_allowed, bis_allowed, datagram_fact, loss_of}
-use Rattle.wt_seam_spec.specs.Sent.{sent_on, is_finished, is_reset, has_dialled, priority_of}
-use Rattle.wt_seam_spec.specs.Joined.{joined_actions}
-use Rattle.wt_seam_spec.specs.Outgoing.{streams_allowed}
-use Rattle.wt_seam_spec.specs.Unread.{ReadPosition, AtOffset, GivenUp, is_given_up, unread}
+use Rattle.wt_turn.specs.Streams.{contents, stream_count, local_uni}
+use Rattle.wt_turn.specs.Reports.{end_of, stop_of, is_acknowledged, credit, initial_credit, is_connected, unis_allowed, bis_allowed, datagram_fact, loss_of}
+use Rattle.wt_turn.specs.Sent.{sent_on, is_finished, is_reset, has_dialled, priority_of}
+use Rattle.wt_turn.specs.Joined.{joined_actions}
+use Rattle.wt_turn.specs.Outgoing.{streams_allowed}
+use Rattle.wt_turn.specs.Unread.{ReadPosition, AtOffset, GivenUp, is_given_up, unread}
 use Rattle.wt_transport.specs.Pieces.{AreFilled}
 use Rattle.wt_transport.specs.StreamState.{fresh, rows}
 

@@ -13,9 +13,9 @@ use Rattle.wt_turn.specs.declared.action.Action.TheVariants as actions
 use Rattle.wt_turn.specs.Log.{Event, Connected, PeerUni, PeerBi, End, Reset, Stop, Acked, Datagram, MaxUni, MaxBi, MaxData, DatagramLimit, Loss}
 use Rattle.wt_turn.specs.Turns.{event_of}
 use Rattle.wt_transport.specs.StreamState.{Stream}
-use Rattle.wt_seam_spec.specs.Streams.{local_uni, peer_uni, peer_bi}
-use Rattle.wt_seam_spec.specs.Reports.{is_running}
-use Rattle.wt_seam_spec.specs.Joined.{join_one}
+use Rattle.wt_turn.specs.Streams.{local_uni, peer_uni, peer_bi}
+use Rattle.wt_turn.specs.Reports.{is_running}
+use Rattle.wt_turn.specs.Joined.{join_one}
 use Rattle.wt_transport.specs.StreamState as stream
 use Rattle.wt_transport.specs.State.{TransportState, nothing_accepted}
 

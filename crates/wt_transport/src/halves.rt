@@ -2,9 +2,9 @@
 ghost use Rattle.std.specs.Prelude.{◌≡◌, ◌++◌, length, take, drop, IfOk, IsTrue, OnErr, OnOk};
 ghost use Rattle.wt_turn.specs.declared.action.Action.TheVariants as actions;
 ghost use Rattle.wt_turn.specs.Log.{is_open, with_actions};
-ghost use Rattle.wt_seam_spec.specs.Joined.{newest_first};
-ghost use Rattle.wt_seam_spec.specs.Outgoing.{if_open};
-ghost use Rattle.wt_seam_spec.specs.Unread.{position_after, given_up, unread};
+ghost use Rattle.wt_turn.specs.Joined.{newest_first};
+ghost use Rattle.wt_turn.specs.Outgoing.{if_open};
+ghost use Rattle.wt_turn.specs.Unread.{position_after, given_up, unread};
 ghost use Rattle.wt_transport.specs.OfLog.{OfEachLog, SendsIfOk, Tells, TellsUnread};
 ghost use Rattle.wt_transport.specs.State.{Refines};
 ghost use Rattle.wt_transport.specs.Step.{after_consume, after_give_up, after_stop, can_receive_now, can_send_now, unread_now};

@@ -1,6 +1,6 @@
 //! What goes out, until it is collected.
 ghost use Rattle.std.specs.Prelude.{◌≡◌, ◌++◌, ◌∷◌, [], OnErr, OnOk, IsTrue, List};
-ghost use Rattle.wt_seam_spec.specs.Joined.{join_one};
+ghost use Rattle.wt_turn.specs.Joined.{join_one};
 ghost use Rattle.wt_transport.specs.LastAction.{ends_with_send, is_other, is_send, with_more};
 
 use std::alloc::Global;

@@ -1,7 +1,7 @@
 //! What is kept of one stream.
 ghost use Rattle.std.specs.Prelude.{◌≡◌, ◌≤◌, ◌&&◌, length, min, not, is_some, IsTrue, OnErr, OnOk};
 ghost use Rattle.std.specs.List.{concat};
-ghost use Rattle.wt_seam_spec.specs.Reports.{is_running};
+ghost use Rattle.wt_turn.specs.Reports.{is_running};
 ghost use Rattle.wt_transport.specs.Deciding.{write_decision};
 ghost use Rattle.wt_transport.specs.HalfRules.{finish_answer, is_closed, stopped_answer, write_refusal};
 ghost use Rattle.wt_transport.specs.Rules.{is_writable};

@@ -1,10 +1,10 @@
 //! What is kept of the transport: the streams, what may go out on them, and whether the connection is open or how it ended.
 ghost use Rattle.std.specs.Prelude.{◌≡◌, ◌<◌, ◌≤◌, ◌^◌, ◌∷◌, [], None, IsTrue, OnErr, OnOk, false, option_copied};
 ghost use Rattle.wt_turn.specs.Log.{events_of, is_open};
-ghost use Rattle.wt_seam_spec.specs.Reports.{datagram_fact, loss_of};
-ghost use Rattle.wt_seam_spec.specs.Joined.{joined_actions};
-ghost use Rattle.wt_seam_spec.specs.Outgoing.{if_open};
-ghost use Rattle.wt_seam_spec.specs.Unread.{at_start};
+ghost use Rattle.wt_turn.specs.Reports.{datagram_fact, loss_of};
+ghost use Rattle.wt_turn.specs.Joined.{joined_actions};
+ghost use Rattle.wt_turn.specs.Outgoing.{if_open};
+ghost use Rattle.wt_turn.specs.Unread.{at_start};
 ghost use Rattle.wt_transport.specs.StreamState.{has_stream, stream_at};
 ghost use Rattle.wt_transport.specs.OfLog.{OfEachLog, SendsIfOk, Tells, TellsUnread};
 ghost use Rattle.wt_transport.specs.State.{Refines, TransportState};

@@ -5,3 +5,4 @@ pub mod EqualCalls
 pub mod EqualParts
 pub mod EqualReplies
 pub mod EqualTurns
+pub mod PeerStreams

@@ -5,3 +5,12 @@ pub mod Poll
 pub mod Log
 pub mod Records
 pub mod Turns
+pub mod Streams
+pub mod Reports
+pub mod Sent
+pub mod Arrivals
+pub mod Joined
+pub mod Outgoing
+pub mod Unread
+pub mod TransportRows
+pub mod Acting

@@ -29,6 +29,7 @@ pub mod rows;
 pub mod send;
 pub mod sequence;
 pub mod stream_error;
+pub mod transport_rows;
 pub mod turn;
 
 pub use action::{Action, Actions};

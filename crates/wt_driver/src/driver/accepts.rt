@@ -11,7 +11,7 @@ ghost use Rattle.wt_driver_laws.specs.Replies.{IfGiven};
 ghost use Rattle.wt_kept.specs.Calling.{on_sessions};
 ghost use Rattle.wt_meaning.specs.Lawful.{is_client};
 ghost use Rattle.wt_peer_streams.specs.Living.{datagram_given};
-ghost use Rattle.wt_seam_spec.specs.Streams.{peer_bi, peer_uni};
+ghost use Rattle.wt_turn.specs.Streams.{peer_bi, peer_uni};
 
 use super::Driver;
 use wt_peer_streams::Datagram;

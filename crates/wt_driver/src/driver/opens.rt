@@ -14,7 +14,7 @@ ghost use Rattle.wt_meaning.specs.Lawful.{is_client};
 ghost use Rattle.wt_driver.specs.Opening.{IsFreshlyOpened, OpensFor, stream_opened};
 ghost use Rattle.wt_transport.specs.Kind.{local_kind};
 ghost use Rattle.wt_transport.specs.Step.{after_opening, opened_id_now};
-ghost use Rattle.wt_seam_spec.specs.Streams.{local_bi, local_count, local_uni};
+ghost use Rattle.wt_turn.specs.Streams.{local_bi, local_count, local_uni};
 ghost use Rattle.wt_turn.specs.Log.{actions_of};
 ghost use Rattle.wt_turn.specs.declared.call.Call.TheVariants as calls;
 

@@ -7,8 +7,8 @@ ghost use Rattle.wt_driver_laws.specs.Sessions.{response_answer};
 ghost use Rattle.wt_kept.specs.Calling.{response_over, response_read, response_slot};
 ghost use Rattle.wt_meaning.specs.Lawful.{is_client};
 ghost use Rattle.wt_proto.specs.ResponseWalk.{response_walk_of};
-ghost use Rattle.wt_seam_spec.specs.Reports.{end_of};
-ghost use Rattle.wt_seam_spec.specs.Streams.{contents, local_bi};
+ghost use Rattle.wt_turn.specs.Reports.{end_of};
+ghost use Rattle.wt_turn.specs.Streams.{contents, local_bi};
 ghost use Rattle.wt_turn.specs.Log.{events_of};
 
 use super::Driver;

@@ -10,7 +10,7 @@ ghost use Rattle.wt_kept.specs.Calling.{close_now, end_session_now, has_place, m
 ghost use Rattle.wt_kept.specs.Moment.{moment_now};
 ghost use Rattle.wt_kept.specs.Windows.{establish_now};
 ghost use Rattle.wt_meaning.specs.Lawful.{is_client};
-ghost use Rattle.wt_seam_spec.specs.Outgoing.{if_open};
+ghost use Rattle.wt_turn.specs.Outgoing.{if_open};
 ghost use Rattle.wt_turn.specs.Log.{RequestRejected, with_actions};
 ghost use Rattle.wt_turn.specs.declared.action.Action.TheVariants as actions;
 ghost use Rattle.wt_turn.specs.declared.call.Call.TheVariants as calls;

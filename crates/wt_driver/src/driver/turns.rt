@@ -4,7 +4,7 @@ ghost use Rattle.wt_driver_laws.specs.Calling.{Always};
 ghost use Rattle.wt_driver_laws.specs.Driving.{Follows, pieces_in, pieces_of};
 ghost use Rattle.wt_kept.specs.Calling.{turn_now, with_datagram_queued};
 ghost use Rattle.wt_transport.specs.StreamState.{piece_count};
-ghost use Rattle.wt_seam_spec.specs.Arrivals.{fits};
+ghost use Rattle.wt_turn.specs.Arrivals.{fits};
 ghost use Rattle.wt_sessions.specs.Answers.{log_after};
 
 use super::Driver;

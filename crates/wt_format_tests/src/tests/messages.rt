@@ -4,7 +4,7 @@
 use crate::tests::shown::{OWN_SETTINGS, REQUEST, shows};
 use std::alloc::Global;
 use std::process::Abort;
-use wt_message::capsule::{CloseWebTransportSession, find_close};
+use wt_message::capsule::CloseWebTransportSession;
 use wt_message::datagram::H3Datagram;
 use wt_message::session::{SessionRequest, SessionResponse};
 use wt_proto::outgoing::control_stream_head;
@@ -133,8 +133,7 @@ fn a_response_takes_fields(rt: HostRuntime) {
 #[test]
 fn a_capsule_closes(rt: HostRuntime) {
     let alloc = rt.alloc();
-    let value = find_close(b"\x68\x43\x06\x00\x00\x01\x02hiMORE").expect(&rt, "no capsule");
-    let close = CloseWebTransportSession::with_capsule(alloc, value);
+    let close = CloseWebTransportSession::with_capsule(alloc, b"\x00\x00\x01\x02hi");
     let shown =
         "Ok(Ok(CloseWebTransportSession { error_code: VarInt { value: 258 }, reason: Text { text: \"hi\" } }))";
     shows(&rt, alloc, close, shown);

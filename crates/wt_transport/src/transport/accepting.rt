@@ -1,6 +1,6 @@
 //! Which of the peer's streams were accepted. Nothing here takes memory.
 ghost use Rattle.std.specs.Prelude.{◌≡◌, IfSome, IsTrue, ◌&&◌};
-ghost use Rattle.wt_seam_spec.specs.Streams.{peer_bi, peer_uni, stream_count};
+ghost use Rattle.wt_turn.specs.Streams.{peer_bi, peer_uni, stream_count};
 ghost use Rattle.wt_transport.specs.Accepting.{after_accept_bi, after_accept_uni, next_peer_bi, next_peer_uni, stream_after};
 ghost use Rattle.wt_transport.specs.OfLog.{OfEachLog, Tells};
 ghost use Rattle.wt_transport.specs.State.{Refines};

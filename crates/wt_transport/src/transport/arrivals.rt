@@ -2,8 +2,8 @@
 ghost use Rattle.std.specs.Prelude.{◌≡◌, ◌<◌, ◌≤◌, ◌^◌, Some, IsTrue, OnErr, OnOk, ◌&&◌, not, nat_lt, is_some, List, ℕ};
 ghost use Rattle.wt_turn.specs.Log.{Acked, Connected, DatagramLimit, Loss, MaxData, Stop};
 ghost use Rattle.wt_wire.specs.declared.side.Side.{Side};
-ghost use Rattle.wt_seam_spec.specs.Reports.{is_running};
-ghost use Rattle.wt_seam_spec.specs.Arrivals.{fits, log_turn};
+ghost use Rattle.wt_turn.specs.Reports.{is_running};
+ghost use Rattle.wt_turn.specs.Arrivals.{fits, log_turn};
 ghost use Rattle.wt_transport.specs.StreamState.{has_stream, signal, stream_at, with_end};
 ghost use Rattle.wt_transport.specs.OfLog.{OfEachLog, Tells};
 ghost use Rattle.wt_transport.specs.State.{Refines};

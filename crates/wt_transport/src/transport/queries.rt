@@ -1,9 +1,9 @@
 //! What was reported, and what went out.
 ghost use Rattle.std.specs.Prelude.{◌≡◌, length, true};
 ghost use Rattle.wt_turn.specs.Log.{actions_of, all_events_of, events_of, is_open};
-ghost use Rattle.wt_seam_spec.specs.Streams.{peer_bi, peer_uni, stream_count};
-ghost use Rattle.wt_seam_spec.specs.Reports.{bis_allowed, credit, is_acknowledged, is_connected, stop_of, unis_allowed};
-ghost use Rattle.wt_seam_spec.specs.Sent.{is_finished, is_reset, sent_on};
+ghost use Rattle.wt_turn.specs.Streams.{peer_bi, peer_uni, stream_count};
+ghost use Rattle.wt_turn.specs.Reports.{bis_allowed, credit, is_acknowledged, is_connected, stop_of, unis_allowed};
+ghost use Rattle.wt_turn.specs.Sent.{is_finished, is_reset, sent_on};
 ghost use Rattle.wt_transport.specs.OfLog.{Tells};
 ghost use Rattle.wt_transport.specs.Step.{count_now, credit_now, is_acknowledged_now, is_finished_now, is_reset_now, sent_now, stop_now};
 

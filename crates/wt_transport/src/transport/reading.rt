@@ -3,10 +3,10 @@ ghost use Rattle.std.specs.Prelude.{◌≡◌, ◌<◌, ◌≤◌, ◌^◌, ◌-
 ghost use Rattle.wt_turn.specs.Log.{events_of};
 ghost use Rattle.wt_wire.specs.declared.side.StreamEnd.{StreamEnd};
 ghost use Rattle.wt_wire.specs.declared.side.StreamEnd.TheVariants as ends;
-ghost use Rattle.wt_seam_spec.specs.Streams.{can_receive};
-ghost use Rattle.wt_seam_spec.specs.Reports.{end_of};
+ghost use Rattle.wt_turn.specs.Streams.{can_receive};
+ghost use Rattle.wt_turn.specs.Reports.{end_of};
 ghost use Rattle.wt_transport.specs.Pieces.{first_piece};
-ghost use Rattle.wt_seam_spec.specs.Unread.{GivenUp, IsFront, position_after, given_up, unread};
+ghost use Rattle.wt_turn.specs.Unread.{GivenUp, IsFront, position_after, given_up, unread};
 ghost use Rattle.wt_transport.specs.StreamState.{piece_count};
 ghost use Rattle.wt_transport.specs.Deciding.{read_decision, taken};
 ghost use Rattle.wt_transport.specs.Rules.{receiving_half_now};

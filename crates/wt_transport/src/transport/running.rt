@@ -1,10 +1,10 @@
 //! What still runs of a stream.
 ghost use Rattle.std.specs.Prelude.{◌≡◌, length, OnErr, OnOk, ◌==◌, ◌&&◌};
 ghost use Rattle.wt_turn.specs.Log.{events_of, with_actions};
-ghost use Rattle.wt_seam_spec.specs.Streams.{stream_count};
-ghost use Rattle.wt_seam_spec.specs.Reports.{end_of, is_running};
-ghost use Rattle.wt_seam_spec.specs.Joined.{newest_first};
-ghost use Rattle.wt_seam_spec.specs.Unread.{unread};
+ghost use Rattle.wt_turn.specs.Streams.{stream_count};
+ghost use Rattle.wt_turn.specs.Reports.{end_of, is_running};
+ghost use Rattle.wt_turn.specs.Joined.{newest_first};
+ghost use Rattle.wt_turn.specs.Unread.{unread};
 ghost use Rattle.wt_transport.specs.Accepting.{stream_after};
 ghost use Rattle.wt_transport.specs.Kind.{peer_kind};
 ghost use Rattle.wt_transport.specs.OfLog.{OfEachLog, Tells, TellsUnread};

@@ -1,9 +1,9 @@
 //! What goes out on streams.
 ghost use Rattle.std.specs.Prelude.{◌≡◌, ◌≤◌, ◌^◌, ◌∷◌, [], Some, None, IfOk, IsTrue, OnErr, OnOk, length, min, false};
 ghost use Rattle.wt_turn.specs.Log.{Called, PrioritySet};
-ghost use Rattle.wt_seam_spec.specs.Streams.{local_bi, local_uni};
-ghost use Rattle.wt_seam_spec.specs.Joined.{newest_first};
-ghost use Rattle.wt_seam_spec.specs.Outgoing.{credit_left, if_open, may_send, opened_id, actions_to_open, reset_entry, actions_to_send};
+ghost use Rattle.wt_turn.specs.Streams.{local_bi, local_uni};
+ghost use Rattle.wt_turn.specs.Joined.{newest_first};
+ghost use Rattle.wt_turn.specs.Outgoing.{credit_left, if_open, may_send, opened_id, actions_to_open, reset_entry, actions_to_send};
 ghost use Rattle.wt_transport.specs.StreamState.{credit_of, has_stream, stream_at, with_sent};
 ghost use Rattle.wt_transport.specs.Deciding.{write_decision};
 ghost use Rattle.wt_transport.specs.Kind.{local_kind};

@@ -2,7 +2,7 @@ use Rattle.std.proofs.Common.{subst, ℕ}
 use Rattle.std.specs.Prelude.{List}
 use Rattle.wt_driver_laws.specs.Driving.{Follows}
 use Rattle.wt_session.proofs.Connects.{fails}
-use Rattle.wt_seam_spec.specs.Outgoing.{if_open}
+use Rattle.wt_turn.specs.Outgoing.{if_open}
 use Rattle.wt_turn.specs.Log.{with_actions}
 use Rattle.wt_turn.specs.declared.action.Action.TheVariants as actions
 use Rattle.wt_session.proofs.connecting.fail.Goals as goal

@@ -7,7 +7,7 @@ use Rattle.wt_transport.specs.Step.{end_now, unread_now}
 use Rattle.wt_peer_streams.proofs.Counts.{counts-more, counts-noted}
 use Rattle.wt_peer_streams.proofs.ReadLoop.{Joins, both-goes, either-over, goes-on, read-whole, shorter}
 use Rattle.wt_peer_streams.specs.Feeding.{Took}
-use Rattle.wt_seam_spec.specs.Reports.{is_running}
+use Rattle.wt_turn.specs.Reports.{is_running}
 use Rattle.wt_peer_streams.proofs.reading.Reading.read.Goals as goal
 
 pub loop-self-smaller : goal.loop-self-smaller

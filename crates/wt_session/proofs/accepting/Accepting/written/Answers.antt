@@ -7,7 +7,7 @@ use Rattle.wt_driver_laws.specs.Handing.{write_actions}
 use Rattle.wt_session.proofs.Acceptances.{begun-does, closed-does, if-ok, may-begin, pending-does, says-why, stopped-with}
 use Rattle.wt_session.proofs.Middle.{events-stay}
 use Rattle.wt_session.proofs.Sessions.{later-within}
-use Rattle.wt_seam_spec.specs.Reports.{loss_of}
+use Rattle.wt_turn.specs.Reports.{loss_of}
 use Rattle.wt_turn.specs.Log.{Event}
 use Rattle.wt_turn.specs.declared.reply.Reply.TheVariants as replies
 use Rattle.wt_session.proofs.accepting.Accepting.written.Goals as goal

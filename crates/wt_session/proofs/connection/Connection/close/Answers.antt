@@ -3,7 +3,7 @@ use Rattle.wt_driver_laws.specs.Driving.{Follows}
 use Rattle.wt_driver_laws.specs.Calling.{log_record}
 use Rattle.wt_session.proofs.Sessions.{close-does, later-within, within}
 use Rattle.wt_turn.specs.Log.{Polled, with_actions}
-use Rattle.wt_seam_spec.specs.Outgoing.{if_open}
+use Rattle.wt_turn.specs.Outgoing.{if_open}
 use Rattle.wt_turn.specs.declared.action.Action.TheVariants as actions
 use Rattle.std.specs.Prelude.{[], List}
 use Rattle.wt_session.proofs.connection.Connection.close.Goals as goal

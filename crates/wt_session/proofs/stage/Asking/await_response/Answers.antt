@@ -4,8 +4,8 @@ use Rattle.wt_session.proofs.Acceptances.{if-ok}
 use Rattle.wt_session.specs.Replies.{connecting_reply}
 use Rattle.wt_session.proofs.Connects.{response-is}
 use Rattle.wt_proto.specs.ResponseWalk.{response_walk_of}
-use Rattle.wt_seam_spec.specs.Reports.{end_of}
-use Rattle.wt_seam_spec.specs.Streams.{contents}
+use Rattle.wt_turn.specs.Reports.{end_of}
+use Rattle.wt_turn.specs.Streams.{contents}
 use Rattle.wt_turn.specs.Log.{events_of}
 use Rattle.std.specs.Prelude.{◌≡◌}
 use Rattle.wt_session.proofs.stage.Asking.await_response.Goals as goal

@@ -1,5 +1,5 @@
 use Rattle.std.proofs.Common.{◌≡◌, length, take, drop, min, ◌++◌, ap, sym, subst, ◌∙◌}
-use Rattle.wt_seam_spec.specs.Unread.{position_after}
+use Rattle.wt_turn.specs.Unread.{position_after}
 use Rattle.wt_transport.specs.State.{Refines}
 use Rattle.wt_transport.specs.Step.{after_consume, unread_now}
 use Rattle.wt_transport.specs.HalfRules.{ReceivingHalf, read_answer, read_count}

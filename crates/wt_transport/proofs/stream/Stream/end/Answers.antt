@@ -1,5 +1,5 @@
 use Rattle.std.proofs.Common.{ap, ◌∙◌}
-use Rattle.wt_seam_spec.specs.Reports.{is_running}
+use Rattle.wt_turn.specs.Reports.{is_running}
 use Rattle.wt_transport.specs.StreamState.{Stream, with_end, signal}
 use Rattle.wt_transport.proofs.Reports.{end_is}
 use Rattle.wt_transport.proofs.stream.Stream.end.Goals as goal

@@ -4,7 +4,7 @@ use Rattle.std.specs.List.{list_any}
 use Rattle.wt_turn.specs.declared.action.Action.{Action}
 use Rattle.wt_turn.specs.declared.action.Action.TheVariants as actions
 use Rattle.wt_turn.specs.Log.{CallRecord, ResetUnsent, PrioritySet, Entry, Sent, Called, Log, newest}
-use Rattle.wt_seam_spec.specs.Reports.{if_same}
+use Rattle.wt_turn.specs.Reports.{if_same}
 
 -- these bytes, and those that the action sends on this stream
 abbrev pub with_sent_piece : ℕ → Action → List ℕ → List ℕ

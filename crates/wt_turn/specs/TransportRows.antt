@@ -4,7 +4,7 @@ use Rattle.wt_turn.specs.declared.action.Action.TheVariants as actions
 use Rattle.wt_turn.specs.declared.datagram_fact.DatagramFact.TheVariants.{Limit}
 use Rattle.wt_turn.specs.declared.turn.Turn.TheVariants as turns
 use Rattle.wt_turn.specs.Log.{Log, with_actions}
-use Rattle.wt_seam_spec.specs.Arrivals.{log_turn}
+use Rattle.wt_turn.specs.Arrivals.{log_turn}
 
 -- a connection with one unidirectional stream and three bytes of credit
 abbrev pub connected_log : Log

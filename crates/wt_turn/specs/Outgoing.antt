@@ -4,10 +4,10 @@ use Rattle.wt_wire.specs.declared.side.Side.{Side}
 use Rattle.wt_turn.specs.declared.action.Action.{Action}
 use Rattle.wt_turn.specs.declared.action.Action.TheVariants as actions
 use Rattle.wt_turn.specs.Log.{ResetUnsent, Entry, Sent, Called, Log, events_of, all_events_of, actions_of, is_open}
-use Rattle.wt_seam_spec.specs.Reports.{stop_of, credit, unis_allowed, bis_allowed}
-use Rattle.wt_seam_spec.specs.Sent.{sent_on, is_finished, is_reset}
-use Rattle.wt_seam_spec.specs.Streams.{local_uni, stream_count, can_send}
-use Rattle.wt_seam_spec.specs.Joined.{send_of}
+use Rattle.wt_turn.specs.Reports.{stop_of, credit, unis_allowed, bis_allowed}
+use Rattle.wt_turn.specs.Sent.{sent_on, is_finished, is_reset}
+use Rattle.wt_turn.specs.Streams.{local_uni, stream_count, can_send}
+use Rattle.wt_turn.specs.Joined.{send_of}
 
 -- how many streams of a local kind may be opened in all
 abbrev pub streams_allowed : Side → Log → ℕ → ℕ

@@ -1,7 +1,7 @@
 -- The streams that the peer opened while the connection was open are among all that it opened.
 use Rattle.std.proofs.Common.{arith}
 use Rattle.std.specs.Prelude.{[], ◌∷◌, ◌≤◌, Bool, false, true, ℕ}
-use Rattle.wt_seam_spec.specs.Streams.{one_more_if, peer_count, peer_opens}
+use Rattle.wt_turn.specs.Streams.{one_more_if, peer_count, peer_opens}
 use Rattle.wt_turn.specs.Log.{Log, Reported, ReportedLate, all_events_of, events_of}
 use Rattle.wt_wire.specs.declared.side.Side.{Side}
 

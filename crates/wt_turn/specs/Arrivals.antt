@@ -7,9 +7,9 @@ use Rattle.wt_turn.specs.declared.turn.Turn.{Turn}
 use Rattle.wt_turn.specs.declared.turn.Turn.TheVariants as turns
 use Rattle.wt_turn.specs.Log.{Event, Entry, Received, Reported, ReportedLate, Log, all_events_of, actions_of, is_open}
 use Rattle.wt_turn.specs.Turns.{event_of}
-use Rattle.wt_seam_spec.specs.Reports.{end_of, stop_of, is_acknowledged, credit, is_connected, unis_allowed, bis_allowed, loss_of, is_running}
-use Rattle.wt_seam_spec.specs.Sent.{is_finished, is_reset, has_dialled}
-use Rattle.wt_seam_spec.specs.Streams.{peer_uni, peer_bi, stream_count, can_receive, can_send}
+use Rattle.wt_turn.specs.Reports.{end_of, stop_of, is_acknowledged, credit, is_connected, unis_allowed, bis_allowed, loss_of, is_running}
+use Rattle.wt_turn.specs.Sent.{is_finished, is_reset, has_dialled}
+use Rattle.wt_turn.specs.Streams.{peer_uni, peer_bi, stream_count, can_receive, can_send}
 
 -- ---- which turn may come
 

@@ -1,7 +1,7 @@
 -- What of a stream's contents its reader hasn't read. A log doesn't tell how far the readers are: the layer above does.
 use Rattle.std.specs.Prelude.{◌≡◌, ℕ, ◌<◌, ◌+◌, List, [], length, take, drop, Bool, true, false, ◌==◌, if◌then◌else◌}
 use Rattle.wt_turn.specs.Log.{Log}
-use Rattle.wt_seam_spec.specs.Streams.{contents}
+use Rattle.wt_turn.specs.Streams.{contents}
 
 -- how far the reader of a stream is
 pub data ReadPosition : Type 0 where

@@ -7,13 +7,13 @@ ghost use Rattle.wt_turn.specs.declared.datagram_fact.DatagramFact.TheVariants.{
 ghost use Rattle.wt_turn.specs.declared.loss.LossReason.TheVariants as losses;
 ghost use Rattle.wt_turn.specs.declared.turn.Turn.TheVariants as turns;
 ghost use Rattle.wt_turn.specs.Log.{events_of, with_actions};
-ghost use Rattle.wt_seam_spec.specs.Streams.{contents};
-ghost use Rattle.wt_seam_spec.specs.Reports.{end_of, stop_of};
-ghost use Rattle.wt_seam_spec.specs.Arrivals.{fits, log_turn};
-ghost use Rattle.wt_seam_spec.specs.Joined.{joined_actions};
-ghost use Rattle.wt_seam_spec.specs.Outgoing.{may_send, opened_id, actions_to_open, actions_to_send};
-ghost use Rattle.wt_seam_spec.specs.Unread.{at_start, position_after, given_up, unread};
-ghost use Rattle.wt_seam_spec.specs.Rows.{closed_log, connected_log, log_with_stream, received_log, sent_log};
+ghost use Rattle.wt_turn.specs.Streams.{contents};
+ghost use Rattle.wt_turn.specs.Reports.{end_of, stop_of};
+ghost use Rattle.wt_turn.specs.Arrivals.{fits, log_turn};
+ghost use Rattle.wt_turn.specs.Joined.{joined_actions};
+ghost use Rattle.wt_turn.specs.Outgoing.{may_send, opened_id, actions_to_open, actions_to_send};
+ghost use Rattle.wt_turn.specs.Unread.{at_start, position_after, given_up, unread};
+ghost use Rattle.wt_turn.specs.TransportRows.{closed_log, connected_log, log_with_stream, received_log, sent_log};
 
 /// One stream may be opened, and three bytes sent.
 pub fn credit()

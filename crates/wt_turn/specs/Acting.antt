@@ -1,7 +1,7 @@
 -- Which actions a call may send.
 use Rattle.std.specs.Prelude.{◌≡◌, [], ◌∷◌, List, Some, if◌then◌else◌, true, ℕ}
-use Rattle.wt_seam_spec.specs.Outgoing.{may_send, opened_id, actions_to_send}
-use Rattle.wt_seam_spec.specs.Streams.{can_receive, can_send, local_bi, local_uni}
+use Rattle.wt_turn.specs.Outgoing.{may_send, opened_id, actions_to_send}
+use Rattle.wt_turn.specs.Streams.{can_receive, can_send, local_bi, local_uni}
 use Rattle.wt_turn.specs.Log.{Log, Sent, is_open}
 use Rattle.wt_turn.specs.declared.action.Action.{Action}
 use Rattle.wt_turn.specs.declared.action.Action.TheVariants as actions
