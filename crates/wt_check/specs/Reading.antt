@@ -1,10 +1,11 @@
 -- The record that a text spells: a script in which each turn's line is followed by its answer's (this repository's own grammar).
-use Rattle.std.specs.Prelude.{[], ◌+◌, ◌++◌, ◌∷◌, Err, List, None, Ok, Option, Result, Some, if◌then◌else◌, ℕ}
+use Rattle.std.specs.Prelude.{[], ◌++◌, ◌∷◌, Err, List, None, Ok, Option, Result, Some, ℕ}
 use Rattle.std.specs.Option.{option_map}
 use Rattle.wt_check.specs.Records.{Record}
 use Rattle.wt_meaning.specs.History.{Pair}
 use Rattle.wt_script.specs.Answers.{printed_answer}
-use Rattle.wt_script.specs.Script.{is_left_out, side_of, turn_of}
+use Rattle.wt_script.specs.Drafts.{read_lines}
+use Rattle.wt_script.specs.Script.{side_of, turn_of}
 use Rattle.wt_script.specs.Words.{lines}
 use Rattle.wt_script.specs.declared.script.ScriptRefused.{ScriptRefused}
 use Rattle.wt_turn.specs.declared.answer.Answer.{Answer}
@@ -34,25 +35,24 @@ with_turn before turn = record before { turn = Some turn }
 abbrev pub with_answer : RecordLines → Turn → Answer → RecordLines
 with_answer before turn a = record before { turn = None; pairs = before.pairs ++ record { turn = turn; answer = a } ∷ [] }
 
--- the first line that isn't left out names the side; of the others each second one is an answer's
-abbrev pub with_words : RecordLines → Option Side → Option Turn → List ℕ → Option RecordLines
-with_words before None turn line = option_map (with_side before) (side_of line)
-with_words before (Some side) None line = option_map (with_turn before) (turn_of line)
-with_words before (Some side) (Some turn) line = option_map (with_answer before turn) (answer_in line)
+-- the first line names the side; of the others each second one is an answer's
+abbrev pub with_side_or_pair : RecordLines → Option Side → Option Turn → List ℕ → Option RecordLines
+with_side_or_pair before None turn line = option_map (with_side before) (side_of line)
+with_side_or_pair before (Some side) None line = option_map (with_turn before) (turn_of line)
+with_side_or_pair before (Some side) (Some turn) line = option_map (with_answer before turn) (answer_in line)
 
--- what one more line says; None where it is none of a record's
-abbrev pub with_line : RecordLines → List ℕ → Option RecordLines
-with_line before line = if is_left_out line then Some before else with_words before before.side before.turn line
+-- what one more line says, of those that aren't left out; None where it is none of a record's
+abbrev pub with_words : RecordLines → List ℕ → Option RecordLines
+with_words before line = with_side_or_pair before before.side before.turn line
 
--- what a record comes to at its end: without a side, or without the last answer, it is refused after its last line
-abbrev pub record_at_end : ℕ → List Pair → Option Side → Option Turn → Result Record ScriptRefused
-record_at_end number pairs (Some side) None = Ok (record { side = side; pairs = pairs })
-record_at_end number pairs side turn = Err (record { line = number })
+-- the pairs of this side, where no answer is missing; else the record is refused at this line
+abbrev pub record_of_side : ℕ → List Pair → Option Side → Option Turn → Result Record ScriptRefused
+record_of_side number pairs (Some side) None = Ok (record { side = side; pairs = pairs })
+record_of_side number pairs side turn = Err (record { line = number })
 
--- the lines one after another, the first of this number; the first that is none of a record's refuses it
-abbrev pub read_lines : ℕ → RecordLines → List (List ℕ) → Result Record ScriptRefused
-read_lines number before [] = record_at_end number before.pairs before.side before.turn
-read_lines number before (line ∷ lines) = elim (with_line before line) [ Some following ↦ read_lines (number + 1) following lines | None ↦ Err (record { line = number }) ]
+-- what the lines of a record come to at its end
+abbrev pub record_at_end : ℕ → RecordLines → Result Record ScriptRefused
+record_at_end number whole = record_of_side number whole.pairs whole.side whole.turn
 
 -- no line yet
 abbrev pub no_lines : RecordLines
@@ -60,4 +60,4 @@ no_lines = record { side = None; turn = None; pairs = [] }
 
 -- the record that a text spells, or the first line that is refused
 abbrev pub record_of : List ℕ → Result Record ScriptRefused
-record_of text = read_lines 1 no_lines (lines text)
+record_of text = read_lines with_words record_at_end 1 no_lines (lines text)
