@@ -1,5 +1,5 @@
 -- The record that a text spells: a script in which each turn's line is followed by its answer's (this repository's own grammar).
-use Rattle.std.specs.Prelude.{[], ◌++◌, ◌∷◌, Err, List, None, Ok, Option, Result, Some, ℕ}
+use Rattle.std.specs.Prelude.{[], ◌&&◌, ◌++◌, ◌==◌, ◌∷◌, Err, List, None, Ok, Option, Result, Some, if◌then◌else◌, ℕ}
 use Rattle.std.specs.Option.{option_map}
 use Rattle.wt_check.specs.Records.{Record}
 use Rattle.wt_meaning.specs.History.{Pair}
@@ -20,7 +20,7 @@ pub record RecordLines : Type 0 where
 
 -- the answer of a line: it stands behind an equals sign and a blank
 abbrev pub answer_in : List ℕ → Option Answer
-answer_in (61 ∷ 32 ∷ text) = printed_answer text
+answer_in (first ∷ second ∷ text) = if first == 61 && second == 32 then printed_answer text else None
 answer_in line = None
 
 -- the lines so far, and one that names the side
