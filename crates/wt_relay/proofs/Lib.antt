@@ -1,0 +1,6 @@
+pub mod CopyLaws
+pub mod Leading
+pub mod Little
+pub mod ProgramLaws
+pub mod Running
+pub mod ScriptLaws

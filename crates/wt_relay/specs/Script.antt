@@ -1,0 +1,50 @@
+-- The turns that a script of a relay spells (this repository's own grammar).
+use Rattle.std.specs.Prelude.{ℕ, ◌+◌, ◌++◌, ◌∷◌, ◌^◌, Err, List, None, Ok, Option, Result, Some, [], if◌then◌else◌, nat_lt}
+use Rattle.std.specs.Option.{option_map}
+use Rattle.wt_script.specs.Numbers.{count_of}
+use Rattle.wt_script.specs.Script.{is_left_out, turn_of_words}
+use Rattle.wt_script.specs.Words.{lines, words}
+use Rattle.wt_script.specs.declared.script.ScriptRefused.{ScriptRefused}
+use Rattle.wt_turn.specs.declared.turn.Turn.{Turn}
+use Rattle.wt_turn.specs.declared.turn.Turn.TheVariants as turns
+
+-- ---- a line
+
+-- a connection's number, below 2^32
+abbrev pub if_number : Option ℕ → Option ℕ
+if_number None = None
+if_number (Some n) = if nat_lt n (2 ^ 32) then Some n else None
+
+abbrev pub number_of : List ℕ → Option ℕ
+number_of word = if_number (count_of word)
+
+-- a turn of the transport after its connection's number
+abbrev pub if_both : Option ℕ → Option Turn → Option (ℕ × Turn)
+if_both None turn = None
+if_both (Some n) None = None
+if_both (Some n) (Some (turns.Call c)) = None
+if_both (Some n) (Some turn) = Some (n, turn)
+
+abbrev pub numbered_of_words : List (List ℕ) → Option (ℕ × Turn)
+numbered_of_words [] = None
+numbered_of_words (number ∷ fields) = if_both (number_of number) (turn_of_words fields)
+
+-- the turn that a line spells, and its connection's number
+abbrev pub numbered_of : List ℕ → Option (ℕ × Turn)
+numbered_of line = numbered_of_words (words line)
+
+-- ---- scripts
+
+-- the turns so far, and what one more line spells; None where it is none of a script's
+abbrev pub with_line : List (ℕ × Turn) → List ℕ → Option (List (ℕ × Turn))
+with_line before line = if is_left_out line then Some before else option_map (λ turn. before ++ turn ∷ []) (numbered_of line)
+
+-- the lines one after another, the first of this number; the first that is none of a script's refuses it
+abbrev pub read_lines : ℕ → List (ℕ × Turn) → List (List ℕ) → Result (List (ℕ × Turn)) ScriptRefused
+read_lines number before [] = Ok before
+read_lines number before (line ∷ lines) =
+    elim (with_line before line) [ Some following ↦ read_lines (number + 1) following lines | None ↦ Err (record { line = number }) ]
+
+-- the turns of a script, or the first line that is refused
+abbrev pub relay_script_of : List ℕ → Result (List (ℕ × Turn)) ScriptRefused
+relay_script_of script = read_lines 1 [] (lines script)
