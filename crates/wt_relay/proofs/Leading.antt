@@ -13,8 +13,7 @@ use Rattle.wt_turn.specs.declared.answer.Answer.{Answer}
 use Rattle.wt_turn.specs.declared.turn.Turn.{Turn}
 use Rattle.wt_wire.specs.declared.side.Side.TheVariants.{Server}
 use Rattle.wt_relay.specs.Calls.{Answers, LeadsOn, all_followed, is_followed, is_relayed, told, told_from, told_of}
-use Rattle.wt_relay.specs.Desk.{Leads}
-use Rattle.wt_relay.specs.declared.desk.Desk.{Desk}
+use Rattle.wt_relay.specs.Desk.{DeskState, Leads}
 
 -- ---- lists of turns
 
@@ -121,29 +120,29 @@ answers_first all k l m n turn a given st e s f p = answers_then all k l m n tur
 
 -- ---- of what the desk keeps
 
-pub leads_refl : (d : Desk) → Leads d d
-leads_refl d = record { on = λ all st. leads_none all d.endpoint.connections d.answers st }
+pub leads_refl : (d : DeskState) → Leads d d
+leads_refl d = record { on = λ all st. leads_none all d.connections d.told st }
 
 -- the same endpoint and answers
-pub leads_same : (d e f : Desk) → Leads d e → f.endpoint.connections ≡ e.endpoint.connections → f.answers ≡ e.answers → Leads d f
+pub leads_same : (d e f : DeskState) → Leads d e → f.connections ≡ e.connections → f.told ≡ e.told → Leads d f
 leads_same d e f l c a = record {
   on = λ all st.
-      subst (λ (k : ConnectionsState). LeadsOn all k d.answers f.answers) (sym c)
-      (subst (λ (given : List (ℕ × Answer)). LeadsOn all e.endpoint.connections d.answers given) (sym a) (l.on all st));
+      subst (λ (k : ConnectionsState). LeadsOn all k d.told f.told) (sym c)
+      (subst (λ (given : List (ℕ × Answer)). LeadsOn all e.connections d.told given) (sym a) (l.on all st));
 }
 
-pub leads_trans : (d e f : Desk) → Leads d e → Leads e f → Leads d f
-leads_trans d e f a b = record { on = λ all st. leads_then all e.endpoint.connections f.endpoint.connections d.answers e.answers f.answers (a.on all st) b.on }
+pub leads_trans : (d e f : DeskState) → Leads d e → Leads e f → Leads d f
+leads_trans d e f a b = record { on = λ all st. leads_then all e.connections f.connections d.told e.told f.told (a.on all st) b.on }
 
 -- a turn, and what its calls lead on to
-pub answers_on : (all : List EndpointTurn) (n : ℕ) (turn : Turn) (d e : Desk) → Answers all n turn d.endpoint.connections d.answers → Leads d e → Answers all n turn e.endpoint.connections e.answers
+pub answers_on : (all : List EndpointTurn) (n : ℕ) (turn : Turn) (d e : DeskState) → Answers all n turn d.connections d.told → Leads d e → Answers all n turn e.connections e.told
 answers_on all n turn d e a l =
     let t = events.Connection n turn in
     let b = l.on (all ++ t ∷ a.calls) a.stands in
     let h = endpoint_history Server all in
     record {
       calls = a.calls ++ b.calls;
-      stands = subst (λ (ts : List EndpointTurn). StandsFor Server e.endpoint.connections ts) (append_assoc all (t ∷ a.calls) b.calls) b.stands;
+      stands = subst (λ (ts : List EndpointTurn). StandsFor Server e.connections ts) (append_assoc all (t ∷ a.calls) b.calls) b.stands;
       tells =
           b.tells ∙ ap (λ (xs : List (ℕ × Answer)). xs ++ told_from (endpoint_history Server (all ++ t ∷ a.calls)) b.calls) a.tells
           ∙ ap (λ (x : EndpointHistory). told_from h (t ∷ a.calls) ++ told_from x b.calls) (from-more no_connections all (t ∷ a.calls))

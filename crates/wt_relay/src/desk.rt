@@ -1,9 +1,9 @@
 //! The endpoint of a relay, and what was answered since the turn began.
-ghost use Rattle.std.specs.Prelude.{◌≡◌, [], IfSome, IsTrue, List, OnOk};
+ghost use Rattle.std.specs.Prelude.{◌≡◌, ◌++◌, [], IfSome, IsTrue, List, OnOk};
 ghost use Rattle.wt_endpoint.specs.Connections.{StandsFor, may_take};
 ghost use Rattle.wt_endpoint.specs.Endpoints.{endpoint_history};
 ghost use Rattle.wt_endpoint.specs.declared.turn.EndpointTurn.{EndpointTurn};
-ghost use Rattle.wt_relay.specs.Calls.{Answers, is_relayed_call, takes};
+ghost use Rattle.wt_relay.specs.Calls.{Answers, is_relayed, is_relayed_call, takes, told};
 ghost use Rattle.wt_relay.specs.Desk.{Leads};
 ghost use Rattle.wt_turn.specs.Turns.{is_call};
 ghost use Rattle.wt_wire.specs.declared.side.Side.TheVariants as sides;
@@ -11,11 +11,12 @@ ghost use Rattle.wt_wire.specs.declared.side.Side.TheVariants as sides;
 use crate::answers::RelayAnswers;
 use crate::kept::Kept;
 use std::alloc::Global;
+use std::marker::Model;
 use std::mem;
 use wt_config::{Opaque, ServerConfig};
 use wt_endpoint::{Endpoint, Server};
 use wt_turn::reply::Reply;
-use wt_turn::{Call, Turn};
+use wt_turn::{Answer, Call, Turn};
 use wt_wire::error::OutOfMemory;
 use wt_wire::header_list::HeaderList;
 use wt_wire::ids::SessionId;
@@ -30,10 +31,18 @@ pub struct Desk {
     answers: RelayAnswers,
 }
 
+impl Model for Desk {
+    ghost use Rattle.wt_relay.specs.Desk.{DeskState};
+
+    ghost Value = { DeskState };
+
+    ghost view = { λ d. record { connections = d.endpoint.connections; told = d.answers } };
+}
+
 impl Desk {
     /// No connection, and nothing answered. Nothing is bound.
     pub fn new(alloc: Global) -> Desk
-        ensures { StandsFor sides.Server result.endpoint.connections [] }
+        ensures { StandsFor sides.Server result.connections [] }
     {
         let config = ServerConfig::builder()
             .with_bind_default(0)
@@ -48,8 +57,8 @@ impl Desk {
 
     /// Whether it is a lawful transport turn of this connection.
     pub fn takes(&self, number: u32, turn: &Turn) -> bool
-        ensures state { IsTrue result → IsTrue (may_take sides.Server self.now.endpoint.connections number turn.now) }
-        ensures turns { (all : List EndpointTurn) → StandsFor sides.Server self.now.endpoint.connections all
+        ensures state { IsTrue result → IsTrue (may_take sides.Server self.now.connections number turn.now) }
+        ensures turns { (all : List EndpointTurn) → StandsFor sides.Server self.now.connections all
             → result ≡ takes (endpoint_history sides.Server all) number turn.now }
     {
         if is_call(turn) {
@@ -69,9 +78,9 @@ impl Desk {
         number: u32,
         turn: &Turn,
     ) -> Result<(), OutOfMemory>
-        requires { IsTrue (may_take sides.Server self.old.endpoint.connections number turn.now) }
-        ensures { (all : List EndpointTurn) → StandsFor sides.Server self.old.endpoint.connections all
-            → OnOk result (Answers all number turn.now self.new.endpoint.connections self.new.answers) }
+        requires { IsTrue (may_take sides.Server self.old.connections number turn.now) }
+        ensures { (all : List EndpointTurn) → StandsFor sides.Server self.old.connections all
+            → OnOk result (Answers all number turn.now self.new.connections self.new.told) }
     {
         self.answers = RelayAnswers::new(self.alloc);
         let first = self.endpoint.turn(number, turn)?;
@@ -91,12 +100,30 @@ impl Desk {
         requires { IsTrue (is_relayed_call call) }
         ensures { OnOk result (Leads self.old self.new) }
     {
-        let call = Turn::Call(call);
-        if !self.endpoint.is_lawful(number, &call) {
+        let turn = Turn::Call(call);
+        if !self.endpoint.is_lawful(number, &turn) {
             return Ok(Reply::Pending);
         }
-        let answer = self.endpoint.turn(number, &call)?;
+        self.make(kept, number, &turn)
+    }
+
+    /// Makes a call that may come.
+    fn make(&mut self, kept: &mut Kept, number: u32, turn: &Turn) -> Result<Reply, OutOfMemory>
+        requires lawful { IsTrue (may_take sides.Server self.old.connections number turn.now) }
+        requires relayed { IsTrue (is_relayed turn.now) }
+        ensures { OnOk result (Leads self.old self.new) }
+    {
+        let answer = self.endpoint.turn(number, turn)?;
         kept.mark_actions(number, answer.actions.as_slice())?;
+        let reply = self.tell(number, answer)?;
+        Ok(reply)
+    }
+
+    /// Tells an answer, and gives its reply.
+    fn tell(&mut self, number: u32, answer: Answer) -> Result<Reply, OutOfMemory>
+        ensures told { OnOk result (self.new.told ≡ self.old.told ++ told number answer) }
+        ensures connections { self.new.connections ≡ self.old.connections }
+    {
         let reply = answer.reply.copy(self.alloc)?;
         self.answers.push(number, answer)?;
         Ok(reply)
@@ -131,8 +158,8 @@ impl Desk {
 
     /// The answers since the turn began.
     pub fn take_answers(&mut self) -> RelayAnswers
-        ensures answers { result ≡ self.old.answers }
-        ensures connections { self.new.endpoint.connections ≡ self.old.endpoint.connections }
+        ensures answers { result ≡ self.old.told }
+        ensures connections { self.new.connections ≡ self.old.connections }
     {
         mem::replace(&mut self.answers, RelayAnswers::new(self.alloc))
     }

@@ -28,9 +28,9 @@ pub fn take_turn(
     number: u32,
     turn: &Turn,
 ) -> Result<RelayAnswers, OutOfMemory>
-    requires { IsTrue (may_take sides.Server desk.old.endpoint.connections number turn.now) }
-    ensures { (all : List EndpointTurn) → StandsFor sides.Server desk.old.endpoint.connections all
-        → IfOk result (λ given. Answers all number turn.now desk.new.endpoint.connections given) }
+    requires { IsTrue (may_take sides.Server desk.old.connections number turn.now) }
+    ensures { (all : List EndpointTurn) → StandsFor sides.Server desk.old.connections all
+        → IfOk result (λ given. Answers all number turn.now desk.new.connections given) }
 {
     kept.take_turn(number, turn)?;
     desk.take_turn(kept, number, turn)?;

@@ -1,8 +1,9 @@
 //! The program with the word `relay`: a script of a relay comes in, the lines of its answers go out.
-ghost use Rattle.std.specs.Prelude.{◌≡◌, ◌≢◌, Err, IfOk, IsTrue, map, string_bytes};
+ghost use Rattle.std.specs.Prelude.{◌≡◌, ◌≢◌, Err, IfErr, IfOk, IsErr, IsTrue, OnOk, map, string_bytes};
+ghost use Rattle.std.specs.Io.KnownBytes.{Appends};
 ghost use Rattle.wt_relay.specs.Program.{Answered, RelayRan, Relayed, asks_relay};
 ghost use Rattle.wt_trace.specs.Asked.{status_of};
-ghost use Rattle.wt_trace.specs.Outcome.{is_input_status, is_run_status};
+ghost use Rattle.wt_trace.specs.Outcome.{is_input_status, is_run_status, usage};
 ghost use Rattle.wt_trace.specs.Outside.{Rose, seen};
 ghost use Rattle.wt_trace.specs.declared.cut_short.CutShort.TheVariants as cuts;
 
@@ -10,7 +11,7 @@ use crate::output::write_relay_answers;
 use crate::run::run_relay;
 use crate::script::{RelayScript, read_relay_script};
 use std::alloc::Global;
-use wt_trace::asked::{OUT_OF_MEMORY, answer_usage};
+use wt_trace::asked::OUT_OF_MEMORY;
 use wt_trace::cut_short::CutShort;
 use wt_trace::input::{SCRIPT_LIMIT, read_input};
 use wt_trace::output::{number_line, write_all};
@@ -70,6 +71,18 @@ fn answer<S: Source, K: Sink>(
     }
     let input = read_input(alloc, source)?;
     answer_input(alloc, input.as_slice(), sink)
+}
+
+/// Says how the program is asked: status 1.
+fn answer_usage<K: Sink>(sink: &mut K) -> Result<u8, CutShort>
+    ensures status { IfOk result (λ status. status ≡ 1) }
+    ensures text { OnOk result (Appends (K.took sink.old) (K.took sink.new) usage.text) }
+    ensures same { OnOk result (K.faults sink.new ≡ K.faults sink.old) }
+    ensures cause { IfErr result (λ failure. failure ≡ cuts.SinkFailed) }
+    ensures fault { IsErr result → Rose (K.faults sink.old) (K.faults sink.new) }
+{
+    write_all(sink, b"usage: trace | large <n>\n")?;
+    Ok(1)
 }
 
 /// Writes what an input is answered, and gives the status.

@@ -44,7 +44,7 @@ impl Model for Relay {
 
     ghost Value = { RelayState };
 
-    ghost view = { λ r. record { failed = r.failed; connections = r.desk.endpoint.connections; told = r.desk.answers; pieces = pieces_kept r.kept; copies = copies_kept r.kept } };
+    ghost view = { λ r. record { failed = r.failed; connections = r.desk.connections; told = r.desk.told; pieces = pieces_kept r.kept; copies = copies_kept r.kept } };
 }
 
 impl Relay {

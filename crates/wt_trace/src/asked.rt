@@ -117,12 +117,8 @@ fn answer<P: Program, S: Source, K: Sink>(
     }
 }
 
-/// Says how a program is asked: status 1.
-///
-/// # Errors
-///
-/// `SinkFailed` where the sink failed.
-pub fn answer_usage<K: Sink>(sink: &mut K) -> Result<u8, CutShort>
+/// Says how the program is asked.
+fn answer_usage<K: Sink>(sink: &mut K) -> Result<u8, CutShort>
     ensures status { IfOk result (λ status. status ≡ 1) }
     ensures text { OnOk result (Appends (K.took sink.old) (K.took sink.new) usage.text) }
     ensures part { AppendsPart (K.took sink.old) (K.took sink.new) usage.text }
