@@ -1,5 +1,5 @@
 //! Rooms: the sessions whose requests have one path.
-ghost use Rattle.std.specs.Prelude.{◌≡◌};
+ghost use Rattle.std.specs.Prelude.{◌≡◌, ◌≤◌, length};
 ghost use Rattle.wt_relay.specs.Rooms.{is_across};
 
 use std::alloc::Global;
@@ -114,7 +114,9 @@ impl Rooms {
 }
 
 /// How many of these members come before this one.
-fn place(members: &[Member], member: &Member) -> usize {
+fn place(members: &[Member], member: &Member) -> usize
+    ensures { result ≤ length members.now }
+{
     let key = member.key();
     members.partition_point(|other| other.key() < key)
 }
