@@ -149,3 +149,25 @@ answers_on all n turn d e a l =
           ∙ sym (told-more h (t ∷ a.calls) b.calls);
       followed = followed-more a.calls b.calls a.followed b.followed;
     }
+
+-- a call that was made, by what the endpoint says of it
+pub leads_made : (d f : DeskState) (k l : ConnectionsState) (before : List (ℕ × Answer)) (n : ℕ) (turn : Turn) (a : Answer) → k ≡ d.connections → before ≡ d.told → IsTrue (is_relayed turn)
+    → ((all : List EndpointTurn) → StandsFor Server k all → a ≡ answer_to Server (own_history Server n all) turn)
+    → ((all : List EndpointTurn) → StandsFor Server k all → StandsFor Server l (all ++ events.Connection n turn ∷ []))
+    → f.connections ≡ l → f.told ≡ before ++ told n a → Leads d f
+leads_made d f k l before n turn a same_k same_told r apart turns now_l now_told = record {
+  on = λ all st.
+      let s = subst (λ (x : ConnectionsState). StandsFor Server x all) (sym same_k) st in
+      leads_one all d.connections f.connections n turn a d.told f.told st r (apart all s)
+      (subst (λ (x : ConnectionsState). StandsFor Server x (all ++ events.Connection n turn ∷ [])) (sym now_l) (turns all s))
+      (now_told ∙ ap (λ (xs : List (ℕ × Answer)). xs ++ told n a) same_told);
+}
+
+-- the first answer of a turn, by what the endpoint says of it
+pub answers_made : (all : List EndpointTurn) (d : DeskState) (k l m : ConnectionsState) (n : ℕ) (turn : Turn) (a : Answer) (given : List (ℕ × Answer)) → k ≡ d.connections → StandsFor Server d.connections all
+    → ((ts : List EndpointTurn) → StandsFor Server k ts → a ≡ answer_to Server (own_history Server n ts) turn)
+    → ((ts : List EndpointTurn) → StandsFor Server k ts → StandsFor Server l (ts ++ events.Connection n turn ∷ []))
+    → ((ts : List EndpointTurn) → StandsFor Server l ts → StandsFor Server m (ts ++ events.Accept ∷ [])) → given ≡ told n a → Answers all n turn m given
+answers_made all d k l m n turn a given same st apart turns accept p =
+    let s = subst (λ (x : ConnectionsState). StandsFor Server x all) (sym same) st in
+    answers_first all k l m n turn a given s (apart all s) (turns all s) accept p

@@ -24,7 +24,7 @@ const READ_SIZE: u64 = 4096;
 const SESSION_GONE: u32 = 386_759_528;
 
 /// How a source ends, and with it its copies.
-#[derive(Drop)]
+#[derive(Clone, Copy)]
 enum Ending {
     /// Each copy is finished.
     Finish,
@@ -39,12 +39,21 @@ impl Ending {
     }
 
     /// The call that ends this copy.
-    fn call(&self, id: StreamId) -> Call
+    fn call(self, id: StreamId) -> Call
         ensures { IsTrue (is_relayed_call result) }
     {
         match self {
             Ending::Finish => Call::Finish { id },
-            Ending::Reset(code) => Call::ResetSend { id, code: *code },
+            Ending::Reset(code) => Call::ResetSend { id, code },
+        }
+    }
+
+    /// That of a source to whose read this was the reply, which gave nothing more of it.
+    fn following(reply: &Reply) -> Ending {
+        match reply {
+            Reply::Read(None) => Ending::Finish,
+            Reply::ReadFailed(StreamReadError::Reset(code)) => Ending::Reset(*code),
+            _ => Ending::gone(),
         }
     }
 }
@@ -148,11 +157,10 @@ fn take_read(
     match reply {
         Reply::Pending => Ok(()),
         Reply::Read(Some(piece)) => pass_on(desk, kept, source, piece),
-        Reply::Read(None) => end_source(desk, kept, source, &Ending::Finish),
-        Reply::ReadFailed(StreamReadError::Reset(code)) => {
-            end_source(desk, kept, source, &Ending::Reset(code))
+        ended => {
+            let ending = Ending::following(&ended);
+            end_source(desk, kept, source, ending)
         }
-        _ => end_source(desk, kept, source, &Ending::gone()),
     }
 }
 
@@ -162,7 +170,7 @@ fn pass_on(desk: &mut Desk, kept: &mut Kept, source: usize, piece: Piece) -> Res
     ensures { OnOk result (Leads desk.old desk.new) }
 {
     if piece.as_slice().len() > READ_SIZE as usize {
-        return end_source(desk, kept, source, &Ending::gone());
+        return end_source(desk, kept, source, Ending::gone());
     }
     kept.take_piece(source, piece);
     for copy in 0..kept.copy_count(source) {
@@ -177,7 +185,7 @@ fn end_source(
     desk: &mut Desk,
     kept: &mut Kept,
     source: usize,
-    ending: &Ending,
+    ending: Ending,
 ) -> Result<(), OutOfMemory>
     ensures { OnOk result (Leads desk.old desk.new) }
 {
@@ -193,7 +201,7 @@ fn end_copy(
     kept: &mut Kept,
     source: usize,
     copy: usize,
-    ending: &Ending,
+    ending: Ending,
 ) -> Result<(), OutOfMemory>
     ensures { OnOk result (Leads desk.old desk.new) }
 {

@@ -1,6 +1,8 @@
 //! Sources and their copies.
 ghost use Rattle.std.specs.Prelude.{◌≡◌, ◌≤◌, IfOk, length, true};
-ghost use Rattle.wt_relay.specs.Progress.{holds, rest_of};
+ghost use Rattle.std.specs.List.{list_any};
+ghost use Rattle.wt_relay.specs.Progress.{rest_of};
+ghost use Rattle.wt_relay.specs.Source.{copy_holds};
 ghost use Rattle.wt_relay.specs.Copies.{are_across};
 ghost use Rattle.wt_relay.specs.Rooms.{is_across};
 ghost use Rattle.wt_relay.specs.declared.source.Progress.TheVariants.{Behind};
@@ -35,13 +37,18 @@ pub struct Copied {
     pub progress: Progress,
 }
 
-impl Copied {
-    /// Whether the source isn't read until the copy gets on.
-    fn holds(&self) -> bool
-        ensures { result ≡ holds self.now.progress }
-    {
-        matches!(self.progress, Progress::Opening | Progress::Behind(_))
-    }
+/// Whether the source isn't read until the copy gets on.
+fn holds(copied: &Copied) -> bool
+    ensures { result ≡ copy_holds copied.now }
+{
+    matches!(copied.progress, Progress::Opening | Progress::Behind(_))
+}
+
+/// Whether one of the copies holds the source.
+fn is_held(copies: &[Copied]) -> bool
+    ensures { result ≡ list_any copy_holds copies.now }
+{
+    copies.iter().any(holds)
 }
 
 /// A stream that is read, and its copies, in the order of opening.
@@ -85,7 +92,7 @@ impl Source {
     pub fn is_free(&self) -> bool
         ensures { result ≡ is_free self.now.over self.now.copies.items }
     {
-        !self.over && !self.copies.iter().any(|copied| copied.holds())
+        !self.over && !is_held(self.copies.as_slice())
     }
 
     /// One copy more, which is being opened, on another session of the room.
@@ -93,6 +100,7 @@ impl Source {
     /// # Errors
     ///
     /// `OutOfMemory` where the longer list found no memory.
+    #[tactic(auto, using(crate::proofs::CopyLaws::across_more))]
     pub fn add_copy(&mut self, member: &Member, id: StreamId) -> Result<(), OutOfMemory>
         requires { is_across self.old.member member.now ≡ true }
     {
@@ -106,8 +114,8 @@ impl Source {
 
     /// The copy is so far now.
     pub fn set(&mut self, copy: usize, progress: Progress) {
-        if let Some(copied) = self.copies.get_mut(copy) {
-            copied.progress = progress;
+        if copy < self.copies.len() {
+            self.copies[copy].progress = progress;
         }
     }
 
