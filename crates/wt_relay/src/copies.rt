@@ -159,7 +159,7 @@ fn take_read(
         Reply::Read(Some(piece)) => pass_on(desk, kept, source, piece),
         ended => {
             let ending = Ending::following(&ended);
-            end_source(desk, kept, source, ending)
+            end_source(desk, kept, source, &ending)
         }
     }
 }
@@ -170,7 +170,7 @@ fn pass_on(desk: &mut Desk, kept: &mut Kept, source: usize, piece: Piece) -> Res
     ensures { OnOk result (Leads desk.old desk.new) }
 {
     if piece.as_slice().len() > READ_SIZE as usize {
-        return end_source(desk, kept, source, Ending::gone());
+        return end_source(desk, kept, source, &Ending::gone());
     }
     kept.take_piece(source, piece);
     for copy in 0..kept.copy_count(source) {
@@ -185,7 +185,7 @@ fn end_source(
     desk: &mut Desk,
     kept: &mut Kept,
     source: usize,
-    ending: Ending,
+    ending: &Ending,
 ) -> Result<(), OutOfMemory>
     ensures { OnOk result (Leads desk.old desk.new) }
 {
@@ -201,7 +201,7 @@ fn end_copy(
     kept: &mut Kept,
     source: usize,
     copy: usize,
-    ending: Ending,
+    ending: &Ending,
 ) -> Result<(), OutOfMemory>
     ensures { OnOk result (Leads desk.old desk.new) }
 {
