@@ -1,9 +1,14 @@
 //! A recorded case, and whether the program answers it so.
-ghost use Rattle.std.specs.Prelude.{◌≡◌, [], IfOk, OnOk, All, IsTrue, false};
-ghost use Rattle.wt_cases.specs.Cases.{IsAnswered};
-ghost use Rattle.wt_trace.specs.Asked.{is_cut_short};
+ghost use Rattle.std.specs.Prelude.{◌≡◌, [], IfOk, OnOk, All, IsTrue, Some, false, is_some, map, string_bytes};
+ghost use Rattle.wt_cases.specs.Cases.{IsAnswered, case_asked};
+ghost use Rattle.wt_check.specs.Outcome.{asks_check};
+ghost use Rattle.wt_pair.specs.Program.{pair_asked};
+ghost use Rattle.wt_trace.specs.Asked.{Ran, is_cut_short};
+ghost use Rattle.wt_trace.specs.Outside.{seen};
 
 use std::alloc::{AllocError, Global};
+use wt_check::program::{asks_check, run_check_program};
+use wt_pair::run_pair_program;
 use wt_trace::outside::mem::{MemSink, MemSource};
 use wt_trace::program::run_program;
 
@@ -28,7 +33,7 @@ impl Case {
     {
         let mut source = MemSource::new(self.script.clone()?, Vec::new(alloc));
         let mut sink = MemSink::new(alloc, Vec::new(alloc));
-        let status = run_program(alloc, self.words.as_slice(), &mut source, &mut sink);
+        let status = run_words(alloc, self.words.as_slice(), &mut source, &mut sink);
         Ok(self.is_answer(status, sink.written()))
     }
 
@@ -43,6 +48,32 @@ impl Case {
         }
         status == self.status && text == self.text.as_slice()
     }
+}
+
+/// Whether the words ask for the program of two ends.
+fn asks_pair(words: &[String]) -> bool
+    ensures { result ≡ is_some (pair_asked (map string_bytes words.now)) }
+{
+    match words {
+        [only] => only.as_bytes() == b"pair".as_slice(),
+        _ => false,
+    }
+}
+
+/// Runs the program that the words ask for.
+#[tactic(auto, using(crate::proofs::AskedLaws::asks_two_ends, crate::proofs::AskedLaws::asks_one_end))]
+fn run_words(alloc: Global, words: &[String], source: &mut MemSource, sink: &mut MemSink) -> u8
+    ensures { asks_check (map string_bytes words.now) ≡ false → Ran (case_asked (map string_bytes words.now))
+        (seen (Some source.old.bytes) source.old.calls.faults) (seen (Some source.new.bytes) source.new.calls.faults)
+        (seen (Some sink.old.bytes) sink.old.calls.faults) (seen (Some sink.new.bytes) sink.new.calls.faults) result }
+{
+    if asks_check(words) {
+        return run_check_program(alloc, words, source, sink);
+    }
+    if asks_pair(words) {
+        return run_pair_program(alloc, words, source, sink);
+    }
+    run_program(alloc, words, source, sink)
 }
 
 /// The numbers of the cases that the program answers otherwise, counted from 0. Where there is none, the

@@ -13,6 +13,7 @@ pub mod Accepted
 pub mod Exact
 pub mod Refused
 pub mod DatagramSteps
+pub mod RecordLaws
 pub mod ByIdLaws
 pub mod CheckLaws
 pub mod FactLaws

@@ -11,5 +11,7 @@ pub mod Exact
 pub mod KeptDatagrams
 pub mod KeptFacts
 pub mod Rows
+pub mod Reading
 pub mod Judged
 pub mod Keeps
+pub mod Outcome

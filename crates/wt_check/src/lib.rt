@@ -7,7 +7,9 @@ pub mod checking;
 mod facts;
 mod feeding;
 mod front;
+pub mod program;
 mod queue;
+pub mod record;
 pub mod rows;
 mod rules;
 
@@ -30,6 +32,8 @@ ghost use Rattle.wt_turn.specs.declared.turn.Turn.{Turn};
 ghost use Rattle.wt_wire.specs.declared.side.Side.{Side};
 
 pub use checking::{Verdicts, check};
+pub use program::run_check_program;
+pub use record::{Record, read_record};
 
 /// Each lawful list of turns, recorded with its answers, keeps each rule throughout, and so is accepted.
 #[tactic(auto, using(crate::proofs::OfTurns::of_turns, crate::proofs::OfSessions::of_sessions, crate::proofs::OfAccepts::of_accepts, crate::proofs::OfReads::of_reads, crate::proofs::OfDatagrams::of_datagrams, crate::proofs::OfSends::of_sends, crate::proofs::Accepted::accepted))]

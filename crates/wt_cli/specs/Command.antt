@@ -11,8 +11,8 @@ abbrev pub asks_for : List ℕ → List (List ℕ) → Bool
 asks_for name [] = false
 asks_for name (word ∷ more) = is_word word name
 
--- the outcome of the command line for these words and this input, by the program that the first word names: `shared`, which reads no input,
--- `pair`, and for every other word that of `trace` and `large`
+-- the outcome of the command line for these words, which don't ask for a check, and this input, by the program that the first word names: `shared`,
+-- which reads no input, `pair`, and for every other word that of `trace` and `large`
 abbrev pub command_outcome : List (List ℕ) → List ℕ → Outcome
 command_outcome words input =
     if asks_for (codes "shared") words then shared_outcome words

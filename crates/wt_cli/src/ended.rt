@@ -1,10 +1,12 @@
 //! The run of the command line, and the status that it ends with.
-ghost use Rattle.std.specs.Prelude.{◌≡◌, ◌≢◌, ◌⊎◌, [], IfOk, IfErr, IfSome, IsTrue, codes, false, map, string_bytes};
+ghost use Rattle.std.specs.Prelude.{◌≡◌, ◌≢◌, ◌⊎◌, [], IfOk, IfErr, IfSome, IsTrue, codes, false, map, string_bytes, true};
 ghost use Rattle.std.specs.Io.KnownBytes.{Appends};
 ghost use Rattle.std.specs.IoError.{error_kind};
 ghost use Rattle.std.specs.Process.{exit_status};
 ghost use Rattle.wt_trace.specs.Outcome.{usage};
 ghost use Rattle.wt_trace.specs.Asked.{is_cut_short};
+ghost use Rattle.wt_trace.specs.Outside.{seen};
+ghost use Rattle.wt_check.specs.Outcome.{RanCheck, asks_check};
 ghost use Rattle.wt_cli.specs.Command.{asks_for, command_outcome};
 ghost use Rattle.wt_shared.specs.SharedRun.{shared_outcome};
 
@@ -14,6 +16,7 @@ use std::marker::Model;
 use std::process::{ExitCode, Termination};
 use std::sync::Wait;
 use std::thread::Threads;
+use wt_check::program::{asks_check, run_check_program};
 use wt_pair::run_pair_program;
 use wt_shared::gate::OpenGate;
 use wt_shared::run::run_shared;
@@ -43,8 +46,8 @@ impl Termination for Ended {
     }
 }
 
-/// Runs the command line of these words: `shared` by threads, with gates that never wait, `pair` as [`run_pair_program`] does,
-/// and every other as [`run_program`] does. Where the words couldn't be read it runs with none, which is no form of a command, and where that was
+/// Runs the command line of these words: `shared` by threads, with gates that never wait, `pair` as [`run_pair_program`] does, `check` as
+/// [`run_check_program`] does, and every other as [`run_program`] does. Where the words couldn't be read it runs with none, which is no form of a command, and where that was
 /// out of memory it doesn't run.
 pub fn run<R: Threads + Wait + Sync, S: Source, K: Sink>(
     rt: &R,
@@ -53,10 +56,13 @@ pub fn run<R: Threads + Wait + Sync, S: Source, K: Sink>(
     source: &mut S,
     sink: &mut K,
 ) -> Ended
-    ensures status { is_cut_short result ≡ false
-        → IfOk words (λ words. IfSome (S.left source.old) (λ input. result ≡ (command_outcome (map string_bytes words.items) input).status)) }
-    ensures text { is_cut_short result ≡ false
-        → IfOk words (λ words. IfSome (S.left source.old) (λ input. Appends (K.took sink.old) (K.took sink.new) (command_outcome (map string_bytes words.items) input).text)) }
+    ensures status { is_cut_short result ≡ false → IfOk words (λ words. asks_check (map string_bytes words.items) ≡ false
+        → IfSome (S.left source.old) (λ input. result ≡ (command_outcome (map string_bytes words.items) input).status)) }
+    ensures text { is_cut_short result ≡ false → IfOk words (λ words. asks_check (map string_bytes words.items) ≡ false
+        → IfSome (S.left source.old) (λ input. Appends (K.took sink.old) (K.took sink.new) (command_outcome (map string_bytes words.items) input).text)) }
+    ensures check { IfOk words (λ words. asks_check (map string_bytes words.items) ≡ true
+        → RanCheck (seen (S.left source.old) (S.faults source.old)) (seen (S.left source.new) (S.faults source.new))
+        (seen (K.took sink.old) (K.faults sink.old)) (seen (K.took sink.new) (K.faults sink.new)) result) }
     ensures shared { is_cut_short result ≡ false
         → IfOk words (λ words. IsTrue (asks_for (codes "shared") (map string_bytes words.items)) → result ≡ (shared_outcome (map string_bytes words.items)).status) }
     ensures memory { IfErr words (λ error. error_kind error ≡ ErrorKind.OutOfMemory → result ≡ 6) }
@@ -77,6 +83,7 @@ pub fn run<R: Threads + Wait + Sync, S: Source, K: Sink>(
 }
 
 /// Runs the program that the first word names.
+#[tactic(auto, using(crate::proofs::CommandLaws::check_asks_alone))]
 fn run_command<R: Threads + Wait + Sync, S: Source, K: Sink>(
     rt: &R,
     alloc: Global,
@@ -84,10 +91,13 @@ fn run_command<R: Threads + Wait + Sync, S: Source, K: Sink>(
     source: &mut S,
     sink: &mut K,
 ) -> u8
-    ensures status { is_cut_short result ≡ false
+    ensures status { is_cut_short result ≡ false → asks_check (map string_bytes words.now) ≡ false
         → IfSome (S.left source.old) (λ input. result ≡ (command_outcome (map string_bytes words.now) input).status) }
-    ensures text { is_cut_short result ≡ false
+    ensures text { is_cut_short result ≡ false → asks_check (map string_bytes words.now) ≡ false
         → IfSome (S.left source.old) (λ input. Appends (K.took sink.old) (K.took sink.new) (command_outcome (map string_bytes words.now) input).text) }
+    ensures check { asks_check (map string_bytes words.now) ≡ true
+        → RanCheck (seen (S.left source.old) (S.faults source.old)) (seen (S.left source.new) (S.faults source.new))
+        (seen (K.took sink.old) (K.faults sink.old)) (seen (K.took sink.new) (K.faults sink.new)) result }
     ensures shared { is_cut_short result ≡ false
         → IsTrue (asks_for (codes "shared") (map string_bytes words.now)) → result ≡ (shared_outcome (map string_bytes words.now)).status }
     ensures no_words { words.now ≡ [] → (result ≡ 1) ⊎ (result ≡ 5) }
@@ -98,6 +108,9 @@ fn run_command<R: Threads + Wait + Sync, S: Source, K: Sink>(
     }
     if is_named(words, b"pair") {
         return run_pair_program(alloc, words, source, sink);
+    }
+    if asks_check(words) {
+        return run_check_program(alloc, words, source, sink);
     }
     run_program(alloc, words, source, sink)
 }

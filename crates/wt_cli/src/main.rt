@@ -2,8 +2,10 @@
 //!
 //! `wt_cli trace` reads a script, and writes a line for each answer to its turns. `wt_cli large <n>` runs a
 //! generated run with n streams and then the turns that it reads, and writes a line that sums up the
-//! answers. `wt_cli shared <n>` makes a generated run with n streams in two threads. The exit status says how
-//! that went: see [`run_program`](wt_trace::run_program) and [`run_shared`](wt_shared::run_shared).
+//! answers. `wt_cli shared <n>` makes a generated run with n streams in two threads. `wt_cli pair` reads a script of two ends,
+//! and `wt_cli check` a record of a session. The exit status says how that went: see [`run_program`](wt_trace::run_program),
+//! [`run_shared`](wt_shared::run_shared), [`run_pair_program`](wt_pair::run_pair_program) and
+//! [`run_check_program`](wt_check::run_check_program).
 #![tactic(auto)]
 
 mod ended;

@@ -119,9 +119,29 @@ pub body-over : (id : ℕ) (piece : List ℕ) (d : DriverNow) → d.work.transpo
 unfolding body_part
 body-over id piece d over = sym (ap (λ (b : Bool). body_part_if b id piece d) over)
 
--- how many of a part were taken
-pub part-within : (n m : ℕ) (x : Option FedNow) (a b : DriverNow) → TakesUpTo n x → record { taken = m; driver = b } ≡ work_after x a → m ≤ n
-part-within n m x a b h e = subst (λ (k : ℕ). k ≤ n) (sym (ap (λ (p : TookPart). p.taken) e)) (work-within n x a h)
+-- how many of a part are taken
+header-takes : (id : ℕ) (piece : List ℕ) (d : DriverNow) → (header_part id piece d).taken ≤ length piece
+unfolding header_part
+header-takes id [] d = omega arith
+header-takes id (byte ∷ bytes) d =
+    work-within (length (byte ∷ bytes)) (header_feed id (byte ∷ bytes) d) (header_fed id (byte ∷ bytes) d) (header-within id (byte ∷ bytes) d)
+
+body-takes : (id : ℕ) (piece : List ℕ) (d : DriverNow) → (body_part id piece d).taken ≤ length piece
+unfolding body_part
+body-takes id piece d = by d.work.transport.is_open piece
+  where
+    by : (b : Bool) (xs : List ℕ) → (body_part_if b id xs d).taken ≤ length xs
+    by false xs = omega arith
+    by true [] = omega arith
+    by true (byte ∷ bytes) =
+        work-within (length (byte ∷ bytes)) (body_feed id (byte ∷ bytes) d.work.dispatched) (with_work (with_dispatched (body_fed id (byte ∷ bytes))) d)
+        (body-within id (byte ∷ bytes) d.work.dispatched)
+
+pub header-fits : (id : ℕ) (piece : List ℕ) (d a : DriverNow) (m : ℕ) → record { taken = m; driver = a } ≡ header_part id piece d → m ≤ length piece
+header-fits id piece d a m e = subst (λ (k : ℕ). k ≤ length piece) (sym (ap (λ (p : TookPart). p.taken) e)) (header-takes id piece d)
+
+pub body-fits : (id : ℕ) (piece : List ℕ) (d a : DriverNow) (m : ℕ) → record { taken = m; driver = a } ≡ body_part id piece d → m ≤ length piece
+body-fits id piece d a m e = subst (λ (k : ℕ). k ≤ length piece) (sym (ap (λ (p : TookPart). p.taken) e)) (body-takes id piece d)
 
 -- ---- the rest
 
@@ -225,14 +245,6 @@ unfolding close_now
 closed-so {d} at t xs code reason so none = (λ i. record d { work = record d.work { transport = so i }; datagrams = none i }) ∙ ap (close_now code reason) at
 
 -- ---- the same, as the code comes to it
-
-pub header-part-within : (id : ℕ) (piece : List ℕ) (d : DriverNow) (m : ℕ) (x : Option FedNow) (a b : DriverNow) → x ≡ header_feed id piece d → record { taken = m; driver = b } ≡ work_after x a → m ≤ length piece
-header-part-within id piece d m x a b f e =
-    part-within (length piece) m x a b (subst (λ (y : Option FedNow). TakesUpTo (length piece) y) (sym f) (header-within id piece d)) e
-
-pub body-part-within : (id : ℕ) (piece : List ℕ) (d : DispatchedNow) (m : ℕ) (x : Option FedNow) (a b : DriverNow) → x ≡ body_feed id piece d → record { taken = m; driver = b } ≡ work_after x a → m ≤ length piece
-body-part-within id piece d m x a b f e =
-    part-within (length piece) m x a b (subst (λ (y : Option FedNow). TakesUpTo (length piece) y) (sym f) (body-within id piece d)) e
 
 pub body-fed-so : {d now : DriverNow} → d ≡ now → (id : ℕ) (piece : List ℕ) (e : DispatchedNow) (x : Option FedNow) (p : TookPart) → d.work.transport.is_open ≡ true → (length piece == 0) ≡ false
     → x ≡ body_feed id piece d.work.dispatched → e ≡ body_fed id piece d.work.dispatched → p ≡ work_after x (record d { work = record d.work { dispatched = e } }) → p ≡ body_part id piece now

@@ -57,12 +57,6 @@ bis-so {d} at a t e scan kind =
     ap (λ (b : Bool). record d { bis = record a { bidirectional = b }; work = record { transport = t; dispatched = e } }) kind
     ∙ (ap (λ s. with_bis s d) scan ∙ ap bis_step at)
 
--- the datagrams were looked at
-pub datagrams-so : {d now : DriverNow} → d ≡ now → (e : DispatchedNow) → e ≡ admit_each d.datagrams d.work.dispatched
-    → record d { work = record d.work { dispatched = e }; datagrams = [] } ≡ datagrams_step now
-unfolding datagrams_step
-datagrams-so {d} at e so = ap (λ (x : DispatchedNow). record d { work = record d.work { dispatched = x }; datagrams = [] }) so ∙ ap datagrams_step at
-
 -- what came was looked at, since this end's SETTINGS are out
 pub arrivals-so : (d a b c : DriverNow) → is_ready_now d.own_control ≡ true → a ≡ unis_step d → b ≡ bis_step a → c ≡ datagrams_step b → c ≡ arrivals_step d
 unfolding arrivals_step
@@ -153,10 +147,7 @@ pub looks-next : (d e : DriverNow) (later : List (List ℕ)) (piece : List ℕ) 
     → x ≡ admit_parsed (datagram_of piece) e.work.dispatched → Looks d (record e { work = record e.work { dispatched = x }; datagrams = later })
 looks-next d e later piece x h next goes so = record { same = h.same; left = admits-next e.datagrams later piece e.work.dispatched x next goes so ∙ h.left }
 
--- none is left, or a fault came
-pub admits-none : (xs : List (List ℕ)) (e : DispatchedNow) → xs ≡ [] → admit_each xs e ≡ e
-admits-none xs e none = ap (λ (ys : List (List ℕ)). admit_each ys e) none
-
+-- a fault came
 pub admits-over : (xs : List (List ℕ)) (e : DispatchedNow) → is_some e.fault ≡ true → admit_each xs e ≡ e
 admits-over [] e over = refl
 admits-over (piece ∷ later) e over = by e.fault over
@@ -179,12 +170,19 @@ looks-last d e h stays =
 pub shorter : (xs ys : List (List ℕ)) (x : List ℕ) → xs ≡ x ∷ ys → length ys < length xs
 shorter xs ys x so = subst (λ (zs : List (List ℕ)). length ys < length zs) (sym so) (omega arith)
 
--- none is looked at twice
-pub datagrams-emptied : {e f : DriverNow} → e ≡ f → (d : DriverNow) (xs : List (List ℕ)) → record f { datagrams = [] } ≡ datagrams_step d → xs ≡ [] → record e { datagrams = xs } ≡ datagrams_step d
-datagrams-emptied {e} at d xs so none =
-    ap (λ (ys : List (List ℕ)). record e { datagrams = ys }) none ∙ (ap (λ (x : DriverNow). record x { datagrams = [] }) at ∙ so)
-
 -- none is left, by their number
 pub admits-empty : (xs : List (List ℕ)) (e : DispatchedNow) → length xs ≡ 0 → admit_each xs e ≡ e
 admits-empty [] e none = refl
 admits-empty (x ∷ xs) e none = absurd (omega (arith, none))
+
+none-left : (xs : List (List ℕ)) → length xs ≡ 0 → xs ≡ []
+none-left [] none = refl
+none-left (x ∷ xs) none = absurd (omega (arith, none))
+
+-- all were looked at
+pub looks-through : (d e : DriverNow) (ys : List (List ℕ)) → Looks d e → length e.datagrams ≡ 0 → e.datagrams ≡ ys → record e { datagrams = ys } ≡ datagrams_step d
+looks-through d e ys h none same = ap (λ (xs : List (List ℕ)). record e { datagrams = xs }) (sym same ∙ none-left e.datagrams none) ∙ looks-last d e h (admits-empty e.datagrams e.work.dispatched none)
+
+-- a fault came with one of them, and the rest is dropped
+pub looks-stopped : (d e : DriverNow) (ys : List (List ℕ)) → Looks d e → is_some e.work.dispatched.fault ≡ true → ys ≡ [] → record e { datagrams = ys } ≡ datagrams_step d
+looks-stopped d e ys h over none = ap (λ (xs : List (List ℕ)). record e { datagrams = xs }) none ∙ looks-last d e h (admits-over e.datagrams e.work.dispatched over)

@@ -15,7 +15,6 @@ pub mod Plain
 pub mod ProgramLaws
 pub mod Receives
 pub mod Row
-pub mod ScriptLaws
 pub mod Sends
 pub mod Sessions
 pub mod StreamLaws

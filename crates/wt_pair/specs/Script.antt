@@ -1,14 +1,15 @@
 -- The facts and the events that a script of two ends spells (this repository's own grammar).
-use Rattle.std.specs.Prelude.{ℕ, ◌+◌, List, [], ◌∷◌, ◌++◌, codes, Option, Some, None, Result, Ok, Err, if◌then◌else◌}
+use Rattle.std.specs.Prelude.{ℕ, List, [], ◌∷◌, ◌++◌, codes, Option, Some, None, Result, Ok, Err, if◌then◌else◌}
 use Rattle.std.specs.Option.{option_map}
 use Rattle.wt_pair.specs.Lines.{PairLines, Scripted}
 use Rattle.wt_pair.specs.declared.event.PairEvent.{PairEvent}
 use Rattle.wt_pair.specs.declared.event.PairEvent.TheVariants as pair_events
 use Rattle.wt_pair.specs.declared.event.PairFacts.{PairFacts}
 use Rattle.wt_script.specs.declared.script.ScriptRefused.{ScriptRefused}
+use Rattle.wt_script.specs.Drafts.{read_lines}
 use Rattle.wt_script.specs.Events.{connected_of}
 use Rattle.wt_script.specs.Numbers.{count_of}
-use Rattle.wt_script.specs.Script.{is_left_out, side_of, turn_of_words}
+use Rattle.wt_script.specs.Script.{side_of, turn_of_words}
 use Rattle.wt_script.specs.Words.{is_word, lines, one, two, words}
 use Rattle.wt_turn.specs.declared.turn.Turn.{Turn}
 use Rattle.wt_turn.specs.declared.turn.Turn.TheVariants as turns
@@ -92,25 +93,24 @@ with_facts before facts = record before { facts = Some facts }
 abbrev pub with_event : PairLines → PairEvent → PairLines
 with_event before event = record before { events = before.events ++ event ∷ [] }
 
--- the first line that isn't left out gives the facts, each further one is an event
-abbrev pub with_words : PairLines → Option PairFacts → List ℕ → Option PairLines
-with_words before None line = option_map (with_facts before) (facts_of line)
-with_words before (Some facts) line = option_map (with_event before) (event_of line)
+-- the first line gives the facts, each further one is an event
+abbrev pub with_facts_or_event : PairLines → Option PairFacts → List ℕ → Option PairLines
+with_facts_or_event before None line = option_map (with_facts before) (facts_of line)
+with_facts_or_event before (Some facts) line = option_map (with_event before) (event_of line)
 
--- what one more line says; None where it is none of a script's
-abbrev pub with_line : PairLines → List ℕ → Option PairLines
-with_line before line = if is_left_out line then Some before else with_words before before.facts line
+-- what one more line says, of those that aren't left out; None where it is none of a script's
+abbrev pub with_words : PairLines → List ℕ → Option PairLines
+with_words before line = with_facts_or_event before before.facts line
 
--- what a script comes to at its end: without facts it is refused after its last line
-abbrev pub script_at_end : ℕ → List PairEvent → Option PairFacts → Result Scripted ScriptRefused
-script_at_end number events None = Err (record { line = number })
-script_at_end number events (Some facts) = Ok (record { facts = facts; events = events })
+-- the events with these facts; without facts the script is refused at this line
+abbrev pub script_of_facts : ℕ → List PairEvent → Option PairFacts → Result Scripted ScriptRefused
+script_of_facts number events None = Err (record { line = number })
+script_of_facts number events (Some facts) = Ok (record { facts = facts; events = events })
 
--- the lines one after another, the first of this number; the first that is none of a script's refuses it
-abbrev pub read_lines : ℕ → PairLines → List (List ℕ) → Result Scripted ScriptRefused
-read_lines number before [] = script_at_end number before.events before.facts
-read_lines number before (line ∷ lines) = elim (with_line before line) [ Some following ↦ read_lines (number + 1) following lines | None ↦ Err (record { line = number }) ]
+-- what the lines of a script come to at its end
+abbrev pub script_at_end : ℕ → PairLines → Result Scripted ScriptRefused
+script_at_end number whole = script_of_facts number whole.events whole.facts
 
 -- the facts and the events of a script, or the first line that is refused
 abbrev pub pair_script_of : List ℕ → Result Scripted ScriptRefused
-pair_script_of script = read_lines 1 no_lines (lines script)
+pair_script_of script = read_lines with_words script_at_end 1 no_lines (lines script)

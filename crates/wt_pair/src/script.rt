@@ -1,18 +1,18 @@
 //! Scripts of two ends: the facts, and then the events, a line each.
-ghost use Rattle.std.specs.Prelude.{◌≡◌, ◌+◌, ◌<◌, ◌^◌, ◌∷◌, IfOk, None, Some, if◌then◌else◌};
+ghost use Rattle.std.specs.Prelude.{◌≡◌, ◌∷◌, IfOk, None, Some, if◌then◌else◌};
 ghost use Rattle.std.specs.Option.{option_map};
-ghost use Rattle.wt_pair.specs.Script.{call_event, credit_event, deliver_event, event_at, event_of, event_of_words, facts_in, facts_of, facts_of_words, lose_event, no_lines, pair_script_of, read_lines, script_at_end, step_event, step_of_words, with_event, with_facts, with_line};
+ghost use Rattle.wt_pair.specs.Script.{call_event, credit_event, deliver_event, event_at, event_of, event_of_words, facts_in, facts_of, facts_of_words, lose_event, no_lines, pair_script_of, step_event, step_of_words, with_event, with_facts};
 ghost use Rattle.wt_script.specs.Script.{turn_of_words};
-ghost use Rattle.wt_script.specs.Words.{last_line, lines};
 
 use crate::event::{PairEvent, PairFacts};
 use std::alloc::Global;
 use std::marker::Model;
+use wt_script::draft::{Draft, read_lines};
+use wt_script::script::ScriptRefused;
 use wt_script::script::events::read_connected;
 use wt_script::script::lines::{read_side, read_words};
 use wt_script::script::numbers::read_count;
 use wt_script::script::words::{Parts, is_name};
-use wt_script::script::{ScriptRefused, split_line};
 use wt_turn::Turn;
 use wt_wire::error::OutOfMemory;
 use wt_wire::side::Side;
@@ -53,15 +53,15 @@ impl PairScript {
 
 /// What the lines so far say.
 #[derive(Debug, Drop)]
-struct Draft {
+struct PairLines {
     facts: Option<PairFacts>,
     events: Vec<PairEvent>,
 }
 
-impl Model for Draft {
-    ghost use Rattle.wt_pair.specs.Lines.{PairLines};
+impl Model for PairLines {
+    ghost use Rattle.wt_pair.specs.Lines as said;
 
-    ghost Value = { PairLines };
+    ghost Value = { said.PairLines };
 
     ghost view = { λ d. record {
       facts = d.facts;
@@ -69,27 +69,13 @@ impl Model for Draft {
     } };
 }
 
-impl Draft {
-    fn new(alloc: Global) -> Draft
+impl PairLines {
+    fn new(alloc: Global) -> PairLines
         ensures { result ≡ no_lines }
     {
-        Draft {
+        PairLines {
             facts: None,
             events: Vec::new(alloc),
-        }
-    }
-
-    /// Takes a line; false where it isn't in the grammar.
-    fn take_line(&mut self, alloc: Global, line: &[u8]) -> Result<bool, OutOfMemory>
-        ensures { IfOk result (λ accepted. with_line self.old line.now ≡ (if accepted then Some self.new else None)) }
-    {
-        match line {
-            [] => Ok(true),
-            [b'#', ..] => Ok(true),
-            _ => match self.facts {
-                None => Ok(self.take_facts(line)),
-                Some(_) => self.take_event(alloc, line),
-            },
         }
     }
 
@@ -106,7 +92,7 @@ impl Draft {
     }
 
     fn take_event(&mut self, alloc: Global, line: &[u8]) -> Result<bool, OutOfMemory>
-        ensures { IfOk result (λ accepted. option_map (with_event self.old) (event_of line.now) ≡ (if accepted then Some self.new else None)) }
+        ensures { IfOk result (λ taken. option_map (with_event self.old) (event_of line.now) ≡ (if taken then Some self.new else None)) }
     {
         match read_event(alloc, line)? {
             Some(event) => {
@@ -116,11 +102,25 @@ impl Draft {
             None => Ok(false),
         }
     }
+}
 
-    /// The script, or its refusal at this line where no line gave the facts.
-    fn finish(self, number: u64) -> Result<PairScript, ScriptRefused>
-        ensures { result ≡ script_at_end number self.events self.facts }
-    {
+impl Draft for PairLines {
+    ghost use Rattle.wt_pair.specs.Script.{script_at_end, with_words};
+
+    type Whole = PairScript;
+
+    ghost with_words = { with_words };
+
+    ghost at_end = { script_at_end };
+
+    fn take_line(&mut self, alloc: Global, line: &[u8]) -> Result<bool, OutOfMemory> {
+        match self.facts {
+            None => Ok(self.take_facts(line)),
+            Some(_) => self.take_event(alloc, line),
+        }
+    }
+
+    fn finish(self, number: u64) -> Result<PairScript, ScriptRefused> {
         match self.facts {
             Some(facts) => Ok(PairScript {
                 facts,
@@ -138,45 +138,13 @@ impl Draft {
 ///
 /// `OutOfMemory` where the events found no memory; the answer `Err` names the first line that isn't in the grammar, or the one after the
 /// last where none has the facts.
-#[tactic(auto, using(crate::proofs::ScriptLaws::refused_here, crate::proofs::ScriptLaws::accepted_here))]
 pub fn read_pair_script(
     alloc: Global,
     script: &[u8],
 ) -> Result<Result<PairScript, ScriptRefused>, OutOfMemory>
     ensures { IfOk result (λ r. r ≡ pair_script_of script.now) }
 {
-    let mut draft = Draft::new(alloc);
-    let mut number: u64 = 1;
-    let mut rest = script;
-    while let Some((line, later)) = split_line(rest) {
-        if !draft.take_line(alloc, line)? {
-            return Ok(Err(ScriptRefused { line: number }));
-        }
-        number += 1;
-        rest = later;
-    }
-    end_script(alloc, draft, number, rest)
-}
-
-/// Reads the last line, which lacks its line feed, where there is one.
-fn end_script(
-    alloc: Global,
-    draft: Draft,
-    number: u64,
-    line: &[u8],
-) -> Result<Result<PairScript, ScriptRefused>, OutOfMemory>
-    requires { number + 1 < 2 ^ 64 }
-    ensures { IfOk result (λ r. r ≡ read_lines number draft (last_line line.now)) }
-{
-    let mut draft = draft;
-    if line.is_empty() {
-        return Ok(draft.finish(number));
-    }
-    if draft.take_line(alloc, line)? {
-        Ok(draft.finish(number + 1))
-    } else {
-        Ok(Err(ScriptRefused { line: number }))
-    }
+    read_lines(alloc, PairLines::new(alloc), script)
 }
 
 // ---- the facts

@@ -109,6 +109,10 @@ four-ids (a ∷ b ∷ c ∷ []) le = refl
 four-ids (a ∷ b ∷ c ∷ e ∷ []) le = refl
 four-ids (a ∷ b ∷ c ∷ e ∷ f ∷ xs) le = absurd (omega arith)
 
+-- a session is asked for by its own stream, which has its id
+pub asked : (d : SessionsNow) {k s : ℕ} {o : Option ℕ} → o ≡ position (is_live k) d.living → k ≡ s → o ≡ position (is_live s) d.living
+asked d at same = at ∙ ap (λ n. position (is_live n) d.living) same
+
 -- ---- as code asks them: d are the fields that stand for the value
 
 module _ (s : ℕ) (d now : SessionsNow) (i : ℕ) (x : LiveNow) (view : d ≡ now) (at : Some i ≡ position (is_live s) now.living) (is : x ≡ get_or d.living i x) where
@@ -129,6 +133,13 @@ module _ (s : ℕ) (d now : SessionsNow) (i : ℕ) (x : LiveNow) (view : d ≡ n
 
   pub admits-at : (take : WindowNow → Taken) (r : InWindow) → r ≡ in_window take x → ◌≡◌ {A = Admits} (record { admission = r.admission; sessions = record d { living = set d.living i r.live } }) (admit_by take (live_in now s) (is_gone_now now s) now)
   admits-at take r e = live-admits s d i x at-fields is take (is_gone_now d s) r e ∙ ap (λ (k : SessionsNow). admit_by take (live_in k s) (is_gone_now k s) k) view
+
+  -- the same, where the session's fields stand for it
+  pub admits-in : (fields : LiveNow) → fields ≡ x → (take : WindowNow → Taken) (q : Taken) → q ≡ take fields.window
+      → ◌≡◌ {A = Admits} (record { admission = q.admission; sessions = record d { living = set d.living i (record fields { window = q.window }) } }) (admit_by take (live_in now s) (is_gone_now now s) now)
+  admits-in fields same take q e =
+      admits-at take (record { admission = q.admission; live = record fields { window = q.window } })
+      (ap (λ (t : Taken). record { admission = t.admission; live = record fields { window = t.window } }) e ∙ ap (in_window take) same)
 
   pub reads-at : (t : TransportState) (live : LiveNow) (then_t : TransportState) → ◌≡◌ {A = ReadOn SessionReader} (record { reader = live.reader; transport = then_t }) (read_on session_rules x.id x.reader t) → live ≡ with_reader live.reader x
       → ◌≡◌ {A = LiveRead} (record { sessions = record d { living = set d.living i live }; transport = then_t }) (live_read s (live_in now s) now t)

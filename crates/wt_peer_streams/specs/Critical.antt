@@ -12,11 +12,6 @@ abbrev pub with_once : Option ℕ → ℕ → Option ℕ
 with_once None k = Some k
 with_once (Some before) k = Some before
 
--- the first control stream stays
-abbrev pub with_control_at : Option (Slot ControlReading) → ℕ → Option (Slot ControlReading)
-with_control_at None k = Some (record { id = k; reader = control_rules.start })
-with_control_at (Some before) k = Some before
-
 -- how many control streams there are
 abbrev pub control_count : Option (Slot ControlReading) → ℕ
 control_count None = 0

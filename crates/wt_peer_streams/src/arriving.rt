@@ -106,7 +106,7 @@ impl<R: HeaderReader> Arriving<R> {
     fn index_of(&self, id: StreamId) -> Option<usize>
         ensures { result ≡ position (λ slot. slot.id == id) self.now.reading }
     {
-        self.reading.iter().position(|slot| slot.is(id))
+        self.reading.iter().position(|slot| slot.id == id)
     }
 
     /// Feeds the reader of the stream's header; None where it isn't read.
@@ -141,7 +141,7 @@ impl<R: HeaderReader> Arriving<R> {
             return Ok(false);
         };
         let reader = R::fresh(*self.reading.allocator());
-        self.reading.push(Reading::new(id, reader))?;
+        self.reading.push(Reading { id, reader })?;
         self.next += 1;
         Ok(true)
     }
@@ -165,8 +165,9 @@ impl<R: HeaderReader> Arriving<R> {
         if let Verdict::Incomplete = slot.outcome() {
             return Ok(true);
         }
-        let (id, verdict) = self.reading.remove(index).into_outcome();
-        to.classify(t, id, verdict)?;
+        let over = self.reading.remove(index);
+        let Reading { id, reader } = over;
+        to.classify(t, id, reader.into_says())?;
         Ok(false)
     }
 

@@ -2,10 +2,9 @@
 ghost use Rattle.std.specs.Prelude.{◌≡◌, ◌≤◌, ◌+◌, ◌||◌, IfOk, None, OnOk, is_none};
 ghost use Rattle.wt_kept.specs.Counting.{CountsControl, feed_steps};
 ghost use Rattle.wt_kept.specs.Looking.{has_ended};
-ghost use Rattle.wt_peer_streams.specs.Critical.{control_count, control_fed, control_feed, control_settings, read_control_at, with_control_at, with_once};
+ghost use Rattle.wt_peer_streams.specs.Critical.{control_count, control_fed, control_feed, control_settings, read_control_at, with_once};
 
 use crate::reading::{Fed, Reading, is_running};
-use std::alloc::Global;
 use std::marker::Model;
 use std::sync::ledger::Ledger;
 use wt_proto::ControlReader;
@@ -19,9 +18,9 @@ use wt_wire::ids::StreamId;
 /// its type, and the QPACK streams (RFC 9204, section 4.2).
 #[derive(Drop)]
 pub struct CriticalStreams {
-    control: Option<Reading<ControlReader>>,
-    encoder: Option<StreamId>,
-    decoder: Option<StreamId>,
+    pub(crate) control: Option<Reading<ControlReader>>,
+    pub(crate) encoder: Option<StreamId>,
+    pub(crate) decoder: Option<StreamId>,
 }
 
 impl Model for CriticalStreams {
@@ -33,7 +32,7 @@ impl Model for CriticalStreams {
 }
 
 /// The stream is the one of its kind; false where one was there.
-fn set_once(place: &mut Option<StreamId>, id: StreamId) -> bool
+pub(crate) fn set_once(place: &mut Option<StreamId>, id: StreamId) -> bool
     ensures first { result ≡ is_none place.old }
     ensures place { place.new ≡ with_once place.old id }
 {
@@ -64,36 +63,6 @@ impl CriticalStreams {
             encoder: None,
             decoder: None,
         }
-    }
-
-    // ---- each comes once
-
-    /// The stream is the control stream; false where one was there.
-    pub fn set_control(&mut self, alloc: Global, id: StreamId) -> bool
-        ensures first { result ≡ is_none self.old.control }
-        ensures place { self.new ≡ record self.old { control = with_control_at self.old.control id } }
-    {
-        if self.control.is_some() {
-            return false;
-        }
-        self.control = Some(Reading::new(id, ControlReader::new(alloc)));
-        true
-    }
-
-    /// The stream is the encoder's; false where one was there.
-    pub fn set_encoder(&mut self, id: StreamId) -> bool
-        ensures first { result ≡ is_none self.old.encoder }
-        ensures place { self.new ≡ record self.old { encoder = with_once self.old.encoder id } }
-    {
-        set_once(&mut self.encoder, id)
-    }
-
-    /// The stream is the decoder's; false where one was there.
-    pub fn set_decoder(&mut self, id: StreamId) -> bool
-        ensures first { result ≡ is_none self.old.decoder }
-        ensures place { self.new ≡ record self.old { decoder = with_once self.old.decoder id } }
-    {
-        set_once(&mut self.decoder, id)
     }
 
     // ---- the control stream
@@ -131,7 +100,7 @@ impl CriticalStreams {
         ensures steps { IfOk result (λ fed. steps.new ≡ steps.old + feed_steps fed) }
     {
         match &mut self.control {
-            Some(control) if control.is(id) => Ok(Some(control.feed(piece, steps)?)),
+            Some(control) if control.id == id => Ok(Some(control.feed(piece, steps)?)),
             _ => Ok(None),
         }
     }

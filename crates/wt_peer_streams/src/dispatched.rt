@@ -23,6 +23,7 @@ use wt_wire::ids::SessionId;
 /// Where streams, requests and datagrams went, and the fault that came with one of them. Nothing goes on after a fault.
 #[derive(Drop)]
 pub struct Dispatched {
+    alloc: Global,
     /// The peer's streams on which the connection rests.
     pub critical: CriticalStreams,
     /// The peer's requests for sessions.
@@ -46,6 +47,7 @@ impl Dispatched {
         ensures { result ≡ nothing_dispatched }
     {
         Dispatched {
+            alloc,
             critical: CriticalStreams::new(),
             requests: Requests::new(alloc),
             sessions: Sessions::new(alloc),
@@ -80,7 +82,7 @@ impl Dispatched {
         ensures { OnOk result (t.new ≡ closed_with self.now.fault t.old) }
     {
         match self.fault {
-            Some(code) => t.close(code.to_code(), Piece::new(self.sessions.allocator())),
+            Some(code) => t.close(code.to_code(), Piece::new(self.alloc)),
             None => Ok(()),
         }
     }

@@ -46,20 +46,6 @@ impl Numbered for GoneSession {
     }
 }
 
-impl GoneSession {
-    fn is(&self, session: SessionId) -> bool
-        ensures { result ≡ (self.now.id == session) }
-    {
-        self.session == session
-    }
-
-    fn end(&self) -> &SessionEnd
-        ensures { end_now result.now ≡ self.now.end }
-    {
-        &self.end
-    }
-}
-
 /// The sessions that are gone, by id. A stream or a datagram may name any of them at any time, so none is forgotten.
 #[derive(Drop)]
 pub struct GoneSessions {
@@ -103,8 +89,12 @@ impl GoneSessions {
             self.sessions.as_slice(),
             session.session_stream().into_u64(),
         );
-        if place < self.sessions.len() && self.sessions[place].is(session) {
-            return Some(self.sessions[place].end());
+        if place >= self.sessions.len() {
+            return None;
+        }
+        let gone = &self.sessions[place];
+        if gone.session == session {
+            return Some(&gone.end);
         }
         None
     }

@@ -1,17 +1,14 @@
 //! A session that lives.
-ghost use Rattle.std.specs.Prelude.{◌≡◌, ◌+◌, [], IfOk, OnOk, nat_lt};
+ghost use Rattle.std.specs.Prelude.{◌≡◌, [], IfOk, OnOk};
 ghost use Rattle.wt_kept.specs.Counting.{CountsRead};
 ghost use Rattle.wt_kept.specs.Kept.{WorkNow};
-ghost use Rattle.wt_kept.specs.Pieces.{fed_by};
-ghost use Rattle.wt_kept.specs.Readers.{fed_piece, read_on, session_rules};
-ghost use Rattle.wt_kept.specs.Windows.{first_datagram, first_stream_id, given_datagram, is_live, joined_by, with_datagram, with_stream};
-ghost use Rattle.wt_peer_streams.specs.Admitting.{admission_now};
-ghost use Rattle.wt_peer_streams.specs.Living.{after_news, in_window, live_taken, news_by, with_reader};
+ghost use Rattle.wt_kept.specs.Readers.{read_on, session_rules};
+ghost use Rattle.wt_kept.specs.Windows.{first_stream_id};
+ghost use Rattle.wt_peer_streams.specs.Living.{after_news, live_taken, news_by, with_reader};
 
-use crate::datagram::Datagram;
 use crate::numbered::StreamIds;
-use crate::reading::{Fed, Reading};
-use crate::window::{Admission, Window};
+use crate::reading::Reading;
+use crate::window::Window;
 use std::alloc::Global;
 use std::marker::Model;
 use std::sync::ledger::Ledger;
@@ -38,10 +35,10 @@ pub enum News {
 /// A session that lives: the reader of its stream, what waits for it, and the streams that calls accepted or began to open, by id.
 #[derive(Drop)]
 pub(crate) struct LiveSession {
-    id: SessionId,
-    reading: Reading<SessionReader>,
-    window: Window,
-    members: StreamIds,
+    pub(crate) id: SessionId,
+    pub(crate) reading: Reading<SessionReader>,
+    pub(crate) window: Window,
+    pub(crate) members: StreamIds,
 }
 
 impl Model for LiveSession {
@@ -62,69 +59,13 @@ impl LiveSession {
     {
         LiveSession {
             id,
-            reading: Reading::new(id.session_stream(), SessionReader::for_session(alloc)),
+            reading: Reading {
+                id: id.session_stream(),
+                reader: SessionReader::for_session(alloc),
+            },
             window,
             members: StreamIds::new(alloc),
         }
-    }
-
-    /// The session.
-    pub(crate) fn id(&self) -> SessionId
-        ensures { result ≡ self.now.id }
-    {
-        self.id
-    }
-
-    /// Whether it is this session.
-    pub(crate) fn is(&self, session: SessionId) -> bool
-        ensures { result ≡ is_live session self.now }
-    {
-        self.id == session
-    }
-
-    /// Whether its own stream is this one.
-    pub(crate) fn has_stream(&self, id: StreamId) -> bool
-        ensures { result ≡ is_live id self.now }
-    {
-        self.id.session_stream() == id
-    }
-
-    /// Whether its id is greater than this one.
-    pub(crate) fn comes_after(&self, session: SessionId) -> bool
-        ensures { result ≡ nat_lt session self.now.id }
-    {
-        session.session_stream().into_u64() < self.id.session_stream().into_u64()
-    }
-
-    /// A stream waits in its window.
-    pub(crate) fn admit_stream(
-        &mut self,
-        id: StreamId,
-        session: SessionId,
-    ) -> Result<Admission, OutOfMemory>
-        ensures { IfOk result (λ a. record { admission = admission_now a; live = self.new } ≡ in_window (with_stream (record { id = id; session = session })) self.old) }
-    {
-        self.window.admit_stream(id, session)
-    }
-
-    /// A datagram waits in its window.
-    pub(crate) fn admit_datagram(&mut self, datagram: Datagram) -> Result<Admission, OutOfMemory>
-        ensures { IfOk result (λ a. record { admission = admission_now a; live = self.new } ≡ in_window (with_datagram datagram) self.old) }
-    {
-        self.window.admit_datagram(datagram)
-    }
-
-    /// Feeds the reader of its stream bytes as they come.
-    pub(crate) fn feed<L: Ledger>(
-        &mut self,
-        piece: &[u8],
-        steps: &mut Steps<L>,
-    ) -> Result<Fed, OutOfMemory>
-        ensures fed { IfOk result (λ fed. fed ≡ fed_by session_rules self.old.reader piece.now) }
-        ensures reader { OnOk result (self.new ≡ with_reader (fed_piece session_rules self.old.reader piece.now) self.old) }
-        ensures steps { steps.new ≡ steps.old + 1 }
-    {
-        self.reading.feed(piece, steps)
     }
 
     /// What its stream says; None while the session goes on.
@@ -137,7 +78,7 @@ impl LiveSession {
             SessionWalk::Closed(code, reason) => {
                 let reason = Piece::from_slice(alloc, reason.as_str().as_bytes())?;
                 let close = ApplicationClose::new(*code, reason);
-                if self.reading.reader().is_closed_by_capsule() {
+                if self.reading.reader.is_closed_by_capsule() {
                     return Ok(Some(News::Capsule(close)));
                 }
                 Ok(Some(News::CleanEnd(close)))
@@ -160,13 +101,6 @@ impl LiveSession {
         self.news(t.allocator())
     }
 
-    /// A call began to open the stream.
-    pub(crate) fn join(&mut self, id: StreamId) -> Result<(), OutOfMemory>
-        ensures { OnOk result (self.new ≡ joined_by id self.old) }
-    {
-        self.members.add(id)
-    }
-
     /// The next stream of this kind that waits, which it has from now on.
     pub(crate) fn take_stream(
         &mut self,
@@ -180,14 +114,6 @@ impl LiveSession {
         };
         self.members.add(id)?;
         Ok(Some(id))
-    }
-
-    /// The next datagram that waits.
-    pub(crate) fn take_datagram(&mut self) -> Option<Datagram>
-        ensures datagram { result ≡ first_datagram self.old.window.datagrams }
-        ensures live { self.new ≡ given_datagram self.old }
-    {
-        self.window.take_datagram()
     }
 
     /// What waits for it, and its streams.

@@ -4,7 +4,6 @@ ghost use Rattle.wt_kept.specs.Counting.{CountsRead};
 ghost use Rattle.wt_kept.specs.Pieces.{feeds};
 ghost use Rattle.wt_kept.specs.Readers.{fed_piece_by, noted_if, reads_on};
 ghost use Rattle.wt_transport.specs.Step.{end_now, unread_now};
-ghost use Rattle.wt_peer_streams.specs.Feeding.{Took};
 ghost use Rattle.wt_turn.specs.Reports.{is_running};
 
 use std::marker::Model;
@@ -29,8 +28,10 @@ pub(crate) fn is_running(end: StreamEnd) -> bool
 /// What a reader did with a piece.
 #[derive(Clone, Copy)]
 pub struct Fed {
-    taken: usize,
-    is_final: bool,
+    /// How many bytes of it it took.
+    pub taken: usize,
+    /// Whether its outcome is final, so that it takes no more.
+    pub is_final: bool,
 }
 
 impl Model for Fed {
@@ -43,27 +44,13 @@ impl Model for Fed {
     ghost inverse = { λ f. record { taken = f.taken; is_final = f.is_final } };
 }
 
-impl Fed {
-    /// How many bytes of it it took.
-    pub fn taken(&self) -> usize
-        ensures { result ≡ self.now.taken }
-    {
-        self.taken
-    }
-
-    /// Whether its outcome is final, so that it takes no more.
-    pub fn is_final(&self) -> bool
-        ensures { result ≡ self.now.is_final }
-    {
-        self.is_final
-    }
-}
-
 /// A stream, and the reader of what comes on it.
 #[derive(Drop)]
 pub struct Reading<R: Reader> {
-    id: StreamId,
-    reader: R,
+    /// The stream.
+    pub id: StreamId,
+    /// The reader.
+    pub reader: R,
 }
 
 impl<R: Reader> Model for Reading<R> {
@@ -75,41 +62,11 @@ impl<R: Reader> Model for Reading<R> {
 }
 
 impl<R: Reader> Reading<R> {
-    /// The stream, of which this reader took nothing.
-    pub fn new(id: StreamId, reader: R) -> Self
-        ensures { result ≡ record { id = id; reader = reader } }
-    {
-        Reading { id, reader }
-    }
-
-    /// Whether it is this stream.
-    pub fn is(&self, id: StreamId) -> bool
-        ensures { result ≡ (self.now.id == id) }
-    {
-        self.id == id
-    }
-
-    /// The reader.
-    pub fn reader(&self) -> &R
-        ensures { result.now ≡ self.now.reader }
-    {
-        &self.reader
-    }
-
     /// What the stream says.
     pub fn outcome(&self) -> &R::Outcome
         ensures { result.now ≡ R.said self.now.reader }
     {
         self.reader.says()
-    }
-
-    /// The stream, and what it says.
-    pub fn into_outcome(self) -> (StreamId, R::Outcome)
-        ensures stream { result.0 ≡ self.id }
-        ensures outcome { result.1 ≡ R.said self.reader }
-    {
-        let Reading { id, reader } = self;
-        (id, reader.into_says())
     }
 
     /// Feeds the reader bytes as they come.
@@ -146,25 +103,6 @@ impl<R: Reader> Reading<R> {
         !self.reader.is_final() && t.unread(self.id) > 0
     }
 
-    /// Feeds the reader, whose outcome isn't final, bytes of the first unread piece.
-    fn take_piece<L: Ledger>(
-        &mut self,
-        t: &mut Transport,
-        steps: &mut Steps<L>,
-    ) -> Result<(), OutOfMemory>
-        requires some { 0 < length (unread_now t.old self.old.id) }
-        requires goes { R.is_final self.old.reader ≡ false }
-        requires none { R.fed self.old.reader [] ≡ self.old.reader }
-        ensures took { OnOk result (Took R.is_final R.fed self.old.id self.old.reader t.old self.new.reader t.new) }
-        ensures stream { self.new.id ≡ self.old.id }
-        ensures steps { OnOk result (CountsRead R.is_final self.old.id t.old (record { reader = self.new.reader; transport = t.new }) steps.old steps.new) }
-    {
-        let piece = t.peek(self.id);
-        let taken = self.reader.take(piece, steps)?;
-        t.consume(self.id, taken);
-        Ok(())
-    }
-
     /// Notes the end, which counts once all bytes before it were taken.
     fn note_end(&mut self, t: &Transport)
         ensures { self.new ≡ record self.old { reader = noted_if R.ended (not (is_running (end_now t.now self.old.id)) && length (unread_now t.now self.old.id) == 0) (end_now t.now self.old.id) self.old.reader } }
@@ -189,7 +127,9 @@ impl<R: Reader> Reading<R> {
             return Ok(());
         }
         while self.goes_on(t) {
-            self.take_piece(t, steps)?;
+            let piece = t.peek(self.id);
+            let taken = self.reader.take(piece, steps)?;
+            t.consume(self.id, taken);
         }
         self.note_end(t);
         Ok(())

@@ -29,14 +29,6 @@ impl Model for Queued {
     ghost view = { λ q. record { id = q.id; fields = q.request } };
 }
 
-impl Queued {
-    fn is(&self, id: StreamId) -> bool
-        ensures { result ≡ (self.now.id == id) }
-    {
-        self.id == id
-    }
-}
-
 /// The requests: those that are queued until a call takes them, and the streams of all whose session isn't gone.
 #[derive(Drop)]
 pub struct Requests {
@@ -114,7 +106,7 @@ impl Requests {
     fn is_queued(&self, id: StreamId) -> bool
         ensures { result ≡ is_queued_now self.now id }
     {
-        self.queued.iter().any(|queued| queued.is(id))
+        self.queued.iter().any(|queued| queued.id == id)
     }
 
     /// Whether the stream's request is held, and was given.

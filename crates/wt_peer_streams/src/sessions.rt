@@ -33,9 +33,9 @@ const MOST_LIVING: usize = 4;
 #[derive(Drop)]
 pub struct Remains {
     /// All of them, by id.
-    streams: StreamIds,
+    pub(crate) streams: StreamIds,
     /// Those that waited for it.
-    waiting: Vec<StreamId>,
+    pub(crate) waiting: Vec<StreamId>,
 }
 
 impl Model for Remains {
@@ -54,20 +54,6 @@ impl Remains {
         let mut streams = members;
         streams.add_all(waiting.as_slice())?;
         Ok(Remains { streams, waiting })
-    }
-
-    /// All of them, by id.
-    pub fn streams(&self) -> &[StreamId]
-        ensures { result.now ≡ self.now.streams }
-    {
-        self.streams.as_slice()
-    }
-
-    /// Those that waited for it.
-    pub fn waiting(&self) -> &[StreamId]
-        ensures { result.now ≡ self.now.waiting }
-    {
-        self.waiting.as_slice()
     }
 }
 
@@ -102,11 +88,6 @@ impl Sessions {
         }
     }
 
-    /// Where it takes memory.
-    pub fn allocator(&self) -> Global {
-        *self.living.allocator()
-    }
-
     // ---- which there are
 
     /// How many live.
@@ -136,7 +117,8 @@ impl Sessions {
         ensures { result ≡ option_map (λ (x : LiveNow). x.id) (slice_get self.now.living index) }
     {
         if index < self.living.len() {
-            return Some(self.living[index].id());
+            let live = &self.living[index];
+            return Some(live.id);
         }
         None
     }
@@ -151,17 +133,20 @@ impl Sessions {
         [self.id_at(0), self.id_at(1), self.id_at(2), self.id_at(3)]
     }
 
-    fn index_of(&self, session: SessionId) -> Option<usize>
-        ensures { result ≡ position (is_live session) self.now.living }
+    /// Where the session stands whose own stream this is, of those that live.
+    fn index_of(&self, own: StreamId) -> Option<usize>
+        ensures { result ≡ position (is_live own) self.now.living }
     {
-        self.living.iter().position(|live| live.is(session))
+        self.living
+            .iter()
+            .position(|live| live.id.session_stream() == own)
     }
 
     /// Whether the session lives.
     pub fn lives(&self, session: SessionId) -> bool
         ensures { result ≡ lives_now self.now session }
     {
-        self.living.iter().any(|live| live.is(session))
+        self.living.iter().any(|live| live.id == session)
     }
 
     /// How the session became gone; None where it isn't.
@@ -189,10 +174,10 @@ impl Sessions {
     ) -> Result<Admission, OutOfMemory>
         ensures { IfOk result (λ a. record { admission = admission_now a; sessions = self.new } ≡ admit_stream_now id session self.old) }
     {
-        match self.index_of(session) {
+        match self.index_of(session.session_stream()) {
             Some(index) => {
                 let live = &mut self.living[index];
-                live.admit_stream(id, session)
+                live.window.admit_stream(id, session)
             }
             None if self.is_gone(session) => Ok(Admission::Gone),
             None => self.early.admit_stream(id, session),
@@ -204,21 +189,14 @@ impl Sessions {
         ensures { IfOk result (λ a. record { admission = admission_now a; sessions = self.new } ≡ admit_datagram_now datagram.session datagram.payload self.old) }
     {
         let session = datagram.session_id();
-        match self.index_of(session) {
+        match self.index_of(session.session_stream()) {
             Some(index) => {
                 let live = &mut self.living[index];
-                live.admit_datagram(datagram)
+                live.window.admit_datagram(datagram)
             }
             None if self.is_gone(session) => Ok(Admission::Gone),
             None => self.early.admit_datagram(datagram),
         }
-    }
-
-    /// Where the session stands whose own stream this is, of those that live.
-    fn index_by_stream(&self, id: StreamId) -> Option<usize>
-        ensures { result ≡ position (is_live id) self.now.living }
-    {
-        self.living.iter().position(|live| live.has_stream(id))
     }
 
     /// Feeds the reader of the session that has this stream bytes as they come; None where none that lives has it.
@@ -232,10 +210,10 @@ impl Sessions {
         ensures sessions { OnOk result (self.new ≡ session_fed_at id piece.now (live_in self.old id) self.old) }
         ensures steps { IfOk result (λ fed. steps.new ≡ steps.old + feed_steps fed) }
     {
-        match self.index_by_stream(id) {
+        match self.index_of(id) {
             Some(index) => {
                 let live = &mut self.living[index];
-                Ok(Some(live.feed(piece, steps)?))
+                Ok(Some(live.reading.feed(piece, steps)?))
             }
             None => Ok(None),
         }
@@ -253,7 +231,7 @@ impl Sessions {
         ensures news { (w : WorkNow) → IfOk result (λ news. after_news id news w ≡ news_of_reader id (live_in self.old id) t.old w) }
         ensures steps { OnOk result (CountsLive id (live_in self.old id) t.old steps.old steps.new) }
     {
-        match self.index_by_stream(id) {
+        match self.index_of(id) {
             Some(index) => {
                 let live = &mut self.living[index];
                 live.read(t, steps)
@@ -273,7 +251,7 @@ impl Sessions {
         ensures stream { IfOk result (λ id. id ≡ first_stream_id bidirectional (streams_of_live (live_in self.old session))) }
         ensures sessions { IfOk result (λ id. self.new ≡ stream_given session id self.old) }
     {
-        match self.index_of(session) {
+        match self.index_of(session.session_stream()) {
             Some(index) => {
                 let live = &mut self.living[index];
                 live.take_stream(bidirectional)
@@ -287,10 +265,10 @@ impl Sessions {
         ensures datagram { result ≡ first_datagram (datagrams_of (live_in self.old session)) }
         ensures sessions { self.new ≡ datagram_given session self.old }
     {
-        match self.index_of(session) {
+        match self.index_of(session.session_stream()) {
             Some(index) => {
                 let live = &mut self.living[index];
-                live.take_datagram()
+                live.window.take_datagram()
             }
             None => None,
         }
@@ -300,10 +278,10 @@ impl Sessions {
     pub fn join(&mut self, session: SessionId, id: StreamId) -> Result<(), OutOfMemory>
         ensures { OnOk result (self.new ≡ joined_live session id self.old) }
     {
-        match self.index_of(session) {
+        match self.index_of(session.session_stream()) {
             Some(index) => {
                 let live = &mut self.living[index];
-                live.join(id)
+                live.members.add(id)
             }
             None => Ok(()),
         }
@@ -317,11 +295,12 @@ impl Sessions {
         ensures { OnOk result (self.new ≡ establish_now session self.old) }
     {
         let window = self.early.part_of(session)?;
-        let live = LiveSession::begin(self.allocator(), session, window);
+        let live = LiveSession::begin(*self.living.allocator(), session, window);
         let place = self
             .living
             .iter()
-            .position(|other| other.comes_after(session))
+            .position(|other| session.session_stream().into_u64()
+                < other.id.session_stream().into_u64())
             .unwrap_or(self.living.len());
         self.living.insert(place, live)?;
         Ok(())
@@ -333,14 +312,17 @@ impl Sessions {
         ensures sessions { OnOk result (self.new ≡ ended_by self.old session (end_now end) (live_in self.old session)) }
     {
         self.gone.add(session, end)?;
-        match self.index_of(session) {
+        match self.index_of(session.session_stream()) {
             Some(index) => {
                 let (window, members) = self.living.remove(index).into_parts();
                 Remains::of(members, window.into_streams()?)
             }
             None => {
                 let part = self.early.part_of(session)?;
-                Remains::of(StreamIds::new(self.allocator()), part.into_streams()?)
+                Remains::of(
+                    StreamIds::new(*self.living.allocator()),
+                    part.into_streams()?,
+                )
             }
         }
     }

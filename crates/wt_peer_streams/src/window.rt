@@ -49,20 +49,6 @@ impl Named for Waiting {
     }
 }
 
-impl Waiting {
-    fn id(self) -> StreamId
-        ensures { result ≡ self.id }
-    {
-        self.id
-    }
-
-    fn is_of_kind(&self, bidirectional: bool) -> bool
-        ensures { result ≡ is_of_kind bidirectional self.now.id }
-    {
-        self.id.is_bidirectional() == bidirectional
-    }
-}
-
 /// What names the session goes to the end of `part`; the rest stays, in its order, and takes no memory.
 fn split<T: Named + Drop>(
     from: &mut Vec<T>,
@@ -158,7 +144,7 @@ impl Window {
     {
         self.streams
             .iter()
-            .position(|waiting| waiting.is_of_kind(bidirectional))
+            .position(|waiting| waiting.id.is_bidirectional() == bidirectional)
     }
 
     /// The first stream of this kind, which waits no longer.
@@ -167,7 +153,10 @@ impl Window {
         ensures rest { self.new ≡ without_taken (first_stream_id bidirectional self.old.streams) self.old }
     {
         match self.index_of(bidirectional) {
-            Some(index) => Some(self.streams.remove(index).id()),
+            Some(index) => {
+                let waiting = self.streams.remove(index);
+                Some(waiting.id)
+            }
             None => None,
         }
     }

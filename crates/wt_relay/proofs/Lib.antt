@@ -3,4 +3,3 @@ pub mod Leading
 pub mod Little
 pub mod ProgramLaws
 pub mod Running
-pub mod ScriptLaws

@@ -1,8 +1,9 @@
 -- The turns that a script of a relay spells (this repository's own grammar).
-use Rattle.std.specs.Prelude.{ℕ, ◌+◌, ◌++◌, ◌∷◌, ◌^◌, Err, List, None, Ok, Option, Result, Some, [], if◌then◌else◌, nat_lt}
+use Rattle.std.specs.Prelude.{ℕ, ◌++◌, ◌∷◌, ◌^◌, List, None, Ok, Option, Result, Some, [], if◌then◌else◌, nat_lt}
 use Rattle.std.specs.Option.{option_map}
+use Rattle.wt_script.specs.Drafts.{read_lines}
 use Rattle.wt_script.specs.Numbers.{count_of}
-use Rattle.wt_script.specs.Script.{is_left_out, turn_of_words}
+use Rattle.wt_script.specs.Script.{turn_of_words}
 use Rattle.wt_script.specs.Words.{lines, words}
 use Rattle.wt_script.specs.declared.script.ScriptRefused.{ScriptRefused}
 use Rattle.wt_turn.specs.declared.turn.Turn.{Turn}
@@ -36,15 +37,13 @@ numbered_of line = numbered_of_words (words line)
 -- ---- scripts
 
 -- the turns so far, and what one more line spells; None where it is none of a script's
-abbrev pub with_line : List (ℕ × Turn) → List ℕ → Option (List (ℕ × Turn))
-with_line before line = if is_left_out line then Some before else option_map (λ turn. before ++ turn ∷ []) (numbered_of line)
+abbrev pub with_words : List (ℕ × Turn) → List ℕ → Option (List (ℕ × Turn))
+with_words before line = option_map (λ turn. before ++ turn ∷ []) (numbered_of line)
 
--- the lines one after another, the first of this number; the first that is none of a script's refuses it
-abbrev pub read_lines : ℕ → List (ℕ × Turn) → List (List ℕ) → Result (List (ℕ × Turn)) ScriptRefused
-read_lines number before [] = Ok before
-read_lines number before (line ∷ lines) =
-    elim (with_line before line) [ Some following ↦ read_lines (number + 1) following lines | None ↦ Err (record { line = number }) ]
+-- the lines so far are a script of their own
+abbrev pub script_at_end : ℕ → List (ℕ × Turn) → Result (List (ℕ × Turn)) ScriptRefused
+script_at_end number before = Ok before
 
 -- the turns of a script, or the first line that is refused
 abbrev pub relay_script_of : List ℕ → Result (List (ℕ × Turn)) ScriptRefused
-relay_script_of script = read_lines 1 [] (lines script)
+relay_script_of script = read_lines with_words script_at_end 1 [] (lines script)

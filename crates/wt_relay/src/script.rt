@@ -1,15 +1,14 @@
 //! Scripts of relays: transport turns of numbered connections, a line each.
-ghost use Rattle.std.specs.Prelude.{◌≡◌, ◌++◌, ◌∷◌, ◌+◌, ◌<◌, ◌^◌, [], IfOk, None, Some, if◌then◌else◌};
-ghost use Rattle.std.specs.Option.{option_map};
-ghost use Rattle.wt_relay.specs.Script.{number_of, numbered_of, numbered_of_words, read_lines, relay_script_of, with_line};
-ghost use Rattle.wt_script.specs.Words.{last_line, lines};
+ghost use Rattle.std.specs.Prelude.{◌≡◌, [], IfOk};
+ghost use Rattle.wt_relay.specs.Script.{number_of, numbered_of, numbered_of_words, relay_script_of};
 
 use std::alloc::Global;
 use std::marker::Model;
+use wt_script::draft::{Draft, read_lines};
+use wt_script::script::ScriptRefused;
 use wt_script::script::lines::read_words;
 use wt_script::script::numbers::read_count;
 use wt_script::script::words::Parts;
-use wt_script::script::{ScriptRefused, split_line};
 use wt_turn::Turn;
 use wt_wire::error::OutOfMemory;
 
@@ -44,21 +43,18 @@ impl RelayScript {
     {
         self.turns.as_slice()
     }
+}
 
-    /// Takes a line; false where it isn't in the grammar.
-    fn take_line(&mut self, alloc: Global, line: &[u8]) -> Result<bool, OutOfMemory>
-        ensures { IfOk result (λ taken. with_line self.old line.now ≡ (if taken then Some self.new else None)) }
-    {
-        match line {
-            [] => Ok(true),
-            [b'#', ..] => Ok(true),
-            _ => self.take_turn(alloc, line),
-        }
-    }
+impl Draft for RelayScript {
+    ghost use Rattle.wt_relay.specs.Script.{script_at_end, with_words};
 
-    fn take_turn(&mut self, alloc: Global, line: &[u8]) -> Result<bool, OutOfMemory>
-        ensures { IfOk result (λ taken. option_map (λ turn. self.old ++ turn ∷ []) (numbered_of line.now) ≡ (if taken then Some self.new else None)) }
-    {
+    type Whole = RelayScript;
+
+    ghost with_words = { with_words };
+
+    ghost at_end = { script_at_end };
+
+    fn take_line(&mut self, alloc: Global, line: &[u8]) -> Result<bool, OutOfMemory> {
         match read_line(alloc, line)? {
             Some(turn) => {
                 self.turns.push(turn)?;
@@ -66,6 +62,10 @@ impl RelayScript {
             }
             None => Ok(false),
         }
+    }
+
+    fn finish(self, _number: u64) -> Result<RelayScript, ScriptRefused> {
+        Ok(self)
     }
 }
 
@@ -81,50 +81,7 @@ pub fn read_relay_script(
 ) -> Result<Result<RelayScript, ScriptRefused>, OutOfMemory>
     ensures { IfOk result (λ read. read ≡ relay_script_of script.now) }
 {
-    read_on(alloc, RelayScript::new(alloc), script)
-}
-
-/// Reads further lines, the first of which has the number 1.
-#[tactic(auto, using(crate::proofs::ScriptLaws::refused_here, crate::proofs::ScriptLaws::accepted_here))]
-fn read_on(
-    alloc: Global,
-    read: RelayScript,
-    script: &[u8],
-) -> Result<Result<RelayScript, ScriptRefused>, OutOfMemory>
-    ensures { IfOk result (λ r. r ≡ read_lines 1 read (lines script.now)) }
-{
-    let mut read = read;
-    let mut number: u64 = 1;
-    let mut rest = script;
-    while let Some((line, later)) = split_line(rest) {
-        if !read.take_line(alloc, line)? {
-            return Ok(Err(ScriptRefused { line: number }));
-        }
-        number += 1;
-        rest = later;
-    }
-    end_script(alloc, read, number, rest)
-}
-
-/// Reads the last line, which lacks its line feed, where there is one.
-fn end_script(
-    alloc: Global,
-    read: RelayScript,
-    number: u64,
-    line: &[u8],
-) -> Result<Result<RelayScript, ScriptRefused>, OutOfMemory>
-    requires { number + 1 < 2 ^ 64 }
-    ensures { IfOk result (λ r. r ≡ read_lines number read (last_line line.now)) }
-{
-    let mut read = read;
-    if line.is_empty() {
-        return Ok(Ok(read));
-    }
-    if read.take_line(alloc, line)? {
-        Ok(Ok(read))
-    } else {
-        Ok(Err(ScriptRefused { line: number }))
-    }
+    read_lines(alloc, RelayScript::new(alloc), script)
 }
 
 /// The turn that a line spells, and its connection's number.

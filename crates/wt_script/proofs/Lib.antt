@@ -1,7 +1,7 @@
 pub mod HeaderLaws
 pub mod JoinedLaws
 pub mod NumberLaws
-pub mod ScriptLaws
+pub mod DraftLaws
 pub mod UrlLaws
 pub mod PrintLaws
 pub mod Splitting

@@ -7,6 +7,7 @@ pub mod Headers
 pub mod Events
 pub mod Calls
 pub mod Lines
+pub mod Drafts
 pub mod Script
 pub mod PrintErrors
 pub mod Print

@@ -1,8 +1,7 @@
 //! Scripts: a side and its turns, a line each.
-ghost use Rattle.std.specs.Prelude.{◌≡◌, ◌∷◌, ◌+◌, ◌<◌, ◌^◌, IfOk, IfSome, MatchOption, Some, None, Ok, if◌then◌else◌, length};
+ghost use Rattle.std.specs.Prelude.{◌≡◌, IfOk, None, Some, if◌then◌else◌};
 ghost use Rattle.std.specs.Option.{option_map};
-ghost use Rattle.wt_script.specs.Words.{last_line, lines};
-ghost use Rattle.wt_script.specs.Script.{no_lines, read_lines, script_at_end, script_of, side_of, turn_of, with_line, with_lines, with_side, with_turn};
+ghost use Rattle.wt_script.specs.Script.{no_lines, script_of, side_of, turn_of, with_lines, with_side, with_turn};
 
 pub(crate) mod addresses;
 mod calls;
@@ -13,8 +12,8 @@ pub mod numbers;
 pub(crate) mod pairs;
 pub mod words;
 
+use crate::draft::{Draft, read_lines};
 use crate::script::lines::{read_side, read_turn};
-use memchr::memchr;
 use std::alloc::Global;
 use std::marker::Model;
 use thiserror::Error;
@@ -31,8 +30,8 @@ pub struct Script {
     pub turns: Turns,
 }
 
-/// A script is refused for this line, counted from 1: the first that isn't in the grammar, or the one
-/// after the last where no line names the side.
+/// A text is refused for this line, counted from 1: the first that isn't in the grammar, or the one after the last where something is
+/// missing, of a script the line that names the side.
 #[derive(Clone, Copy, PartialEq, Eq, Debug, Error)]
 #[error("line {line} refused")]
 pub struct ScriptRefused {
@@ -41,12 +40,12 @@ pub struct ScriptRefused {
 
 /// What the lines so far say.
 #[derive(Debug, Drop)]
-struct Draft {
+struct ScriptLines {
     side: Option<Side>,
     turns: Turns,
 }
 
-impl Model for Draft {
+impl Model for ScriptLines {
     ghost use Rattle.wt_script.specs.Lines.{Lines};
 
     ghost Value = { Lines };
@@ -54,27 +53,13 @@ impl Model for Draft {
     ghost view = { λ d. record { side = d.side; turns = d.turns } };
 }
 
-impl Draft {
-    fn new(alloc: Global) -> Draft
+impl ScriptLines {
+    fn new(alloc: Global) -> ScriptLines
         ensures { result ≡ no_lines }
     {
-        Draft {
+        ScriptLines {
             side: None,
             turns: Turns::new(alloc),
-        }
-    }
-
-    /// Takes a line; false where it isn't in the grammar.
-    fn take_line(&mut self, alloc: Global, line: &[u8]) -> Result<bool, OutOfMemory>
-        ensures { IfOk result (λ accepted. with_line self.old line.now ≡ (if accepted then Some self.new else None)) }
-    {
-        match line {
-            [] => Ok(true),
-            [b'#', ..] => Ok(true),
-            _ => match self.side {
-                None => Ok(self.take_side(line)),
-                Some(_) => self.take_turn(alloc, line),
-            },
         }
     }
 
@@ -91,7 +76,7 @@ impl Draft {
     }
 
     fn take_turn(&mut self, alloc: Global, line: &[u8]) -> Result<bool, OutOfMemory>
-        ensures { IfOk result (λ accepted. option_map (with_turn self.old) (turn_of line.now) ≡ (if accepted then Some self.new else None)) }
+        ensures { IfOk result (λ taken. option_map (with_turn self.old) (turn_of line.now) ≡ (if taken then Some self.new else None)) }
     {
         match read_turn(alloc, line)? {
             Some(turn) => {
@@ -101,11 +86,25 @@ impl Draft {
             None => Ok(false),
         }
     }
+}
 
-    /// The script, or its refusal at this line where no line gave the side.
-    fn finish(self, number: u64) -> Result<Script, ScriptRefused>
-        ensures { result ≡ script_at_end number self.turns self.side }
-    {
+impl Draft for ScriptLines {
+    ghost use Rattle.wt_script.specs.Script.{script_at_end, with_words};
+
+    type Whole = Script;
+
+    ghost with_words = { with_words };
+
+    ghost at_end = { script_at_end };
+
+    fn take_line(&mut self, alloc: Global, line: &[u8]) -> Result<bool, OutOfMemory> {
+        match self.side {
+            None => Ok(self.take_side(line)),
+            Some(_) => self.take_turn(alloc, line),
+        }
+    }
+
+    fn finish(self, number: u64) -> Result<Script, ScriptRefused> {
         match self.side {
             Some(side) => Ok(Script {
                 side,
@@ -113,27 +112,6 @@ impl Draft {
             }),
             None => Err(ScriptRefused { line: number }),
         }
-    }
-}
-
-/// Reads the last line, which lacks its line feed, where there is one.
-fn end_script(
-    alloc: Global,
-    draft: Draft,
-    number: u64,
-    line: &[u8],
-) -> Result<Result<Script, ScriptRefused>, OutOfMemory>
-    requires { number + 1 < 2 ^ 64 }
-    ensures { IfOk result (λ r. r ≡ read_lines number draft (last_line line.now)) }
-{
-    let mut draft = draft;
-    if line.is_empty() {
-        return Ok(draft.finish(number));
-    }
-    if draft.take_line(alloc, line)? {
-        Ok(draft.finish(number + 1))
-    } else {
-        Ok(Err(ScriptRefused { line: number }))
     }
 }
 
@@ -146,7 +124,7 @@ pub fn read_script(
 ) -> Result<Result<Script, ScriptRefused>, OutOfMemory>
     ensures { IfOk result (λ r. r ≡ script_of script.now) }
 {
-    read_on(alloc, Draft::new(alloc), script)
+    read_lines(alloc, ScriptLines::new(alloc), script)
 }
 
 /// Reads lines of turns after a script that has begun: none of them names the side. They are lines as
@@ -158,42 +136,9 @@ pub fn read_more_turns(
 ) -> Result<Result<Script, ScriptRefused>, OutOfMemory>
     ensures { IfOk result (λ r. r ≡ with_lines begun input.now) }
 {
-    let draft = Draft {
+    let lines = ScriptLines {
         side: Some(begun.side),
         turns: begun.turns,
     };
-    read_on(alloc, draft, input)
-}
-
-/// The first line that a line feed ends, and what stands after that.
-pub fn split_line(script: &[u8]) -> Option<(&[u8], &[u8])>
-    ensures lines { MatchOption result (lines script.now ≡ last_line script.now) (λ p. lines script.now ≡ p.0.now ∷ lines p.1.now) }
-    ensures shorter { IfSome result (λ p. length p.1.now < length script.now) }
-{
-    match memchr(b'\n', script) {
-        Some(end) => Some((&script[..end], &script[end + 1..])),
-        None => None,
-    }
-}
-
-/// Reads further lines, the first of which has the number 1.
-#[tactic(auto, using(crate::proofs::ScriptLaws::refused_here, crate::proofs::ScriptLaws::accepted_here))]
-fn read_on(
-    alloc: Global,
-    draft: Draft,
-    script: &[u8],
-) -> Result<Result<Script, ScriptRefused>, OutOfMemory>
-    ensures { IfOk result (λ r. r ≡ read_lines 1 draft (lines script.now)) }
-{
-    let mut draft = draft;
-    let mut number: u64 = 1;
-    let mut rest = script;
-    while let Some((line, later)) = split_line(rest) {
-        if !draft.take_line(alloc, line)? {
-            return Ok(Err(ScriptRefused { line: number }));
-        }
-        number += 1;
-        rest = later;
-    }
-    end_script(alloc, draft, number, rest)
+    read_lines(alloc, lines, input)
 }

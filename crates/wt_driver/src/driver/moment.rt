@@ -1,7 +1,7 @@
 //! The work of a moment.
-ghost use Rattle.std.specs.Prelude.{◌≡◌, ◌≤◌, ◌+◌, [], OnOk};
+ghost use Rattle.std.specs.Prelude.{◌≡◌, ◌≤◌, ◌+◌, OnOk};
 ghost use Rattle.wt_kept.specs.Counting.{steps_left, work_left};
-ghost use Rattle.wt_kept.specs.Moment.{arrivals_step, close_step, control_step, datagrams_step, moment_now, own_stop_step, sessions_step, work_of_moment};
+ghost use Rattle.wt_kept.specs.Moment.{arrivals_step, close_step, control_step, datagrams_step, moment_now, work_of_moment};
 
 use super::Driver;
 use std::collections::VecDeque;
@@ -10,9 +10,9 @@ use wt_proto::steps::Steps;
 use wt_wire::error::OutOfMemory;
 
 impl Driver {
-    /// The datagrams that weren't looked at, in their order, up to the first fault.
-    fn admit_datagrams(&mut self) -> Result<(), OutOfMemory>
-        ensures { OnOk result (record self.new { datagrams = [] } ≡ datagrams_step self.old) }
+    /// The datagrams that weren't looked at, in their order, up to the first fault; none is looked at twice.
+    fn look_at_datagrams(&mut self) -> Result<(), OutOfMemory>
+        ensures { OnOk result (self.new ≡ datagrams_step self.old) }
     {
         while self.dispatched.fault().is_none() {
             let Some(piece) = self.datagrams.pop_front() else {
@@ -20,14 +20,6 @@ impl Driver {
             };
             self.dispatched.admit_datagram(piece)?;
         }
-        Ok(())
-    }
-
-    /// The same; none is looked at twice.
-    fn look_at_datagrams(&mut self) -> Result<(), OutOfMemory>
-        ensures { OnOk result (self.new ≡ datagrams_step self.old) }
-    {
-        self.admit_datagrams()?;
         self.datagrams = VecDeque::new(self.alloc);
         Ok(())
     }
@@ -45,22 +37,6 @@ impl Driver {
             self.look_at_datagrams()?;
         }
         Ok(())
-    }
-
-    /// The streams of the sessions that live.
-    fn read_sessions<L: Ledger>(&mut self, steps: &mut Steps<L>) -> Result<(), OutOfMemory>
-        ensures driver { OnOk result (self.new ≡ sessions_step self.old) }
-        ensures steps { OnOk result (steps.new + work_left self.new ≤ steps.old + work_left self.old) }
-    {
-        self.dispatched.read_sessions(&mut self.transport, steps)
-    }
-
-    /// A receiver must not ask for a control stream to be closed (RFC 9114, section 6.2.1).
-    fn check_own_stop(&mut self)
-        ensures { self.new ≡ own_stop_step self.old }
-    {
-        let is_stopped = self.own_control.is_stopped(&self.transport);
-        self.dispatched.fail_if_closed(is_stopped);
     }
 
     /// The peer's control stream, and its QPACK streams.
@@ -92,8 +68,10 @@ impl Driver {
     {
         self.own_control.flush(&mut self.transport)?;
         self.look_at_arrivals(steps)?;
-        self.read_sessions(steps)?;
-        self.check_own_stop();
+        self.dispatched.read_sessions(&mut self.transport, steps)?;
+        // A receiver must not ask for a control stream to be closed (RFC 9114, section 6.2.1).
+        let is_stopped = self.own_control.is_stopped(&self.transport);
+        self.dispatched.fail_if_closed(is_stopped);
         self.read_control(steps)?;
         self.close_at_fault()
     }

@@ -1,7 +1,7 @@
 //! Pieces of streams.
 ghost use Rattle.std.specs.Prelude.{◌≡◌, ◌≤◌, ◌+◌, IfOk, OnOk, length};
-ghost use Rattle.wt_kept.specs.Counting.{feed_steps, steps_left};
-ghost use Rattle.wt_kept.specs.Pieces.{body_part, header_fed, header_feed, header_part, moment_if, rest_part, take_piece_now, work_after};
+ghost use Rattle.wt_kept.specs.Counting.{steps_left};
+ghost use Rattle.wt_kept.specs.Pieces.{body_part, header_part, rest_part, take_piece_now, work_after};
 
 use super::Driver;
 use std::sync::ledger::Ledger;
@@ -11,38 +11,6 @@ use wt_wire::error::OutOfMemory;
 use wt_wire::ids::StreamId;
 
 impl Driver {
-    /// Feeds the reader of the stream's header bytes as they come; None where no header of it is read.
-    fn feed_reading<L: Ledger>(
-        &mut self,
-        id: StreamId,
-        bytes: &[u8],
-        steps: &mut Steps<L>,
-    ) -> Result<Option<Fed>, OutOfMemory>
-        ensures fed { IfOk result (λ fed. fed ≡ header_feed id bytes.now self.old) }
-        ensures driver { OnOk result (self.new ≡ header_fed id bytes.now self.old) }
-        ensures steps { IfOk result (λ fed. steps.new ≡ steps.old + feed_steps fed) }
-    {
-        if id.is_bidirectional() {
-            return self.bis.feed(id, bytes, steps);
-        }
-        self.unis.feed(id, bytes, steps)
-    }
-
-    /// The moment of the byte that made an outcome final.
-    fn moment_if<L: Ledger>(
-        &mut self,
-        is_final: bool,
-        steps: &mut Steps<L>,
-    ) -> Result<(), OutOfMemory>
-        ensures driver { OnOk result (self.new ≡ moment_if is_final self.old) }
-        ensures steps { OnOk result (steps.new + steps_left self.new ≤ steps.old + steps_left self.old) }
-    {
-        if is_final {
-            return self.moment(steps);
-        }
-        Ok(())
-    }
-
     /// The moments of a part's bytes find nothing but with the byte that makes an outcome final, which is its last.
     fn work_after<L: Ledger>(
         &mut self,
@@ -55,8 +23,10 @@ impl Driver {
         match fed {
             None => Ok(0),
             Some(fed) => {
-                self.moment_if(fed.is_final(), steps)?;
-                Ok(fed.taken())
+                if fed.is_final {
+                    self.moment(steps)?;
+                }
+                Ok(fed.taken)
             }
         }
     }
@@ -75,7 +45,11 @@ impl Driver {
         if bytes.is_empty() {
             return Ok(0);
         }
-        let fed = self.feed_reading(id, bytes, steps)?;
+        if id.is_bidirectional() {
+            let fed = self.bis.feed(id, bytes, steps)?;
+            return self.work_after(fed, steps);
+        }
+        let fed = self.unis.feed(id, bytes, steps)?;
         self.work_after(fed, steps)
     }
 

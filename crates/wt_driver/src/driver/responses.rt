@@ -55,7 +55,10 @@ impl Driver {
     {
         match self.response.take() {
             Some(reading) => reading,
-            None => Reading::new(self.request_id(), StreamReader::for_response(self.alloc)),
+            None => Reading {
+                id: self.request_id(),
+                reader: StreamReader::for_response(self.alloc),
+            },
         }
     }
 

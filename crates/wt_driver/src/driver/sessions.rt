@@ -6,7 +6,7 @@ ghost use Rattle.wt_driver_laws.specs.Handing.{Begins, IsAnswering, MayBegin, re
 ghost use Rattle.wt_driver_laws.specs.Having.{HasSession};
 ghost use Rattle.wt_driver_laws.specs.Replies.{done_reply};
 ghost use Rattle.wt_driver_laws.specs.Sessions.{registered_said, reject_session_now};
-ghost use Rattle.wt_kept.specs.Calling.{close_now, end_session_now, has_place, may_register, on_sessions, refuse_session_now, register_now, response_over};
+ghost use Rattle.wt_kept.specs.Calling.{close_now, end_session_now, may_register, on_sessions, refuse_session_now, register_now, response_over};
 ghost use Rattle.wt_kept.specs.Moment.{moment_now};
 ghost use Rattle.wt_kept.specs.Windows.{establish_now};
 ghost use Rattle.wt_meaning.specs.Lawful.{is_client};
@@ -32,23 +32,16 @@ use wt_wire::varint::VarInt;
 impl Driver {
     // ---- their beginning
 
-    /// Whether a further session has a place: a server has up to 4, a client one.
-    fn has_place(&self) -> bool
-        ensures { result ≡ has_place self.now.work.transport.side self.now.work.dispatched.sessions }
-    {
-        match self.transport.side() {
-            Side::Client => self.dispatched.sessions.is_empty(),
-            Side::Server => self.dispatched.sessions.has_room(),
-        }
-    }
-
-    /// Whether the session may be registered.
+    /// Whether the session may be registered: a server has up to 4, a client one.
     fn may_register(&self, session: SessionId) -> bool
         ensures { result ≡ may_register session self.now }
     {
-        self.has_place()
-            && !self.dispatched.sessions.lives(session)
-            && !self.dispatched.sessions.is_gone(session)
+        let sessions = &self.dispatched.sessions;
+        let has_place = match self.transport.side() {
+            Side::Client => sessions.is_empty(),
+            Side::Server => sessions.has_room(),
+        };
+        has_place && !sessions.lives(session) && !sessions.is_gone(session)
     }
 
     /// The session may be registered: it lives from now on, and what came on its stream is read, in steps of this ledger.

@@ -6,9 +6,12 @@ ghost use Rattle.wt_message.specs.Datagram.{datagram_of};
 
 use super::Dispatched;
 use super::ending::give_up;
+use crate::critical::set_once;
 use crate::datagram::Datagram;
 use crate::gone::SessionEnd;
+use crate::reading::Reading;
 use crate::window::Admission;
+use wt_proto::ControlReader;
 use wt_proto::session::SessionRequest;
 use wt_proto::verdict::Verdict;
 use wt_transport::Transport;
@@ -32,17 +35,19 @@ impl Dispatched {
     fn set_control(&mut self, id: StreamId)
         ensures { self.new ≡ with_control self.old.critical.control id self.old }
     {
-        let is_first = self.critical.set_control(self.sessions.allocator(), id);
-        if !is_first {
+        if self.critical.control.is_some() {
             self.fail(ErrorCode::StreamCreation);
+            return;
         }
+        let reader = ControlReader::new(self.alloc);
+        self.critical.control = Some(Reading { id, reader });
     }
 
     /// The encoder's stream comes once (RFC 9204, section 4.2).
     fn set_encoder(&mut self, id: StreamId)
         ensures { self.new ≡ with_encoder self.old.critical.encoder id self.old }
     {
-        if !self.critical.set_encoder(id) {
+        if !set_once(&mut self.critical.encoder, id) {
             self.fail(ErrorCode::StreamCreation);
         }
     }
@@ -51,7 +56,7 @@ impl Dispatched {
     fn set_decoder(&mut self, id: StreamId)
         ensures { self.new ≡ with_decoder self.old.critical.decoder id self.old }
     {
-        if !self.critical.set_decoder(id) {
+        if !set_once(&mut self.critical.decoder, id) {
             self.fail(ErrorCode::StreamCreation);
         }
     }

@@ -51,8 +51,8 @@ impl Dispatched {
         ensures { OnOk result (record { transport = t.new; dispatched = self.new } ≡ retire_now session (end_now end) (record { transport = t.old; dispatched = self.old })) }
     {
         let remains = self.sessions.end(session, end)?;
-        end_all(t, remains.streams())?;
-        give_up_all(t, remains.waiting());
+        end_all(t, remains.streams.as_slice())?;
+        give_up_all(t, remains.waiting.as_slice());
         let own = session.session_stream();
         give_up(t, own);
         self.requests.forget(own);

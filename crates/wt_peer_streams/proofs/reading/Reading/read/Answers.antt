@@ -4,27 +4,45 @@ use Rattle.std.specs.Prelude.{◌&&◌, ◌==◌, not}
 use Rattle.wt_kept.specs.Counting.{CountsRead}
 use Rattle.wt_kept.specs.Readers.{Slot, noted_if, reads_on_if}
 use Rattle.wt_transport.specs.Step.{end_now, unread_now}
-use Rattle.wt_peer_streams.proofs.Counts.{counts-more, counts-noted}
-use Rattle.wt_peer_streams.proofs.ReadLoop.{Joins, both-goes, either-over, goes-on, read-whole, shorter}
+use Rattle.wt_peer_streams.proofs.Counts.{counts-more, counts-noted, counts-took}
+use Rattle.wt_peer_streams.proofs.ReadLoop.{Joins, both-goes, either-over, goes-on, read-whole, shorter, took}
 use Rattle.wt_peer_streams.specs.Feeding.{Took}
 use Rattle.wt_turn.specs.Reports.{is_running}
 use Rattle.wt_peer_streams.proofs.reading.Reading.read.Goals as goal
 
 pub loop-self-smaller : goal.loop-self-smaller
 loop-self-smaller g c =
-    subst (λ (k : ℕ). length (unread_now c.take_piece.new.t k) < length (unread_now c.loop-self.t c.loop-self.self.id)) (sym c.in_ok-take_piece.ensures.stream)
-    (shorter g.R.Reader.is_final g.R.Reader.fed c.loop-self.self.id c.loop-self.self.reader c.loop-self.t c.take_piece.new.self.reader c.take_piece.new.t c.in_ok-take_piece.ensures.took)
+    let test = both-goes (g.R.Reader.is_final c.loop-self.self.reader) (nat_lt 0 (length (unread_now c.loop-self.t c.loop-self.self.id))) (sym c.goes_on.ensures ∙ c.loop-self-test.true) in
+    let unread : 0 < length (unread_now c.loop-self.t c.loop-self.self.id) = (let some = test.1 in grind (arith, nat_tests, some)) in
+    let here : 0 < length (unread_now c.loop-self.t c.self.inside.id) = subst (λ (s : Slot g.row.R.Denot). 0 < length (unread_now c.loop-self.t s.id)) (sym c.self.view_is) unread in
+    let took_now : Took g.R.Reader.is_final g.R.Reader.fed c.self.inside.id c.self.inside.reader c.loop-self.t c.take.new.self c.consume.new.self =
+    took g.R.Reader.is_final g.R.Reader.fed c.self.inside.id c.self.inside.reader c.loop-self.t c.peek-piece.result.now c.in_ok-taken.taken c.take.new.self c.consume.new.self
+    c.take.ensures.none (ap (λ (s : Slot g.row.R.Denot). g.R.Reader.is_final s.reader) c.self.view_is ∙ test.0) here (λ l. c.peek-piece.ensures.some l) c.peek-piece.ensures.now
+    c.in_ok-taken.ensures.within c.in_ok-taken.ensures.value (λ k lt. c.in_ok-taken.ensures.open k lt) (λ lt. c.in_ok-taken.ensures.stops_short lt) c.consume.ensures.now in
+    subst (λ (s : Slot g.row.R.Denot). length (unread_now c.consume.new.self c.self.inside.id) < length (unread_now c.loop-self.t s.id)) c.self.view_is
+    (shorter g.R.Reader.is_final g.R.Reader.fed c.self.inside.id c.self.inside.reader c.loop-self.t c.take.new.self c.consume.new.self took_now)
 
 pub loop-self-preserved : goal.loop-self-preserved
 loop-self-preserved g c =
     let j : Joins g.R.Reader.is_final g.R.Reader.fed c.args.self.now.reader = record { none = c.is_final.ensures.none; joins = λ xs ys. c.is_final.ensures.joins xs ys } in
+    let same : c.self.inside.id ≡ c.args.self.now.id = ap (λ (s : Slot g.row.R.Denot). s.id) c.self.view_is ∙ c.loop-self.invariant.stream in
+    let test = both-goes (g.R.Reader.is_final c.loop-self.self.reader) (nat_lt 0 (length (unread_now c.loop-self.t c.loop-self.self.id))) (sym c.goes_on.ensures ∙ c.loop-self-test.true) in
+    let unread : 0 < length (unread_now c.loop-self.t c.loop-self.self.id) = (let some = test.1 in grind (arith, nat_tests, some)) in
+    let here : 0 < length (unread_now c.loop-self.t c.self.inside.id) = subst (λ (s : Slot g.row.R.Denot). 0 < length (unread_now c.loop-self.t s.id)) (sym c.self.view_is) unread in
+    let took_now : Took g.R.Reader.is_final g.R.Reader.fed c.self.inside.id c.self.inside.reader c.loop-self.t c.take.new.self c.consume.new.self =
+    took g.R.Reader.is_final g.R.Reader.fed c.self.inside.id c.self.inside.reader c.loop-self.t c.peek-piece.result.now c.in_ok-taken.taken c.take.new.self c.consume.new.self
+    c.take.ensures.none (ap (λ (s : Slot g.row.R.Denot). g.R.Reader.is_final s.reader) c.self.view_is ∙ test.0) here (λ l. c.peek-piece.ensures.some l) c.peek-piece.ensures.now
+    c.in_ok-taken.ensures.within c.in_ok-taken.ensures.value (λ k lt. c.in_ok-taken.ensures.open k lt) (λ lt. c.in_ok-taken.ensures.stops_short lt) c.consume.ensures.now in
+    let counted : CountsRead g.R.Reader.is_final c.self.inside.id c.loop-self.t (record { reader = c.take.new.self; transport = c.consume.new.self }) c.loop-self.steps c.take.new.steps =
+    counts-took g.R.Reader.is_final c.self.inside.id c.loop-self.t c.peek-piece.result.now c.in_ok-taken.taken c.take.new.self c.consume.new.self c.loop-self.steps c.take.new.steps
+    here (λ l. c.peek-piece.ensures.some l) c.peek-piece.ensures.now c.in_ok-taken.ensures.within (λ lt. c.in_ok-taken.ensures.stops_short lt) c.consume.ensures.now c.take.ensures.steps in
     record {
-      so_far = goes-on g.R.Reader.is_final g.R.Reader.fed c.args.self.now.id c.args.self.now.reader c.args.t.now c.loop-self.self.reader c.loop-self.t c.take_piece.new.self.reader c.take_piece.new.t j c.loop-self.invariant.so_far
-          (subst (λ (k : ℕ). Took g.R.Reader.is_final g.R.Reader.fed k c.loop-self.self.reader c.loop-self.t c.take_piece.new.self.reader c.take_piece.new.t) c.loop-self.invariant.stream c.in_ok-take_piece.ensures.took);
-      stream = c.in_ok-take_piece.ensures.stream ∙ c.loop-self.invariant.stream;
-      steps = counts-more g.R.Reader.is_final c.args.self.now.id c.args.t.now c.loop-self.self.reader c.loop-self.t c.take_piece.new.self.reader c.take_piece.new.t c.args.steps.now c.loop-self.steps c.take_piece.new.steps c.loop-self.invariant.steps
-          (both-goes (g.R.Reader.is_final c.loop-self.self.reader) (nat_lt 0 (length (unread_now c.loop-self.t c.loop-self.self.id))) (sym c.goes_on.ensures ∙ c.loop-self-test.true)).0
-          (subst (λ (k : ℕ). CountsRead g.R.Reader.is_final k c.loop-self.t (record { reader = c.take_piece.new.self.reader; transport = c.take_piece.new.t }) c.loop-self.steps c.take_piece.new.steps) c.loop-self.invariant.stream c.in_ok-take_piece.ensures.steps);
+      so_far = goes-on g.R.Reader.is_final g.R.Reader.fed c.args.self.now.id c.args.self.now.reader c.args.t.now c.loop-self.self.reader c.loop-self.t c.take.new.self c.consume.new.self j c.loop-self.invariant.so_far
+          (subst (λ (k : ℕ). Took g.R.Reader.is_final g.R.Reader.fed k c.loop-self.self.reader c.loop-self.t c.take.new.self c.consume.new.self) c.loop-self.invariant.stream
+          (subst (λ (s : Slot g.row.R.Denot). Took g.R.Reader.is_final g.R.Reader.fed s.id s.reader c.loop-self.t c.take.new.self c.consume.new.self) c.self.view_is took_now));
+      stream = same;
+      steps = counts-more g.R.Reader.is_final c.args.self.now.id c.args.t.now c.loop-self.self.reader c.loop-self.t c.take.new.self c.consume.new.self c.args.steps.now c.loop-self.steps c.take.new.steps c.loop-self.invariant.steps test.0
+          (subst (λ (k : ℕ). CountsRead g.R.Reader.is_final k c.loop-self.t (record { reader = c.take.new.self; transport = c.consume.new.self }) c.loop-self.steps c.take.new.steps) same counted);
     }
 
 pub returns-clause-read : goal.returns-clause-read

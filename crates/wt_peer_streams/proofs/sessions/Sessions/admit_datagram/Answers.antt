@@ -1,24 +1,28 @@
 use Rattle.std.proofs.Common.{◌∙◌, ap, sym, ℕ}
-use Rattle.std.specs.List.{position}
-use Rattle.wt_kept.specs.Windows.{is_gone_now, is_live, with_datagram}
-use Rattle.wt_peer_streams.proofs.SessionsLaws.{admits-at, early-by, gone-at, if-ok}
+use Rattle.wt_kept.specs.Windows.{is_gone_now, with_datagram}
+use Rattle.wt_peer_streams.proofs.SessionsLaws.{admits-in, asked, early-by, gone-at, if-ok}
 use Rattle.wt_peer_streams.specs.Admitting.{admission_now}
+use Rattle.wt_peer_streams.specs.contracts.live.LiveSession as live
+use Rattle.wt_peer_streams.specs.contracts.sessions.Sessions.{the_view}
 use Rattle.wt_peer_streams.specs.declared.window.Admission.{Admission}
 use Rattle.wt_peer_streams.proofs.sessions.Sessions.admit_datagram.Goals as goal
 
 pub returns-in-Some : goal.returns-in-Some
 returns-in-Some c =
-    if-ok c.admit_datagram.result (λ (a : Admission) e. admits-at c.args.datagram.session (record { living = c.self.inside.living.items; gone = c.self.inside.gone; early = c.self.inside.early }) c.args.self.now c.in-Some.index c.index_mut-live.result.now c.self.view_is (c.in-Some.ensures ∙ ap (λ (s : ℕ). position (is_live s) c.args.self.now.living) c.session_id-session.ensures) c.index_mut-live.ensures.value
-    (with_datagram c.args.datagram) (record { admission = admission_now a; live = c.admit_datagram.new.self }) e) c.admit_datagram.ensures
+    if-ok c.admit_datagram.result
+    (λ (a : Admission) e. admits-in c.args.datagram.session (the_view c.self.inside) c.args.self.now c.in-Some.index c.index_mut-live.result.now c.self.view_is (asked c.args.self.now c.in-Some.ensures (c.session_stream.ensures.stream ∙ c.session_id-session.ensures)) c.index_mut-live.ensures.value
+    (live.the_view c.live.inside) c.live.view_is (with_datagram c.args.datagram) (record { admission = admission_now a; window = c.admit_datagram.new.self }) e) c.admit_datagram.ensures
 
 pub returns-in-None : goal.returns-in-None
 returns-in-None c =
-    gone-at (with_datagram c.args.datagram) c.args.datagram.session c.args.self.now (c.in-None.ensures ∙ ap (λ (s : ℕ). position (is_live s) c.args.self.now.living) c.session_id-session.ensures)
+    gone-at (with_datagram c.args.datagram) c.args.datagram.session c.args.self.now (asked c.args.self.now c.in-None.ensures (c.session_stream.ensures.stream ∙ c.session_id-session.ensures))
     (ap (λ (s : ℕ). is_gone_now c.args.self.now s) (sym c.session_id-session.ensures) ∙ (sym c.is_gone.ensures ∙ c.if-is_gone.true))
 
 pub returns-in-None-2 : goal.returns-in-None-2
 returns-in-None-2 c =
-    if-ok c.admit_datagram-in-None-2.result (λ (a : Admission) e. early-by (with_datagram c.args.datagram) c.args.datagram.session (record { living = c.self.inside.living.items; gone = c.self.inside.gone; early = c.self.inside.early }) c.args.self.now c.self.view_is
-    (c.in-None-2.ensures ∙ ap (λ (s : ℕ). position (is_live s) c.args.self.now.living) c.session_id-session.ensures)
+    if-ok c.admit_datagram-in-None-2.result
+    (λ (a : Admission) e. early-by (with_datagram c.args.datagram) c.args.datagram.session (the_view c.self.inside) c.args.self.now c.self.view_is
+    (asked c.args.self.now c.in-None-2.ensures (c.session_stream.ensures.stream ∙ c.session_id-session.ensures))
     (ap (λ (s : ℕ). is_gone_now c.args.self.now s) (sym c.session_id-session.ensures) ∙ (sym c.is_gone.ensures ∙ c.if-is_gone.false))
-    (record { admission = admission_now a; window = c.admit_datagram-in-None-2.new.self }) e) c.admit_datagram-in-None-2.ensures
+    (record { admission = admission_now a; window = c.admit_datagram-in-None-2.new.self }) e)
+    c.admit_datagram-in-None-2.ensures
