@@ -1,5 +1,4 @@
 pub mod CopyLaws
 pub mod Leading
 pub mod Little
-pub mod ProgramLaws
 pub mod Running

@@ -4,12 +4,9 @@ pub mod Copies
 pub mod Desk
 pub mod Kept
 pub mod Little
-pub mod Output
 pub mod Passes
-pub mod Program
 pub mod Progress
 pub mod Relay
 pub mod Rooms
 pub mod Run
-pub mod Script
 pub mod Source

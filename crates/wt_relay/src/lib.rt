@@ -9,18 +9,14 @@ mod connection;
 mod copies;
 mod desk;
 mod kept;
-mod output;
 mod passes;
-pub mod program;
 pub mod relay;
 mod room;
 pub mod run;
-pub mod script;
 pub mod send;
 mod source;
 mod streams;
 
 pub use answers::RelayAnswers;
-pub use program::run_relay_program;
 pub use relay::{Relay, RelayError};
 pub use run::{RelayRun, run_relay};
