@@ -1,0 +1,4 @@
+pub mod CopyLaws
+pub mod Leading
+pub mod Little
+pub mod Running

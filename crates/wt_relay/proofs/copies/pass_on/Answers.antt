@@ -1,0 +1,5 @@
+use Rattle.wt_relay.proofs.Leading.{leads_refl, leads_trans}
+use Rattle.wt_relay.proofs.copies.pass_on.Goals as goal
+
+pub loop-copy-preserved : goal.loop-copy-preserved
+loop-copy-preserved c = leads_trans _ _ _ c.loop-copy.invariant c.in_ok-write_copy.ensures

@@ -1,0 +1,12 @@
+pub mod Calls
+pub mod Claims
+pub mod Copies
+pub mod Desk
+pub mod Kept
+pub mod Little
+pub mod Passes
+pub mod Progress
+pub mod Relay
+pub mod Rooms
+pub mod Run
+pub mod Source
