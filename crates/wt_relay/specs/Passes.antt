@@ -142,7 +142,7 @@ stopped p n id = let a = answer_now p.now n (calls.StopRecv id 0) in asked p n (
 abbrev pub share_with : List (ℕ × ℕ) → (ℕ × ℕ) → InPass → ℕ → InPass
 share_with others m p id =
     let w = fold open_on (record { pass = p; copies = [] }) others in
-    let source = record { number = m.0; id = id; others = others; copies = w.copies; piece = []; over = has_none w.copies } in
+    let source : SourceNow = record { number = m.0; id = id; others = others; copies = w.copies; piece = []; over = has_none w.copies } in
     with_source (if has_none w.copies then stopped w.pass m.0 id else w.pass) source
 
 abbrev pub share : (ℕ × ℕ) → InPass → ℕ → InPass
