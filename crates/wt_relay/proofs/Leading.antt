@@ -4,7 +4,7 @@ use Rattle.std.proofs.lemmas.List.{append-nil, append_assoc}
 use Rattle.std.specs.Prelude.{IsTrue, not}
 use Rattle.wt_endpoint.proofs.Apart.{and-left, and-right, own_history_theorem}
 use Rattle.wt_endpoint.specs.Connections.{ConnectionsState, StandsFor}
-use Rattle.wt_endpoint.specs.Endpoints.{AllMayCome, EndpointHistory, connection_history, endpoint_after, endpoint_from, endpoint_history, endpoint_reply, no_connections}
+use Rattle.wt_endpoint.specs.Endpoints.{AllMayCome, EndpointHistory, endpoint_after, endpoint_from, endpoint_history, endpoint_reply, no_connections}
 use Rattle.wt_endpoint.specs.Isolation.{own_history}
 use Rattle.wt_endpoint.specs.declared.turn.EndpointTurn.{EndpointTurn}
 use Rattle.wt_endpoint.specs.declared.turn.EndpointTurn.TheVariants as events

@@ -1,5 +1,5 @@
 -- What holds of each source and its copies: the source's own invariants say so.
-use Rattle.std.proofs.Common.{◌≡◌, ◌&&◌, ◌++◌, ◌∷◌, Bool, List, [], false, refl, true}
+use Rattle.std.proofs.Common.{◌≡◌, ◌++◌, ◌∷◌, List, [], true}
 use Rattle.wt_relay.specs.declared.kept.Kept.{Kept}
 use Rattle.wt_relay.specs.declared.room.Member.{Member}
 use Rattle.wt_relay.specs.declared.source.Copied.{Copied}

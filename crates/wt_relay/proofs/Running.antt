@@ -1,14 +1,13 @@
 -- A run of a relay's turns.
-use Rattle.std.proofs.Common.{◌≡◌, ◌&&◌, ◌+◌, ◌<◌, ◌∷◌, ◌++◌, ◌||◌, Bool, List, [], add-one, ap, arith, false, get_or, length, refl, subst, suc, sym, take, true, zero, ◌∙◌, ℕ}
+use Rattle.std.proofs.Common.{◌≡◌, ◌&&◌, ◌+◌, ◌<◌, ◌∷◌, ◌++◌, ◌||◌, Bool, List, [], ap, arith, false, get_or, length, refl, subst, suc, sym, take, true, zero, ◌∙◌, ℕ}
 use Rattle.std.proofs.lemmas.List.{append-nil, append_assoc, take_more}
 use Rattle.std.specs.Prelude.{None, Some, if◌then◌else◌, not, slice_get}
 use Rattle.wt_endpoint.specs.Connections.{ConnectionsState, StandsFor}
-use Rattle.wt_endpoint.specs.Endpoints.{endpoint_from, endpoint_history, no_connections}
+use Rattle.wt_endpoint.specs.Endpoints.{endpoint_history, no_connections}
 use Rattle.wt_endpoint.specs.declared.turn.EndpointTurn.{EndpointTurn}
 use Rattle.wt_endpoint.specs.declared.turn.EndpointTurn.TheVariants as events
 use Rattle.wt_turn.specs.Turns.{is_call}
 use Rattle.wt_turn.specs.declared.answer.Answer.{Answer}
-use Rattle.wt_turn.specs.declared.call.Call.{Call}
 use Rattle.wt_turn.specs.declared.turn.Turn.{Turn}
 use Rattle.wt_turn.specs.declared.turn.Turn.TheVariants as turns
 use Rattle.wt_wire.specs.declared.side.Side.TheVariants.{Server}
@@ -16,7 +15,7 @@ use Rattle.wt_endpoint.proofs.Apart.{and-left, and-right}
 use Rattle.wt_relay.proofs.Leading.{both, told-more}
 use Rattle.wt_relay.specs.Calls.{Answers, all_followed, is_followed, is_relayed, takes, told_from}
 use Rattle.wt_endpoint.proofs.Apart.{apart_theorem}
-use Rattle.wt_relay.specs.Run.{IsRelayRun, StopsAt, all_given_or_called, given_turn, given_turns, is_given_or_called, joined}
+use Rattle.wt_relay.specs.Run.{IsRelayRun, all_given_or_called, given_turn, given_turns, is_given_or_called, joined}
 
 -- ---- what is given among turns of the endpoint
 

@@ -1,5 +1,5 @@
 -- What holds of a relay after each turn, in twelve sentences (this repository's own).
-use Rattle.std.specs.Prelude.{ℕ, ◌&&◌, ◌+◌, ◌==◌, ◌++◌, ◌≡◌, ◌∷◌, ◌||◌, Bool, List, None, Option, Some, [], false, filter, flat_map, if◌then◌else◌, length, map, nat_le, not, slice_get, take, true}
+use Rattle.std.specs.Prelude.{ℕ, ◌&&◌, ◌+◌, ◌==◌, ◌≡◌, ◌∷◌, ◌||◌, Bool, List, None, Option, Some, [], false, filter, if◌then◌else◌, length, nat_le, not, take, true}
 use Rattle.std.specs.List.{list_all, list_any}
 use Rattle.std.specs.Str.{bytes_eq}
 use Rattle.wt_endpoint.specs.Endpoints.{AllMayCome, endpoint_replies, no_connections}
@@ -7,11 +7,10 @@ use Rattle.wt_endpoint.specs.Isolation.{AreApart}
 use Rattle.wt_meaning.specs.Calls.{is_living}
 use Rattle.wt_meaning.specs.Halves.{is_fin, unread}
 use Rattle.wt_meaning.specs.History.{History, Pair, actions_out, all_events, is_open}
-use Rattle.wt_meaning.specs.Lawful.{all_answered, has_request}
+use Rattle.wt_meaning.specs.Lawful.{has_request}
 use Rattle.wt_promise.specs.Promise.{accepted}
 use Rattle.wt_turn.specs.Reports.{end_of}
 use Rattle.wt_turn.specs.Sent.{is_finished}
-use Rattle.wt_turn.specs.declared.answer.Answer.{Answer}
 use Rattle.wt_turn.specs.declared.call.Call.{Call}
 use Rattle.wt_turn.specs.declared.call.Call.TheVariants as calls
 use Rattle.wt_turn.specs.declared.reply.Reply.{Reply}
@@ -21,9 +20,9 @@ use Rattle.wt_turn.specs.declared.turn.Turn.{Turn}
 use Rattle.wt_turn.specs.declared.turn.Turn.TheVariants as turns
 use Rattle.wt_wire.specs.declared.side.Side.TheVariants.{Server}
 use Rattle.wt_relay.specs.declared.source.Progress.{Progress}
-use Rattle.wt_relay.specs.declared.source.Progress.TheVariants.{Behind, Level, Opening, Over}
+use Rattle.wt_relay.specs.declared.source.Progress.TheVariants.{Behind, Opening, Over}
 use Rattle.wt_relay.specs.Calls.{has_none, is_pending, is_relayed_call}
-use Rattle.wt_relay.specs.Kept.{CopyNow, RelayNow, SourceNow, asked_sessions, body, copies_of, copies_with, given_for, history, is_member, opened_for, share_room}
+use Rattle.wt_relay.specs.Kept.{CopyNow, RelayNow, SourceNow, body, copies_of, given_for, history, is_member, opened_for, share_room}
 use Rattle.wt_relay.specs.Progress.{rest_of}
 use Rattle.wt_relay.specs.Passes.{answer_now, may_be_called, relay_run, session_gone}
 

@@ -1,5 +1,5 @@
 -- The copies of a source (this repository's own).
-use Rattle.std.specs.Prelude.{ℕ, ◌&&◌, ◌==◌, ◌∷◌, Bool, List, [], true}
+use Rattle.std.specs.Prelude.{◌&&◌, ◌∷◌, Bool, List, [], true}
 use Rattle.wt_relay.specs.declared.room.Member.{Member}
 use Rattle.wt_relay.specs.declared.source.Copied.{Copied}
 use Rattle.wt_relay.specs.Rooms.{is_across}

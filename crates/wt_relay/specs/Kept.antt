@@ -1,5 +1,5 @@
 -- What happened to a relay: the turns of its endpoint, and the streams that it copied (this repository's own).
-use Rattle.std.specs.Prelude.{ℕ, ◌&&◌, ◌==◌, ◌+◌, ◌++◌, ◌∷◌, Bool, List, None, Option, Some, [], codes, drop, filter, filter_map, flat_map, if◌then◌else◌, map, nat_lt, not, slice_index_or, suc}
+use Rattle.std.specs.Prelude.{ℕ, ◌&&◌, ◌==◌, ◌++◌, ◌∷◌, Bool, List, None, Option, Some, [], codes, drop, false, filter, filter_map, flat_map, if◌then◌else◌, map, nat_lt, not, suc}
 use Rattle.std.specs.List.{list_any}
 use Rattle.std.specs.Str.{bytes_eq}
 use Rattle.wt_endpoint.specs.Endpoints.{EndpointHistory, connection_history, no_connections}

@@ -1,7 +1,7 @@
 -- The passes that a relay makes after a turn, each over all connections, sessions and sources (this repository's own).
-use Rattle.std.specs.Prelude.{ℕ, ◌&&◌, ◌==◌, ◌+◌, ◌++◌, ◌-◌, ◌∷◌, ◌^◌, ◌||◌, Bool, List, None, Option, Some, [], false, if◌then◌else◌, length, map, nat_lt, not, slice_get, suc, true, zero}
+use Rattle.std.specs.Prelude.{ℕ, ◌==◌, ◌+◌, ◌++◌, ◌-◌, ◌∷◌, ◌^◌, ◌||◌, Bool, List, None, Option, Some, [], false, if◌then◌else◌, length, map, not, slice_get, suc, true, zero}
 use Rattle.std.specs.List.{fold, list_any}
-use Rattle.wt_endpoint.specs.Endpoints.{connection_history, endpoint_after, may_come_next}
+use Rattle.wt_endpoint.specs.Endpoints.{endpoint_after, may_come_next}
 use Rattle.wt_endpoint.specs.declared.turn.EndpointTurn.TheVariants as events
 use Rattle.wt_meaning.specs.Meaning.{answer_to}
 use Rattle.wt_turn.specs.declared.answer.Answer.{Answer}
@@ -9,7 +9,6 @@ use Rattle.wt_turn.specs.declared.call.Call.{Call}
 use Rattle.wt_turn.specs.declared.call.Call.TheVariants as calls
 use Rattle.wt_turn.specs.declared.reply.Reply.{Reply}
 use Rattle.wt_turn.specs.declared.reply.Reply.TheVariants as replies
-use Rattle.wt_turn.specs.declared.stream_error.StreamReadError.{StreamReadError}
 use Rattle.wt_turn.specs.declared.stream_error.StreamReadError.TheVariants as reads
 use Rattle.wt_turn.specs.declared.turn.Turn.{Turn}
 use Rattle.wt_turn.specs.declared.turn.Turn.TheVariants as turns
@@ -142,7 +141,7 @@ stopped p n id = let a = answer_now p.now n (calls.StopRecv id 0) in asked p n (
 abbrev pub share_with : List (ℕ × ℕ) → (ℕ × ℕ) → InPass → ℕ → InPass
 share_with others m p id =
     let w = fold open_on (record { pass = p; copies = [] }) others in
-    let source = record { number = m.0; id = id; others = others; copies = w.copies; piece = []; over = has_none w.copies } in
+    let source : SourceNow = record { number = m.0; id = id; others = others; copies = w.copies; piece = []; over = has_none w.copies } in
     with_source (if has_none w.copies then stopped w.pass m.0 id else w.pass) source
 
 abbrev pub share : (ℕ × ℕ) → InPass → ℕ → InPass

@@ -1,8 +1,7 @@
 -- How far a copy is, and what it lacks of the piece that was read of its source last (this repository's own).
-use Rattle.std.specs.Prelude.{ℕ, ◌&&◌, Bool, List, [], drop, false, if◌then◌else◌, length, nat_lt, not, true}
-use Rattle.std.specs.List.{list_any}
+use Rattle.std.specs.Prelude.{ℕ, Bool, List, [], drop, false, if◌then◌else◌, length, nat_lt, true}
 use Rattle.wt_relay.specs.declared.source.Progress.{Progress}
-use Rattle.wt_relay.specs.declared.source.Progress.TheVariants.{Behind, Level, Opening, Over}
+use Rattle.wt_relay.specs.declared.source.Progress.TheVariants.{Behind, Level, Opening}
 
 -- the source isn't read before the copy gets on: it is being opened, or lacks some of the piece
 abbrev pub holds : Progress → Bool

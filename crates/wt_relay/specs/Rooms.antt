@@ -1,5 +1,5 @@
 -- Two sessions of one room (this repository's own).
-use Rattle.std.specs.Prelude.{ℕ, ◌&&◌, ◌==◌, Bool, not}
+use Rattle.std.specs.Prelude.{◌&&◌, ◌==◌, Bool, not}
 use Rattle.wt_relay.specs.declared.room.Member.{Member}
 
 -- the other is another session of the room

@@ -1,5 +1,5 @@
 -- When a source is read, and what is kept of it (this repository's own).
-use Rattle.std.specs.Prelude.{ℕ, ◌&&◌, ◌≤◌, Bool, List, map, not}
+use Rattle.std.specs.Prelude.{◌&&◌, Bool, List, not}
 use Rattle.std.specs.List.{list_any}
 use Rattle.wt_relay.specs.declared.source.Copied.{Copied}
 use Rattle.wt_relay.specs.Progress.{holds}

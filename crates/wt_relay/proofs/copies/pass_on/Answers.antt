@@ -1,4 +1,4 @@
-use Rattle.wt_relay.proofs.Leading.{leads_refl, leads_trans}
+use Rattle.wt_relay.proofs.Leading.{leads_trans}
 use Rattle.wt_relay.proofs.copies.pass_on.Goals as goal
 
 pub loop-copy-preserved : goal.loop-copy-preserved

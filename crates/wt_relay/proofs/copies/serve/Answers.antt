@@ -1,4 +1,4 @@
-use Rattle.wt_relay.proofs.Leading.{leads_refl, leads_trans}
+use Rattle.wt_relay.proofs.Leading.{leads_trans}
 use Rattle.wt_relay.proofs.copies.serve.Goals as goal
 
 pub loop-ask-preserved : goal.loop-ask-preserved

@@ -1,4 +1,4 @@
-use Rattle.wt_relay.proofs.Leading.{leads_refl, leads_trans}
+use Rattle.wt_relay.proofs.Leading.{leads_trans}
 use Rattle.wt_relay.proofs.passes.make_passes.Goals as goal
 
 pub passes-preserved : goal.passes-preserved

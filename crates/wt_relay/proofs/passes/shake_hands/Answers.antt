@@ -1,4 +1,4 @@
-use Rattle.wt_relay.proofs.Leading.{leads_refl, leads_trans}
+use Rattle.wt_relay.proofs.Leading.{leads_trans}
 use Rattle.wt_relay.proofs.passes.shake_hands.Goals as goal
 
 pub shakes-preserved : goal.shakes-preserved

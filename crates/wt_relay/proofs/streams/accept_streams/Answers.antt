@@ -1,4 +1,4 @@
-use Rattle.wt_relay.proofs.Leading.{leads_refl, leads_trans}
+use Rattle.wt_relay.proofs.Leading.{leads_trans}
 use Rattle.wt_relay.proofs.streams.accept_streams.Goals as goal
 
 pub loop-member-preserved : goal.loop-member-preserved

@@ -1,4 +1,4 @@
-use Rattle.wt_relay.proofs.Leading.{leads_refl, leads_trans}
+use Rattle.wt_relay.proofs.Leading.{leads_trans}
 use Rattle.wt_relay.proofs.streams.open_copies.Goals as goal
 
 pub loop-other-preserved : goal.loop-other-preserved
