@@ -1,0 +1,337 @@
+//! Runs scripts (docs/PROGRAM.md) through the C functions, and compares what is answered with the `.answers` beside each.
+//! `cargo run --example scripts -- ../../examples/*.script`
+
+use std::fmt::Write;
+use std::net::{IpAddr, Ipv4Addr, Ipv6Addr, SocketAddr};
+use zevombu::*;
+
+fn hex(bytes: &[u8]) -> String {
+    if bytes.is_empty() {
+        return "-".into();
+    }
+    bare_hex(bytes)
+}
+
+fn bare_hex(bytes: &[u8]) -> String {
+    bytes.iter().fold(String::new(), |mut out, b| {
+        write!(out, "{b:02x}").unwrap();
+        out
+    })
+}
+
+fn unhex(word: &str) -> Vec<u8> {
+    if word == "-" {
+        return Vec::new();
+    }
+    (0..word.len()).step_by(2).map(|i| u8::from_str_radix(&word[i..i + 2], 16).unwrap()).collect()
+}
+
+fn string(word: &str) -> String {
+    String::from_utf8(unhex(word)).unwrap()
+}
+
+fn number(word: &str) -> u64 {
+    word.parse().unwrap()
+}
+
+fn socket(version: &str, ip: &str, port: &str) -> SocketAddr {
+    let ip = match version {
+        "v4" => IpAddr::V4(Ipv4Addr::from(u32::from_str_radix(ip, 16).unwrap())),
+        _ => IpAddr::V6(Ipv6Addr::from(u128::from_str_radix(ip, 16).unwrap())),
+    };
+    SocketAddr::new(ip, port.parse().unwrap())
+}
+
+/// What a line's turn borrows.
+#[derive(Default)]
+struct Kept {
+    bytes: Vec<u8>,
+    text: String,
+    name: String,
+    fields: Vec<(String, String)>,
+}
+
+fn datagrams(word: &str) -> Datagrams {
+    match word {
+        "off" => Datagrams::Disabled,
+        "unsupported" => Datagrams::Unsupported,
+        limit => Datagrams::Limit(number(limit)),
+    }
+}
+
+fn loss<'a>(words: &[&str], kept: &'a mut Kept) -> Loss<'a> {
+    let code = words.get(1).map_or(0, |w| number(w));
+    if let Some(reason) = words.get(2) {
+        kept.bytes = unhex(reason);
+    }
+    match words[0] {
+        "version_mismatch" => Loss::VersionMismatch,
+        "transport" => {
+            kept.text = String::from_utf8(kept.bytes.clone()).unwrap();
+            Loss::TransportError { code, reason: &kept.text }
+        }
+        "connection" => Loss::ConnectionClosed { code, reason: &kept.bytes },
+        "application" => Loss::ApplicationClosed { code, reason: &kept.bytes },
+        "reset" => Loss::Reset,
+        "timed_out" => Loss::TimedOut,
+        _ => Loss::CidsExhausted,
+    }
+}
+
+fn keep_fields(words: &[&str], kept: &mut Kept) {
+    kept.fields = words.iter().filter(|w| **w != "-").filter_map(|w| w.split_once('=')).map(|(n, v)| (string(n), string(v))).collect();
+}
+
+fn connect<'a>(core: &mut Core, words: &[&str], kept: &'a mut Kept) -> Result<String, Refused> {
+    keep_fields(&words[3..], kept);
+    let (lookup, outcome): (Vec<&str>, Vec<&str>) = (words[1].split(':').collect(), words[2].split(':').collect());
+    if lookup[0] == "fault" {
+        kept.text = string(lookup[1]);
+    }
+    if outcome[0] == "name" {
+        kept.name = string(outcome[1]);
+    }
+    let fields: Vec<(&str, &str)> = kept.fields.iter().map(|(n, v)| (n.as_str(), v.as_str())).collect();
+    let turn = Turn::Connect {
+        url: words[0],
+        fields: &fields,
+        lookup: match lookup[0] {
+            "none" => Lookup::NotFound,
+            "fault" => Lookup::Fault(&kept.text),
+            version => Lookup::Found(socket(version, lookup[1], lookup[2])),
+        },
+        outcome: match outcome[0] {
+            "proceed" => Outcome::Proceed,
+            "stopping" => Outcome::EndpointStopping,
+            "cids" => Outcome::CidsExhausted,
+            "name" => Outcome::InvalidServerName(&kept.name),
+            _ => Outcome::InvalidRemoteAddress(socket(outcome[1], outcome[2], outcome[3])),
+        },
+    };
+    Ok(line(&core.turn(&turn)?))
+}
+
+fn turn(core: &mut Core, words: &[&str]) -> Result<String, Refused> {
+    let mut kept = Kept::default();
+    let at = |i: usize| number(words[i]);
+    let session = |i: usize| words.get(i).map(|w| number(w));
+    let turn = match words[0] {
+        "connected" => Turn::Connected { uni: at(1), bi: at(2), credit: at(3), datagrams: datagrams(words[4]) },
+        "peer_uni" => Turn::PeerUni,
+        "peer_bi" => Turn::PeerBi,
+        "end" => Turn::End { id: at(1) },
+        "reset" => Turn::Reset { id: at(1), code: at(2) },
+        "stop" => Turn::Stop { id: at(1), code: at(2) },
+        "acked" => Turn::Acked { id: at(1) },
+        "max_uni" => Turn::MaxUni(at(1)),
+        "max_bi" => Turn::MaxBi(at(1)),
+        "max_data" => Turn::MaxData { id: at(1), total: at(2) },
+        "datagram_limit" => Turn::DatagramLimit(datagrams(words[1])),
+        "loss" => Turn::Loss(loss(&words[1..], &mut kept)),
+        "connect" => return connect(core, &words[1..], &mut kept),
+        "incoming" => Turn::Incoming,
+        "accept" => {
+            keep_fields(&words[1..], &mut kept);
+            let fields: Vec<(&str, &str)> = kept.fields.iter().map(|(n, v)| (n.as_str(), v.as_str())).collect();
+            return Ok(line(&core.turn(&Turn::Accept(&fields))?));
+        }
+        "forbidden" => Turn::Forbidden,
+        "not_found" => Turn::NotFound,
+        "too_many_requests" => Turn::TooManyRequests,
+        "handshake" => Turn::Handshake,
+        "accept_uni" => Turn::AcceptUni(session(1)),
+        "accept_bi" => Turn::AcceptBi(session(1)),
+        "receive_datagram" => Turn::ReceiveDatagram(session(1)),
+        "open_uni" => Turn::OpenUni(session(1)),
+        "open_bi" => Turn::OpenBi(session(1)),
+        "poll_opening" => Turn::PollOpening { id: at(1) },
+        "end_session" => Turn::EndSession(session(1)),
+        "max_datagram_size" => Turn::MaxDatagramSize(session(1)),
+        "session_id" => Turn::SessionId(session(1)),
+        "closed" => Turn::Closed,
+        "finish" => Turn::Finish { id: at(1) },
+        "stopped" => Turn::Stopped { id: at(1) },
+        "priority" => Turn::Priority { id: at(1) },
+        "set_priority" => Turn::SetPriority { id: at(1), priority: words[2].parse().unwrap() },
+        "reset_send" => Turn::ResetSend { id: at(1), code: at(2) },
+        "read" => Turn::Read { id: at(1), size: at(2) },
+        "read_exact" => Turn::ReadExact { id: at(1), size: at(2) },
+        "stop_recv" => Turn::StopRecv { id: at(1), code: at(2) },
+        "datagram" | "send_datagram" => {
+            kept.bytes = unhex(words[1]);
+            match words[0] {
+                "datagram" => Turn::Datagram(&kept.bytes),
+                _ => Turn::SendDatagram { payload: &kept.bytes, session: session(2) },
+            }
+        }
+        name => {
+            kept.bytes = unhex(words[2]);
+            let bytes = &kept.bytes;
+            match name {
+                "bytes" => Turn::Bytes { id: at(1), bytes },
+                "write" => Turn::Write { id: at(1), bytes },
+                "write_all" => Turn::WriteAll { id: at(1), bytes },
+                "close" => Turn::Close { code: at(1), reason: bytes },
+                "endpoint_close" => Turn::EndpointClose { code: at(1), reason: bytes },
+                other => panic!("no turn is called {other}"),
+            }
+        }
+    };
+    Ok(line(&core.turn(&turn)?))
+}
+
+fn address(a: SocketAddr) -> String {
+    match a.ip() {
+        IpAddr::V4(ip) => format!("v4:{}:{}", bare_hex(&ip.octets()), a.port()),
+        IpAddr::V6(ip) => format!("v6:{}:{}", bare_hex(&ip.octets()), a.port()),
+    }
+}
+
+fn ended(e: &Ended) -> String {
+    match e {
+        Ended::ConnectionClosed { code, reason } => format!("connection_closed {code} {}", hex(reason)),
+        Ended::ApplicationClosed { code, reason } => format!("application_closed {code} {}", hex(reason)),
+        Ended::LocallyClosed => "locally_closed".into(),
+        Ended::LocalH3Error { code } => format!("local_h3 {code}"),
+        Ended::TimedOut => "timed_out".into(),
+        Ended::QuicProto { code: Some(code), reason } => format!("quic_proto {code} {}", hex(reason.as_bytes())),
+        Ended::QuicProto { code: None, reason } => format!("quic_proto none {}", hex(reason.as_bytes())),
+        Ended::CidsExhausted => "cids_exhausted".into(),
+    }
+}
+
+fn connect_failed(e: &ConnectFailed) -> String {
+    match e {
+        ConnectFailed::InvalidUrl => "invalid_url parse".into(),
+        ConnectFailed::InvalidScheme => "invalid_url scheme".into(),
+        ConnectFailed::DnsLookup(reason) => format!("dns_lookup {}", hex(reason.as_bytes())),
+        ConnectFailed::DnsNotFound => "dns_not_found".into(),
+        ConnectFailed::Connection(e) => format!("connection {}", ended(e)),
+        ConnectFailed::SessionRejected => "session_rejected".into(),
+        ConnectFailed::ReservedHeader(name) => format!("reserved_header {}", hex(name.as_bytes())),
+        ConnectFailed::EndpointStopping => "endpoint_stopping".into(),
+        ConnectFailed::CidsExhausted => "cids_exhausted".into(),
+        ConnectFailed::InvalidServerName(name) => format!("invalid_server_name {}", hex(name.as_bytes())),
+        ConnectFailed::InvalidRemoteAddress(a) => format!("invalid_remote_address {}", address(*a)),
+    }
+}
+
+fn write_failed(e: WriteFailed) -> String {
+    match e {
+        WriteFailed::NotConnected => "not_connected".into(),
+        WriteFailed::Closed => "closed".into(),
+        WriteFailed::Stopped(code) => format!("stopped {code}"),
+        WriteFailed::QuicProto => "quic_proto".into(),
+    }
+}
+
+fn read_failed(e: ReadFailed) -> String {
+    match e {
+        ReadFailed::NotConnected => "not_connected".into(),
+        ReadFailed::Reset(code) => format!("reset {code}"),
+        ReadFailed::QuicProto => "quic_proto".into(),
+    }
+}
+
+fn reply(r: &Reply) -> String {
+    match r {
+        Reply::Done => "done".into(),
+        Reply::Pending => "pending".into(),
+        Reply::NoSession => "no_session".into(),
+        Reply::NoStream => "no_stream".into(),
+        Reply::Request { id, fields } => fields.iter().fold(format!("request {id}"), |mut out, (name, value)| {
+            write!(out, " {}={}", bare_hex(name.as_bytes()), bare_hex(value.as_bytes())).unwrap();
+            out
+        }),
+        Reply::Session(id) => format!("session {id}"),
+        Reply::Rejected => "rejected".into(),
+        Reply::Uni(id) => format!("uni {id}"),
+        Reply::Bi(id) => format!("bi {id}"),
+        Reply::Opening(id) => format!("opening {id}"),
+        Reply::SendReady(id) => format!("send_ready {id}"),
+        Reply::BiReady(id) => format!("bi_ready {id}"),
+        Reply::Id(id) => format!("id {id}"),
+        Reply::Datagram(bytes) => format!("datagram {}", hex(bytes)),
+        Reply::Size(None) => "size none".into(),
+        Reply::Size(Some(size)) => format!("size {size}"),
+        Reply::Written(count) => format!("written {count}"),
+        Reply::AllWritten => "all_written".into(),
+        Reply::Count(count) => format!("count {count}"),
+        Reply::Finished => "finished".into(),
+        Reply::Priority(priority) => format!("priority {priority}"),
+        Reply::ClosedStream => "closed_stream".into(),
+        Reply::Read(None) => "end".into(),
+        Reply::Read(Some(bytes)) => format!("read {}", hex(bytes)),
+        Reply::Exact(bytes) => format!("exact {}", hex(bytes)),
+        Reply::Failed(e) => format!("failed {}", ended(e)),
+        Reply::Closed(e) => format!("closed {}", ended(e)),
+        Reply::ConnectFailed(e) => format!("connect_failed {}", connect_failed(e)),
+        Reply::OpeningFailed(OpeningFailed::NotConnected) => "opening_failed not_connected".into(),
+        Reply::OpeningFailed(OpeningFailed::Refused) => "opening_failed refused".into(),
+        Reply::WriteFailed(e) => format!("write_failed {}", write_failed(*e)),
+        Reply::StoppedBy(e) => format!("stopped_by {}", write_failed(*e)),
+        Reply::ReadFailed(e) => format!("read_failed {}", read_failed(*e)),
+        Reply::ExactFailed(ExactFailed::FinishedEarly(count), bytes) => format!("exact_failed finished_early {count} {}", hex(bytes)),
+        Reply::ExactFailed(ExactFailed::Read(e), _) => format!("exact_failed {}", read_failed(*e)),
+        Reply::DatagramFailed(e) => format!(
+            "datagram_failed {}",
+            match e {
+                DatagramFailed::NotConnected => "not_connected",
+                DatagramFailed::UnsupportedByPeer => "unsupported",
+                DatagramFailed::TooLarge => "too_large",
+                DatagramFailed::Disabled => "disabled",
+            }
+        ),
+    }
+}
+
+fn action(a: &Action) -> String {
+    match a {
+        Action::Dial { address: to, name } => format!("dial {} {}", address(*to), hex(name.as_bytes())),
+        Action::Opened { id } => format!("opened {id}"),
+        Action::Send { id, bytes } => format!("send {id} {}", hex(bytes)),
+        Action::Finish { id } => format!("finish {id}"),
+        Action::Reset { id, code } => format!("reset {id} {code}"),
+        Action::Stop { id, code } => format!("stop {id} {code}"),
+        Action::Datagram(bytes) => format!("datagram_out {}", hex(bytes)),
+        Action::Close { code, reason } => format!("close {code} {}", hex(reason)),
+    }
+}
+
+/// The printed line of an answer.
+fn line(answer: &Answer) -> String {
+    answer.actions().fold(reply(&answer.reply()), |out, a| out + " ; " + &action(&a))
+}
+
+/// How many turns of a script were answered as beside it, and what differed first.
+fn run(path: &str) -> (usize, Option<String>) {
+    let script = std::fs::read_to_string(path).unwrap();
+    let wanted = std::fs::read_to_string(path.replace(".script", ".answers")).unwrap();
+    let mut lines = script.lines().filter(|l| !l.is_empty() && !l.starts_with('#'));
+    let side = if lines.next() == Some("client") { Side::Client } else { Side::Server };
+    let mut core = Core::new(side).expect("memory suffices");
+    let (mut turns, mut wanted) = (0, wanted.lines());
+    for line in lines {
+        let words: Vec<&str> = line.split(' ').collect();
+        let got = turn(&mut core, &words);
+        match (got, wanted.next()) {
+            (Ok(got), Some(want)) if got == want => turns += 1,
+            (got, want) => return (turns, Some(format!("{path}: {line}\n  got  {got:?}\n  want {want:?}"))),
+        }
+    }
+    (turns, wanted.next().map(|more| format!("{path}: no turn for {more:?}")))
+}
+
+fn main() {
+    let (mut turns, mut differ) = (0, 0);
+    for path in std::env::args().skip(1) {
+        let (count, first) = run(&path);
+        turns += count;
+        if let Some(first) = first {
+            differ += 1;
+            println!("{first}");
+        }
+    }
+    println!("{} scripts: {turns} turns answered as beside them, {differ} scripts differ", std::env::args().count() - 1);
+    std::process::exit((differ > 0).into());
+}
