@@ -102,17 +102,31 @@ static void turn(zevombu_turn_head head, const char *hex) {
     putchar('\n');
 }
 
-/* What is refused, and leaves all as it was. */
+/* What is refused, and leaves all as it was: the head that it may write, the last answer, and the connection, by the turns after it. */
 static void refused(void) {
-    zevombu_reply_head reply;
+    zevombu_reply_head reply, before;
     zevombu_turn_head no_kind = {.kind = 63}, no_id = {.kind = ZEVOMBU_END, .id = UINT64_MAX}, early = {.kind = ZEVOMBU_END, .id = 400};
     zevombu_action_head action;
     zevombu_core none;
+    size_t length = zevombu_reply(&core, NULL, 0);
+    memset(&reply, 85, sizeof reply);
+    memcpy(&before, &reply, sizeof reply);
     if (zevombu_turn(&core, &no_kind, NULL, 0, &reply) != ZEVOMBU_MALFORMED) exit(2);
     if (zevombu_turn(&core, &no_id, NULL, 0, &reply) != ZEVOMBU_MALFORMED) exit(2);
     if (zevombu_turn(&core, &early, NULL, 0, &reply) != ZEVOMBU_UNLAWFUL) exit(2);
+    if (memcmp(&before, &reply, sizeof reply) || zevombu_reply(&core, NULL, 0) != length) exit(2);
     if (zevombu_action(&core, SIZE_MAX, &action, NULL, 0)) exit(2);
     if (zevombu_new(2, &none) != ZEVOMBU_MALFORMED) exit(2);
+}
+
+/* A room with a byte too little stays as it was, and so does what is behind the bytes. */
+static void short_room(size_t length) {
+    uint8_t room[64];
+    memset(room, 85, sizeof room);
+    if (zevombu_reply(&core, room, length - 1) != length) exit(3);
+    for (size_t i = 0; i < sizeof room; i++) if (room[i] != 85) exit(3);
+    if (zevombu_reply(&core, room, sizeof room) != length) exit(3);
+    for (size_t i = length; i < sizeof room; i++) if (room[i] != 85) exit(3);
 }
 
 int main(void) {
@@ -131,6 +145,7 @@ int main(void) {
     turn((zevombu_turn_head){.kind = ZEVOMBU_CALL_ACCEPT_UNI}, NULL);
     turn((zevombu_turn_head){.kind = ZEVOMBU_CALL_READ, .id = 6, .number = 16}, NULL);
     refused();
+    short_room(2);
     turn((zevombu_turn_head){.kind = ZEVOMBU_CALL_READ, .id = 6, .number = 16}, NULL);
     zevombu_free(core);
     return 0;

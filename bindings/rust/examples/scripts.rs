@@ -1,5 +1,5 @@
-//! Runs scripts (docs/PROGRAM.md) through the C functions, and compares what is answered with the `.answers` beside each.
-//! `cargo run --example scripts -- ../../examples/*.script`
+//! Runs scripts (docs/PROGRAM.md) through the C functions, and compares what is answered with the `.answers` beside each, and
+//! recorded cases with theirs. `cargo run --example scripts -- ../../examples/*.script ../../crates/wt_cases/data/*.txt`
 
 use std::fmt::Write;
 use std::net::{IpAddr, Ipv4Addr, Ipv6Addr, SocketAddr};
@@ -82,7 +82,7 @@ fn keep_fields(words: &[&str], kept: &mut Kept) {
     kept.fields = words.iter().filter(|w| **w != "-").filter_map(|w| w.split_once('=')).map(|(n, v)| (string(n), string(v))).collect();
 }
 
-fn connect<'a>(core: &mut Core, words: &[&str], kept: &'a mut Kept) -> Result<String, Refused> {
+fn connect(core: &mut Core, words: &[&str], kept: &mut Kept) -> Result<String, Refused> {
     keep_fields(&words[3..], kept);
     let (lookup, outcome): (Vec<&str>, Vec<&str>) = (words[1].split(':').collect(), words[2].split(':').collect());
     if lookup[0] == "fault" {
@@ -111,11 +111,10 @@ fn connect<'a>(core: &mut Core, words: &[&str], kept: &'a mut Kept) -> Result<St
     Ok(line(&core.turn(&turn)?))
 }
 
-fn turn(core: &mut Core, words: &[&str]) -> Result<String, Refused> {
-    let mut kept = Kept::default();
+/// An event of numbers alone.
+fn event(words: &[&str]) -> Option<Turn<'static>> {
     let at = |i: usize| number(words[i]);
-    let session = |i: usize| words.get(i).map(|w| number(w));
-    let turn = match words[0] {
+    Some(match words[0] {
         "connected" => Turn::Connected { uni: at(1), bi: at(2), credit: at(3), datagrams: datagrams(words[4]) },
         "peer_uni" => Turn::PeerUni,
         "peer_bi" => Turn::PeerBi,
@@ -127,28 +126,37 @@ fn turn(core: &mut Core, words: &[&str]) -> Result<String, Refused> {
         "max_bi" => Turn::MaxBi(at(1)),
         "max_data" => Turn::MaxData { id: at(1), total: at(2) },
         "datagram_limit" => Turn::DatagramLimit(datagrams(words[1])),
-        "loss" => Turn::Loss(loss(&words[1..], &mut kept)),
-        "connect" => return connect(core, &words[1..], &mut kept),
+        _ => return None,
+    })
+}
+
+/// A call of a handshake or on a session, without fields and bytes.
+fn session_call(words: &[&str]) -> Option<Turn<'static>> {
+    let session = words.get(1).and_then(|word| word.parse().ok());
+    Some(match words[0] {
         "incoming" => Turn::Incoming,
-        "accept" => {
-            keep_fields(&words[1..], &mut kept);
-            let fields: Vec<(&str, &str)> = kept.fields.iter().map(|(n, v)| (n.as_str(), v.as_str())).collect();
-            return Ok(line(&core.turn(&Turn::Accept(&fields))?));
-        }
         "forbidden" => Turn::Forbidden,
         "not_found" => Turn::NotFound,
         "too_many_requests" => Turn::TooManyRequests,
         "handshake" => Turn::Handshake,
-        "accept_uni" => Turn::AcceptUni(session(1)),
-        "accept_bi" => Turn::AcceptBi(session(1)),
-        "receive_datagram" => Turn::ReceiveDatagram(session(1)),
-        "open_uni" => Turn::OpenUni(session(1)),
-        "open_bi" => Turn::OpenBi(session(1)),
-        "poll_opening" => Turn::PollOpening { id: at(1) },
-        "end_session" => Turn::EndSession(session(1)),
-        "max_datagram_size" => Turn::MaxDatagramSize(session(1)),
-        "session_id" => Turn::SessionId(session(1)),
+        "accept_uni" => Turn::AcceptUni(session),
+        "accept_bi" => Turn::AcceptBi(session),
+        "receive_datagram" => Turn::ReceiveDatagram(session),
+        "open_uni" => Turn::OpenUni(session),
+        "open_bi" => Turn::OpenBi(session),
+        "end_session" => Turn::EndSession(session),
+        "max_datagram_size" => Turn::MaxDatagramSize(session),
+        "session_id" => Turn::SessionId(session),
         "closed" => Turn::Closed,
+        _ => return None,
+    })
+}
+
+/// A call on a stream, without bytes.
+fn stream_call(words: &[&str]) -> Option<Turn<'static>> {
+    let at = |i: usize| number(words[i]);
+    Some(match words[0] {
+        "poll_opening" => Turn::PollOpening { id: at(1) },
         "finish" => Turn::Finish { id: at(1) },
         "stopped" => Turn::Stopped { id: at(1) },
         "priority" => Turn::Priority { id: at(1) },
@@ -157,25 +165,48 @@ fn turn(core: &mut Core, words: &[&str]) -> Result<String, Refused> {
         "read" => Turn::Read { id: at(1), size: at(2) },
         "read_exact" => Turn::ReadExact { id: at(1), size: at(2) },
         "stop_recv" => Turn::StopRecv { id: at(1), code: at(2) },
-        "datagram" | "send_datagram" => {
-            kept.bytes = unhex(words[1]);
-            match words[0] {
-                "datagram" => Turn::Datagram(&kept.bytes),
-                _ => Turn::SendDatagram { payload: &kept.bytes, session: session(2) },
-            }
-        }
-        name => {
-            kept.bytes = unhex(words[2]);
-            let bytes = &kept.bytes;
-            match name {
-                "bytes" => Turn::Bytes { id: at(1), bytes },
-                "write" => Turn::Write { id: at(1), bytes },
-                "write_all" => Turn::WriteAll { id: at(1), bytes },
-                "close" => Turn::Close { code: at(1), reason: bytes },
-                "endpoint_close" => Turn::EndpointClose { code: at(1), reason: bytes },
-                other => panic!("no turn is called {other}"),
-            }
-        }
+        _ => return None,
+    })
+}
+
+/// A turn with bytes, which are kept.
+fn with_bytes<'a>(words: &[&str], kept: &'a mut Kept) -> Turn<'a> {
+    let place = if words[0].ends_with("datagram") { 1 } else { 2 };
+    kept.bytes = unhex(words[place]);
+    let bytes = &kept.bytes[..];
+    let first = || number(words[1]);
+    match words[0] {
+        "datagram" => Turn::Datagram(bytes),
+        "send_datagram" => Turn::SendDatagram { payload: bytes, session: words.get(2).map(|word| number(word)) },
+        "bytes" => Turn::Bytes { id: first(), bytes },
+        "write" => Turn::Write { id: first(), bytes },
+        "write_all" => Turn::WriteAll { id: first(), bytes },
+        "close" => Turn::Close { code: first(), reason: bytes },
+        "endpoint_close" => Turn::EndpointClose { code: first(), reason: bytes },
+        other => panic!("no turn is called {other}"),
+    }
+}
+
+/// Accepts, with these fields.
+fn accept(core: &mut Core, words: &[&str], kept: &mut Kept) -> Result<String, Refused> {
+    keep_fields(words, kept);
+    let fields: Vec<(&str, &str)> = kept.fields.iter().map(|(n, v)| (n.as_str(), v.as_str())).collect();
+    Ok(line(&core.turn(&Turn::Accept(&fields))?))
+}
+
+/// The printed line of the answer to a line's turn.
+fn turn(core: &mut Core, words: &[&str]) -> Result<String, Refused> {
+    let mut kept = Kept::default();
+    match words[0] {
+        "connect" => return connect(core, &words[1..], &mut kept),
+        "accept" => return accept(core, &words[1..], &mut kept),
+        _ => {}
+    }
+    let plain = event(words).or_else(|| session_call(words)).or_else(|| stream_call(words));
+    let turn = match plain {
+        Some(turn) => turn,
+        None if words[0] == "loss" => Turn::Loss(loss(&words[1..], &mut kept)),
+        None => with_bytes(words, &mut kept),
     };
     Ok(line(&core.turn(&turn)?))
 }
@@ -303,35 +334,73 @@ fn line(answer: &Answer) -> String {
     answer.actions().fold(reply(&answer.reply()), |out, a| out + " ; " + &action(&a))
 }
 
-/// How many turns of a script were answered as beside it, and what differed first.
-fn run(path: &str) -> (usize, Option<String>) {
+/// A script, with the lines that its turns are to be answered.
+struct Case {
+    name: String,
+    script: String,
+    wanted: String,
+}
+
+/// The whole traces of a file of recorded cases (crates/wt_cases): scripts after `>`, answers after `<`.
+fn recorded(path: &str) -> Vec<Case> {
+    let text = std::fs::read_to_string(path).unwrap();
+    let mut cases: Vec<(bool, Case)> = Vec::new();
+    for line in text.lines() {
+        if let Some(words) = line.strip_prefix("case ") {
+            let name = format!("{path}: case {}", cases.len());
+            cases.push((words == "0 trace", Case { name, script: String::new(), wanted: String::new() }));
+            continue;
+        }
+        let (whole, case) = cases.last_mut().expect("a case begins");
+        *whole &= !line.contains('\\');
+        let (out, text) = match line.split_at(1) {
+            (">", text) => (&mut case.script, text),
+            (_, text) => (&mut case.wanted, text),
+        };
+        out.push_str(text);
+        out.push('\n');
+    }
+    cases.into_iter().filter(|(whole, _)| *whole).map(|(_, case)| case).collect()
+}
+
+/// The cases of a file: a script with its answers beside it, or recorded ones.
+fn cases(path: &str) -> Vec<Case> {
+    if path.ends_with(".txt") {
+        return recorded(path);
+    }
     let script = std::fs::read_to_string(path).unwrap();
     let wanted = std::fs::read_to_string(path.replace(".script", ".answers")).unwrap();
-    let mut lines = script.lines().filter(|l| !l.is_empty() && !l.starts_with('#'));
+    vec![Case { name: path.into(), script, wanted }]
+}
+
+/// How many turns of a script were answered as is wanted, and what differed first.
+fn run(case: &Case) -> (usize, Option<String>) {
+    let mut lines = case.script.lines().filter(|l| !l.is_empty() && !l.starts_with('#'));
     let side = if lines.next() == Some("client") { Side::Client } else { Side::Server };
     let mut core = Core::new(side).expect("memory suffices");
-    let (mut turns, mut wanted) = (0, wanted.lines());
+    let (mut turns, mut wanted) = (0, case.wanted.lines());
     for line in lines {
         let words: Vec<&str> = line.split(' ').collect();
         let got = turn(&mut core, &words);
         match (got, wanted.next()) {
             (Ok(got), Some(want)) if got == want => turns += 1,
-            (got, want) => return (turns, Some(format!("{path}: {line}\n  got  {got:?}\n  want {want:?}"))),
+            (got, want) => return (turns, Some(format!("{}: {line}\n  got  {got:?}\n  want {want:?}", case.name))),
         }
     }
-    (turns, wanted.next().map(|more| format!("{path}: no turn for {more:?}")))
+    (turns, wanted.next().map(|more| format!("{}: no turn for {more:?}", case.name)))
 }
 
 fn main() {
-    let (mut turns, mut differ) = (0, 0);
-    for path in std::env::args().skip(1) {
-        let (count, first) = run(&path);
+    let (mut scripts, mut turns, mut differ) = (0, 0, 0);
+    for case in std::env::args().skip(1).flat_map(|path| cases(&path)) {
+        let (count, first) = run(&case);
+        scripts += 1;
         turns += count;
         if let Some(first) = first {
             differ += 1;
             println!("{first}");
         }
     }
-    println!("{} scripts: {turns} turns answered as beside them, {differ} scripts differ", std::env::args().count() - 1);
+    println!("{scripts} scripts: {turns} turns answered as is wanted, {differ} scripts differ");
     std::process::exit((differ > 0).into());
 }

@@ -3,11 +3,24 @@
 //! What a turn is answered is proved (`crates/wt_ffi` of the repository, and what it stands on); this wrapper is plain Rust over the C
 //! functions of `include/zevombu.h`, and keeps their rules: an [`Answer`] borrows its core, so that none is read after the next turn.
 //!
-//! ```no_run
-//! use zevombu::{Core, Reply, Side, Turn};
+//! ```
+//! use zevombu::{Core, Datagrams, Refused, Reply, Side, Turn};
 //! let mut core = Core::new(Side::Server).unwrap();
-//! let answer = core.turn(&Turn::PeerUni);
-//! assert_eq!(answer.err(), Some(zevombu::Refused::Unlawful)); // no turn of a server comes before `Connected`
+//! assert_eq!(core.turn(&Turn::PeerUni).err(), Some(Refused::Unlawful)); // no turn of a server comes before `Connected`
+//! let connected = Turn::Connected { uni: 9, bi: 9, credit: 1000, datagrams: Datagrams::Disabled };
+//! let answer = core.turn(&connected).unwrap();
+//! assert_eq!(answer.reply(), Reply::Done);
+//! assert_eq!(answer.actions().count(), 2); // it opens its control stream, and sends its SETTINGS
+//! ```
+//!
+//! An answer can't be read after the next turn:
+//!
+//! ```compile_fail,E0499
+//! use zevombu::{Core, Side, Turn};
+//! let mut core = Core::new(Side::Server).unwrap();
+//! let stale = core.turn(&Turn::Incoming).unwrap();
+//! core.turn(&Turn::Incoming).unwrap();
+//! stale.reply();
 //! ```
 
 mod answer;

@@ -1,7 +1,7 @@
 //! Zevombu for C: the functions of bindings/include/zevombu.h.
 #![tactic(auto)]
 
-ghost use Rattle.std.specs.Prelude.{◌≡◌, ◌<◌, ◌++◌, ◌↔◌, IsSomeAnd, None, false, is_some, length, slice_get};
+ghost use Rattle.std.specs.Prelude.{[], ◌≡◌, ◌<◌, ◌++◌, ◌↔◌, IfOk, IsSomeAnd, IsTrue, None, false, is_some, length, slice_get};
 ghost use Rattle.std.specs.Option.{option_map_or};
 ghost use Rattle.wt_abi.specs.Actions.{action_bytes, action_head};
 ghost use Rattle.wt_abi.specs.Turns.{turn_of};
@@ -19,6 +19,7 @@ use std::alloc::Global;
 use wt_abi::{ActionHead, ReplyHead, TurnHead, action_bytes, action_head};
 use wt_handle::loose::Loose;
 use wt_handle::{Handle, Opaque, State, Status};
+use wt_wire::error::OutOfMemory;
 use wt_wire::side::Side;
 
 /// How many bytes the name and the value of a header field have.
@@ -39,20 +40,32 @@ pub extern "C" fn zevombu_version() -> u32
     1
 }
 
+/// A connection of this side, in a block of its own.
+fn connection(alloc: Global, side: Side) -> Result<Loose<State, Global>, OutOfMemory>
+    ensures { IfOk result (λ loose. KeepsHistory side loose.value.core []) }
+{
+    match Box::new(alloc, State::new(alloc, side)) {
+        Ok(state) => Ok(Loose::of(state)),
+        Err(_) => Err(OutOfMemory),
+    }
+}
+
 /// Makes a connection of a client (0) or a server (1), and writes its address: 0, or 1 where there is no such side, or 3
 /// where memory is short.
 #[unsafe(no_mangle)]
 pub extern "C" fn zevombu_new(alloc: Global, side: u32, out: &mut *mut Opaque) -> u32
-    ensures { (result ≡ 1) ↔ (1 < side) }
+    ensures side { (result ≡ 1) ↔ (1 < side) }
+    ensures status { result < 4 }
+    ensures untouched { 0 < result → out.new ≡ out.old }
 {
     let side = match side {
         0 => Side::Client,
         1 => Side::Server,
         _ => return 1,
     };
-    match Box::new(alloc, State::new(alloc, side)) {
-        Ok(state) => {
-            *out = Handle::release(Loose::of(state));
+    match connection(alloc, side) {
+        Ok(loose) => {
+            *out = Handle::release(loose);
             0
         }
         Err(_) => 3,
@@ -86,6 +99,7 @@ pub extern "C" fn zevombu_turn(
     ensures same { 0 < result → result < 4 → handle.new.value ≡ handle.old.value }
     ensures failed { result ≡ 4 → HasFailed handle.new.value }
     ensures untouched { 0 < result → out.new ≡ out.old }
+    ensures stays { IsTrue handle.old.value.core.failed → 0 < result }
 {
     let state = handle.state();
     match state.turn(alloc, head, bytes) {

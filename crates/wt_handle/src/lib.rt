@@ -1,7 +1,7 @@
 //! A connection that C holds by its address: a core, and its last answer.
 #![tactic(auto)]
 
-ghost use Rattle.std.specs.Prelude.{[], ◌≡◌, ◌≢◌, None, Some, MatchOption, false, slice_get, IsSomeAnd};
+ghost use Rattle.std.specs.Prelude.{[], ◌≡◌, ◌≢◌, IsTrue, None, Some, MatchOption, false, slice_get, IsSomeAnd};
 ghost use Rattle.std.specs.Option.{option_copied};
 ghost use Rattle.std_alloc.specs.Box.Ownership.{box_owns};
 ghost use Rattle.wt_abi.specs.Turns.{turn_of};
@@ -62,13 +62,14 @@ impl State {
         }
     }
 
-    /// Makes a turn.
+    /// Makes a turn. After one that failed none is done.
     fn answer(&mut self, turn: &Turn) -> Status
         ensures done { result ≡ statuses.Done → (side : Side) (h : History) → KeepsHistory side self.old.core h → Answered side h turn.now self.new }
         ensures unlawful { result ≡ statuses.Unlawful → (side : Side) (h : History) → KeepsHistory side self.old.core h → is_lawful side h turn.now ≡ false }
         ensures same { ChangesNothing result → self.new ≡ self.old }
         ensures failed { result ≡ statuses.Failed → HasFailed self.new }
         ensures told { result ≢ statuses.Malformed }
+        ensures stays { IsTrue self.old.core.failed → result ≢ statuses.Done }
     {
         if !self.core.is_lawful(turn) {
             return Status::Unlawful;
@@ -94,6 +95,7 @@ impl State {
             → IsSomeAnd (turn_of head.now bytes.now) (λ turn. is_lawful side h turn ≡ false) }
         ensures same { ChangesNothing result → self.new ≡ self.old }
         ensures failed { result ≡ statuses.Failed → HasFailed self.new }
+        ensures stays { IsTrue self.old.core.failed → result ≢ statuses.Done }
     {
         match read_turn(alloc, head, bytes) {
             Ok(read) => match read {
