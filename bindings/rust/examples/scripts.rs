@@ -334,11 +334,11 @@ fn line(answer: &Answer) -> String {
     answer.actions().fold(reply(&answer.reply()), |out, a| out + " ; " + &action(&a))
 }
 
-/// A script, with the lines that its turns are to be answered.
+/// A script, with the lines that its turns are to be answered, where there are any.
 struct Case {
     name: String,
     script: String,
-    wanted: String,
+    wanted: Option<String>,
 }
 
 /// The whole traces of a file of recorded cases (crates/wt_cases): scripts after `>`, answers after `<`.
@@ -348,14 +348,14 @@ fn recorded(path: &str) -> Vec<Case> {
     for line in text.lines() {
         if let Some(words) = line.strip_prefix("case ") {
             let name = format!("{path}: case {}", cases.len());
-            cases.push((words == "0 trace", Case { name, script: String::new(), wanted: String::new() }));
+            cases.push((words == "0 trace", Case { name, script: String::new(), wanted: Some(String::new()) }));
             continue;
         }
         let (whole, case) = cases.last_mut().expect("a case begins");
         *whole &= !line.contains('\\');
         let (out, text) = match line.split_at(1) {
             (">", text) => (&mut case.script, text),
-            (_, text) => (&mut case.wanted, text),
+            (_, text) => (case.wanted.get_or_insert_default(), text),
         };
         out.push_str(text);
         out.push('\n');
@@ -369,25 +369,28 @@ fn cases(path: &str) -> Vec<Case> {
         return recorded(path);
     }
     let script = std::fs::read_to_string(path).unwrap();
-    let wanted = std::fs::read_to_string(path.replace(".script", ".answers")).unwrap();
+    let wanted = std::fs::read_to_string(path.replace(".script", ".answers")).ok();
     vec![Case { name: path.into(), script, wanted }]
 }
 
-/// How many turns of a script were answered as is wanted, and what differed first.
+/// How many turns of a script were answered as is wanted, and what differed first. With no answers beside it all are.
 fn run(case: &Case) -> (usize, Option<String>) {
     let mut lines = case.script.lines().filter(|l| !l.is_empty() && !l.starts_with('#'));
     let side = if lines.next() == Some("client") { Side::Client } else { Side::Server };
     let mut core = Core::new(side).expect("memory suffices");
-    let (mut turns, mut wanted) = (0, case.wanted.lines());
+    let mut wanted = case.wanted.as_deref().map(str::lines);
+    let mut turns = 0;
     for line in lines {
         let words: Vec<&str> = line.split(' ').collect();
         let got = turn(&mut core, &words);
-        match (got, wanted.next()) {
-            (Ok(got), Some(want)) if got == want => turns += 1,
-            (got, want) => return (turns, Some(format!("{}: {line}\n  got  {got:?}\n  want {want:?}", case.name))),
+        let want = wanted.as_mut().map(|lines| lines.next().unwrap_or("no turn"));
+        match got {
+            Ok(got) if want.is_none_or(|want| want == got) => turns += 1,
+            got => return (turns, Some(format!("{}: {line}\n  got  {got:?}\n  want {want:?}", case.name))),
         }
     }
-    (turns, wanted.next().map(|more| format!("{}: no turn for {more:?}", case.name)))
+    let more = wanted.and_then(|mut lines| lines.next());
+    (turns, more.map(|more| format!("{}: no turn for {more:?}", case.name)))
 }
 
 fn main() {

@@ -8,4 +8,4 @@ returns-then-not-is_lawful-clause-unlawful c = λ _ side h k. sym (c.is_lawful.e
 pub returns-in-Ok-clause-done : goal.returns-in-Ok-clause-done
 returns-in-Ok-clause-done c = λ _ side h k.
     let lawful = sym (c.is_lawful.ensures.history side h k) ∙ c.if-not-is_lawful.false in
-    (lawful, ap Some (c.in-Ok.ensures.answer side h k lawful), c.in-Ok.ensures.history side h k lawful)
+    record { lawful = lawful; last = ap Some (c.in-Ok.ensures.answer side h k lawful); kept = c.in-Ok.ensures.history side h k lawful }
