@@ -2,9 +2,7 @@
 
 use crate::{Adapter, Calls, Dial, Link};
 use bytes::BytesMut;
-use quinn_proto::{
-    ClientConfig, Connection, ConnectionHandle, DatagramEvent, Endpoint, EndpointConfig, ServerConfig, Transmit,
-};
+use quinn_proto::{ClientConfig, Connection, ConnectionHandle, DatagramEvent, Endpoint, EndpointConfig, ServerConfig, Transmit};
 use std::collections::HashMap;
 use std::io;
 use std::net::{SocketAddr, UdpSocket};

@@ -9,18 +9,24 @@
 //!
 //! The answers to the turns are proved; this crate, which makes the turns, is plain Rust (README.md says where the line is).
 
+#![forbid(unsafe_code)]
+#![warn(missing_docs)]
+
 mod adapter;
+mod calls;
 mod codes;
 mod host;
 mod inbound;
 mod link;
 mod outbound;
+mod quic;
 mod varint;
 
 pub use adapter::{Adapter, Plain};
+pub use calls::Calls;
 pub use codes::{from_http3, to_http3};
 pub use host::{Application, Host};
-pub use link::{Calls, ConnectError, Dial, Link};
+pub use link::{ConnectError, Dial, Link};
 pub use varint::{put_varint, read_varint};
 
 /// How many bytes of a stream the link keeps each way: beyond what QUIC took, and beyond what the application read.

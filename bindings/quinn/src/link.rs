@@ -1,16 +1,17 @@
 //! One connection: the transport's events as turns, and the actions of their answers as calls of quinn-proto.
 
-use crate::codes::{from_http3, to_http3};
+use crate::codes::to_http3;
 use crate::inbound::Inbound;
 use crate::outbound::Outbound;
+use crate::quic::{code_from_peer, fact, is_bidirectional, next_chunk, number, stream, varint, End};
 use crate::varint::put_varint;
 use crate::{Adapter, Plain, WINDOW};
 use bytes::Bytes;
-use quinn_proto::{Connection, ConnectionError, Dir, Event, ReadError, StreamEvent, StreamId, VarInt};
+use quinn_proto::{Connection, ConnectionError, Dir, Event, StreamEvent, VarInt};
 use std::collections::{BTreeMap, BTreeSet, VecDeque};
 use std::net::SocketAddr;
 use std::time::{Duration, Instant};
-use zevombu::{Action, ConnectFailed, Core, Datagrams, Fields, Loss, Lookup, Outcome, Refused, Reply, Side, Turn};
+use zevombu::{Action, ConnectFailed, Core, Datagrams, Fields, Lookup, Loss, Outcome, Refused, Reply, Side, Turn};
 
 /// How many turns a pump makes at most: the core keeps 16 streams and 16 datagrams for an application that doesn't take them, so it
 /// has to be asked between fewer.
@@ -37,7 +38,9 @@ type Observer = Box<dyn FnMut(&Turn<'_>, &Reply, &[Action]) + Send>;
 /// Where a client has to connect to.
 #[derive(Clone, Debug, PartialEq, Eq)]
 pub struct Dial {
+    /// The address that the lookup gave.
     pub address: SocketAddr,
+    /// The name that the server's certificate is for.
     pub name: String,
 }
 
@@ -45,9 +48,16 @@ enum Phase {
     /// QUIC's handshake isn't through.
     Connecting,
     Open,
-    /// The core closed the connection, which QUIC is told then.
-    Closing { at: Instant, code: u64, reason: Vec<u8> },
+    /// The core closed the connection.
+    Closing(Close),
     Over,
+}
+
+/// A close that QUIC is told of at this time.
+struct Close {
+    at: Instant,
+    code: u64,
+    reason: Vec<u8>,
 }
 
 /// One connection of the core on one of quinn-proto, which each function is given.
@@ -58,7 +68,7 @@ pub struct Link<A = Plain> {
     phase: Phase,
     inbound: BTreeMap<u64, Inbound>,
     outbound: BTreeMap<u64, Outbound>,
-    /// Of each kind (`Dir`), how many streams this end opened in QUIC, and how many of them the core has.
+    /// How many streams of each kind (`Dir`) this end opened in QUIC, and how many of them the core has opened.
     ahead: [u64; 2],
     opened: [u64; 2],
     datagrams: Datagrams,
@@ -69,65 +79,6 @@ pub struct Link<A = Plain> {
     news: BTreeSet<u64>,
     turns: u64,
     observer: Option<Observer>,
-}
-
-fn stream(id: u64) -> StreamId {
-    StreamId::from(varint(id))
-}
-
-fn number(id: StreamId) -> u64 {
-    VarInt::from(id).into_inner()
-}
-
-/// The core's ids, codes and totals are below 2^62.
-fn varint(value: u64) -> VarInt {
-    VarInt::from_u64(value).unwrap_or(VarInt::MAX)
-}
-
-fn is_bidirectional(id: u64) -> bool {
-    id & 2 == 0
-}
-
-fn code_from_peer(code: VarInt) -> u64 {
-    let code = code.into_inner();
-    from_http3(code).map_or(code, u64::from)
-}
-
-/// What QUIC had of a stream.
-struct Chunk {
-    bytes: Bytes,
-    end: Option<End>,
-}
-
-enum End {
-    Finished,
-    Reset(VarInt),
-}
-
-/// As many bytes of a stream as QUIC has, up to a bound; `None` where there is nothing.
-fn next_chunk(quic: &mut Connection, id: u64, most: u64) -> Option<Chunk> {
-    let mut half = quic.recv_stream(stream(id));
-    let mut chunks = half.read(true).ok()?;
-    let mut bytes = Vec::new();
-    let mut end = None;
-    while (bytes.len() as u64) < most {
-        match chunks.next(most as usize - bytes.len()) {
-            Ok(Some(chunk)) => bytes.extend_from_slice(&chunk.bytes),
-            Ok(None) => end = Some(End::Finished),
-            Err(ReadError::Reset(code)) => end = Some(End::Reset(code)),
-            Err(ReadError::Blocked) => break,
-        }
-        if end.is_some() {
-            break;
-        }
-    }
-    // The windows that this opens go out with the next packets.
-    let _ = chunks.finalize();
-    (!bytes.is_empty() || end.is_some()).then(|| Chunk { bytes: bytes.into(), end })
-}
-
-fn fact(quic: &mut Connection) -> Datagrams {
-    quic.datagrams().max_size().map_or(Datagrams::Unsupported, |size| Datagrams::Limit(size as u64))
 }
 
 impl<A: Adapter> Link<A> {
@@ -192,14 +143,14 @@ impl<A: Adapter> Link<A> {
 
     /// Whether the connection is closed, or will be.
     pub fn is_over(&self) -> bool {
-        matches!(self.phase, Phase::Closing { .. } | Phase::Over)
+        matches!(self.phase, Phase::Closing(_) | Phase::Over)
     }
 
     /// When `pump` is to be called though QUIC reported nothing.
     pub fn deadline(&self) -> Option<Instant> {
-        match self.phase {
-            Phase::Closing { at, .. } => Some(at),
-            _ => None,
+        match &self.phase {
+            Phase::Closing(close) => Some(close.at),
+            Phase::Connecting | Phase::Open | Phase::Over => None,
         }
     }
 
@@ -246,9 +197,9 @@ impl<A: Adapter> Link<A> {
     }
 
     fn close_if_due(&mut self, quic: &mut Connection, now: Instant) {
-        if let Phase::Closing { at, code, reason } = &mut self.phase {
-            if *at <= now {
-                quic.close(now, varint(*code), std::mem::take(reason).into());
+        if let Phase::Closing(close) = &mut self.phase {
+            if close.at <= now {
+                quic.close(now, varint(close.code), std::mem::take(&mut close.reason).into());
                 self.phase = Phase::Over;
             }
         }
@@ -582,7 +533,7 @@ impl<A: Adapter> Link<A> {
                 // What can't go out now is lost, as datagrams may be.
                 let _ = quic.datagrams().send(payload.into());
             }
-            Action::Close { code, reason } => self.phase = Phase::Closing { at: now + LINGER, code, reason },
+            Action::Close { code, reason } => self.phase = Phase::Closing(Close { at: now + LINGER, code, reason }),
         }
     }
 
@@ -611,7 +562,8 @@ impl<A: Adapter> Link<A> {
 
     // ---- calls
 
-    fn call(&mut self, quic: &mut Connection, now: Instant, call: &Turn<'_>) -> Result<Reply, Refused> {
+    /// Makes a call of the application.
+    pub(crate) fn call(&mut self, quic: &mut Connection, now: Instant, call: &Turn<'_>) -> Result<Reply, Refused> {
         let reply = self.turn(quic, now, call)?;
         match (call, &reply) {
             (Turn::Read { id, .. }, Reply::Read(Some(bytes))) => self.consumed(*id, bytes.len()),
@@ -632,6 +584,11 @@ impl<A: Adapter> Link<A> {
         }
         self.open_more(quic, now)?;
         Ok(reply)
+    }
+
+    /// The streams on which something happened since this was last asked.
+    pub(crate) fn take_news(&mut self) -> BTreeSet<u64> {
+        std::mem::take(&mut self.news)
     }
 
     /// Opens further streams ahead once the core has half of them.
@@ -655,7 +612,7 @@ impl<A: Adapter> Link<A> {
     }
 
     /// Writes a capsule on a session's stream, which the core itself can't send.
-    fn close_capsule(&mut self, session: u64, code: u32, reason: &str) {
+    pub(crate) fn close_capsule(&mut self, session: u64, code: u32, reason: &str) {
         let half = match self.outbound.get_mut(&session) {
             Some(half) if half.is_open() => half,
             _ => return,
@@ -684,48 +641,10 @@ fn code_to_peer(turn: &Turn<'_>, code: u64) -> u64 {
 /// Why a client has no link.
 #[derive(Debug)]
 pub enum ConnectError {
+    /// The core's own cause.
     Failed(ConnectFailed),
+    /// The turn was refused.
     Refused(Refused),
+    /// The core asked for no connection, and gave no cause.
     Unexpected(Reply),
-}
-
-/// How an application makes its calls on a link.
-pub struct Calls<'a, A = Plain> {
-    link: &'a mut Link<A>,
-    quic: &'a mut Connection,
-    now: Instant,
-}
-
-impl<'a, A: Adapter> Calls<'a, A> {
-    /// The calls on this link and its connection.
-    pub fn new(link: &'a mut Link<A>, quic: &'a mut Connection, now: Instant) -> Calls<'a, A> {
-        Calls { link, quic, now }
-    }
-
-    /// The time of this round.
-    pub fn now(&self) -> Instant {
-        self.now
-    }
-
-    /// Whether the connection is closed, or will be.
-    pub fn is_over(&self) -> bool {
-        self.link.is_over()
-    }
-
-    /// Makes a call; its actions are done on QUIC. Events are the link's own to make.
-    pub fn make(&mut self, call: &Turn<'_>) -> Result<Reply, Refused> {
-        self.link.call(self.quic, self.now, call)
-    }
-
-    /// Ends a session with a code and a reason, of at most 1,024 bytes. They go out in a capsule of the link's, since the core
-    /// has none: its `EndSession` ends the session's stream, which the peer takes for code 0 without a reason.
-    pub fn end_session(&mut self, session: u64, code: u32, reason: &str) -> Result<Reply, Refused> {
-        self.link.close_capsule(session, code, reason);
-        self.make(&Turn::EndSession(Some(session)))
-    }
-
-    /// The streams on which something happened since this was last asked: bytes, an end, credit, a stop, an acknowledgement.
-    pub fn take_news(&mut self) -> BTreeSet<u64> {
-        std::mem::take(&mut self.link.news)
-    }
 }

@@ -283,7 +283,10 @@ fn send(name: &str, streams: usize, length: usize, datagrams: usize, loss: u64) 
     }
     assert!(is_done.load(Ordering::SeqCst), "{name}: the connection was lost");
     thread.join().unwrap();
-    println!("{name}: {streams} streams of {length} bytes and {datagrams} datagrams, {loss} of 1000 packets lost, in {:?}", begun.elapsed());
+    println!(
+        "{name}: {streams} streams of {length} bytes and {datagrams} datagrams, {loss} of 1000 packets lost, in {:?}",
+        begun.elapsed()
+    );
 }
 
 #[test]

@@ -16,7 +16,10 @@ const NO_ERROR: u64 = 0x100;
 /// The request that is asked for, or answered.
 enum Handshake {
     Asking,
-    Answering { id: u64, path: String },
+    Answering {
+        id: u64,
+        path: String,
+    },
     /// None comes any more.
     Over,
 }
@@ -26,9 +29,15 @@ enum Handshake {
 enum Leave {
     /// Without a code: only the session's stream ends.
     Plainly,
-    With { code: u32, reason: String },
+    With {
+        code: u32,
+        reason: String,
+    },
     /// With the whole connection.
-    Connection { code: u64, reason: String },
+    Connection {
+        code: u64,
+        reason: String,
+    },
 }
 
 /// The application of one connection.
@@ -266,7 +275,8 @@ impl Echo {
 
     /// Closes the connection where no session has lived on it for a while.
     fn close_if_idle(&mut self, calls: &mut Link<'_>) -> Result<(), Refused> {
-        let is_idle = self.had_sessions && self.sessions.is_empty() && matches!(self.handshake, Handshake::Asking) && !calls.is_over();
+        let is_idle =
+            self.had_sessions && self.sessions.is_empty() && matches!(self.handshake, Handshake::Asking) && !calls.is_over();
         self.idle_since = if is_idle { self.idle_since.or_else(|| Some(calls.now())) } else { None };
         if self.idle_since.map_or(false, |since| calls.now() >= since + IDLE) {
             self.say("no session lives any more: the connection is closed");
@@ -298,7 +308,9 @@ impl Application for Echo {
 
     fn gone(&mut self, turns: u64, refused: Option<Refused>) {
         match refused {
-            Some(refused) => self.say(&format!("the connection is gone after {turns} turns, the last of which was refused: {refused:?}")),
+            Some(refused) => {
+                self.say(&format!("the connection is gone after {turns} turns, the last of which was refused: {refused:?}"))
+            }
             None => self.say(&format!("the connection is gone after {turns} turns")),
         }
     }

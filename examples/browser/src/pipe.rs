@@ -11,7 +11,9 @@ const CUT: u64 = 9;
 /// Where the bytes go.
 enum Sink {
     /// A stream of this end's that isn't opened yet.
-    Wanted { is_bidirectional: bool },
+    Wanted {
+        is_bidirectional: bool,
+    },
     Opening(u64),
     Open(u64),
     /// Finished, reset or stopped.

@@ -2,8 +2,8 @@
 
 use bytes::BytesMut;
 use quinn_proto::{
-    ClientConfig, Connection, ConnectionHandle, DatagramEvent, Dir, Endpoint, EndpointConfig, Event, ReadError, StreamEvent, StreamId,
-    TransportConfig, VarInt, WriteError,
+    ClientConfig, Connection, ConnectionHandle, DatagramEvent, Dir, Endpoint, EndpointConfig, Event, ReadError, StreamEvent,
+    StreamId, TransportConfig, VarInt, WriteError,
 };
 use rustls::client::{ServerCertVerified, ServerCertVerifier};
 use std::collections::{BTreeMap, VecDeque};
@@ -414,7 +414,8 @@ impl Peer {
         self.socket.set_nonblocking(false).unwrap();
         while let Ok((length, from)) = self.socket.recv_from(&mut packet) {
             let bytes = BytesMut::from(&packet[..length]);
-            if let Some((_, DatagramEvent::ConnectionEvent(event))) = self.endpoint.handle(Instant::now(), from, None, None, bytes) {
+            if let Some((_, DatagramEvent::ConnectionEvent(event))) = self.endpoint.handle(Instant::now(), from, None, None, bytes)
+            {
                 self.quic.handle_event(event);
             }
             self.socket.set_nonblocking(true).unwrap();
