@@ -300,6 +300,11 @@ fn eight_megabytes() {
 }
 
 #[test]
+fn eight_megabytes_with_a_loss_of_five_percent_each_way() {
+    send("eight_megabytes_with_loss", 1, 8 << 20, 1, 50);
+}
+
+#[test]
 fn a_loss_of_five_percent_each_way() {
     send("a_loss_of_five_percent_each_way", 200, 10_000, 50, 50);
 }

@@ -3,6 +3,7 @@
 
 mod raw;
 
+use quinn_proto::Dir;
 use raw::{close_capsule, Peer, Running};
 use std::time::Duration;
 use zevombu_quinn::to_http3;
@@ -85,7 +86,7 @@ fn a_reset_before_the_header_costs_nothing() {
     // More than the 128 streams that may be open at once.
     for i in 0..300 {
         let bytes: &[u8] = if i % 2 == 0 { &[0x40] } else { &[] };
-        let id = peer.open(quinn_proto::Dir::Bi, bytes, false);
+        let id = peer.open(Dir::Bi, bytes, false);
         peer.reset(id, to_http3(7));
         assert_eq!(peer.end(id), "reset 0x10d, stop none", "stream {i}");
     }
@@ -150,6 +151,66 @@ fn a_path_of_6000_characters_closes_the_connection() {
     assert!(!peer.until(|_| false));
     // H3_EXCESSIVE_LOAD: a HEADERS frame has at most 4,096 bytes.
     assert_eq!(peer.lost.as_deref(), Some("closed by peer: 263"));
+    is_alive(&server);
+}
+
+/// The same numbers each time.
+struct Random(u64);
+
+impl Random {
+    fn below(&mut self, bound: usize) -> usize {
+        self.0 ^= self.0 << 13;
+        self.0 ^= self.0 >> 7;
+        self.0 ^= self.0 << 17;
+        (self.0 % bound as u64) as usize
+    }
+
+    fn bytes(&mut self, most: usize) -> Vec<u8> {
+        (0..self.below(most)).map(|_| self.below(256) as u8).collect()
+    }
+}
+
+/// One of the things that a peer may do, at random: most of them break no rule of QUIC's, and some of them HTTP/3's.
+fn do_something(peer: &mut Peer, random: &mut Random, own: &mut Vec<u64>, session: u64) {
+    let headers: [&[u8]; 6] = [&[0x40, 0x41, 0x00], &[0x40, 0x54, 0x00], &[0x01, 0x05], &[0x00, 0x03], &[0x21, 0x02], &[]];
+    let dir = if random.below(2) == 0 { Dir::Bi } else { Dir::Uni };
+    let one = own.get(random.below(own.len().max(1))).copied();
+    match (random.below(10), one) {
+        (0, _) => {
+            let bytes = [headers[random.below(headers.len())], &random.bytes(40)].concat();
+            own.extend(peer.try_open(dir, &bytes, random.below(3) == 0));
+        }
+        (1 | 2 | 3, _) => {
+            let header = headers[if dir == Dir::Bi { 0 } else { 1 }];
+            own.extend(peer.try_open(dir, &[header, &random.bytes(3000)].concat(), random.below(2) == 0));
+        }
+        (4, Some(id)) => peer.reset(id, to_http3(random.below(1000) as u32)),
+        (5, Some(id)) if id & 2 == 0 => peer.stop(id, random.below(1000) as u64),
+        (6, _) => peer.send_datagram(session, &random.bytes(100)),
+        (7, _) if random.below(8) == 0 => peer.send_datagram(session, b"!close 3 at random"),
+        (8, _) => peer.send_datagram(session, [&b"!uni"[..], b"!bi"][random.below(2)]),
+        _ => peer.rest(Duration::from_millis(2)),
+    }
+}
+
+#[test]
+fn what_comes_at_random_makes_no_turn_that_the_core_refuses() {
+    let server = Running::new("random");
+    for seed in 1..=60 {
+        let mut random = Random(seed * 0x9e37_79b9_7f4a_7c15);
+        let mut peer = Peer::new(server.address);
+        let session = peer.session("/echo");
+        let mut own = Vec::new();
+        for _ in 0..80 {
+            if peer.lost.is_some() {
+                break;
+            }
+            do_something(&mut peer, &mut random, &mut own, session);
+        }
+        peer.rest(Duration::from_millis(20));
+        // The link closes with H3_INTERNAL_ERROR where the core refuses a turn.
+        assert_ne!(peer.lost.as_deref(), Some("closed by peer: 258"), "seed {seed}");
+    }
     is_alive(&server);
 }
 

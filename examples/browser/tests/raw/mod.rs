@@ -187,21 +187,28 @@ impl Peer {
         peer
     }
 
-    /// Opens a stream, waiting for credit, and sends bytes on it.
-    pub fn open(&mut self, dir: Dir, bytes: &[u8], is_last: bool) -> u64 {
+    /// Opens a stream, waiting for credit, and sends bytes on it; `None` where the connection is lost.
+    pub fn try_open(&mut self, dir: Dir, bytes: &[u8], is_last: bool) -> Option<u64> {
         let begun = Instant::now();
         let id = loop {
+            if self.lost.is_some() {
+                return None;
+            }
             if let Some(id) = self.quic.streams().open(dir) {
                 break number(id);
             }
-            assert!(begun.elapsed() < SOON && self.lost.is_none(), "no credit for a stream; lost: {:?}", self.lost);
+            assert!(begun.elapsed() < SOON, "no credit for a stream");
             self.pump(Duration::from_millis(2));
         };
         if dir == Dir::Bi {
             self.streams.insert(id, Came::default());
         }
         self.send(id, bytes, is_last);
-        id
+        Some(id)
+    }
+
+    pub fn open(&mut self, dir: Dir, bytes: &[u8], is_last: bool) -> u64 {
+        self.try_open(dir, bytes, is_last).unwrap_or_else(|| panic!("the connection is lost: {:?}", self.lost))
     }
 
     pub fn send(&mut self, id: u64, bytes: &[u8], is_last: bool) {
@@ -217,12 +224,14 @@ impl Peer {
     }
 
     pub fn reset(&mut self, id: u64, code: u64) {
-        self.quic.send_stream(stream(id)).reset(VarInt::from_u64(code).unwrap()).unwrap();
+        // It may have ended.
+        let _ = self.quic.send_stream(stream(id)).reset(VarInt::from_u64(code).unwrap());
         self.pump(Duration::ZERO);
     }
 
     pub fn stop(&mut self, id: u64, code: u64) {
-        self.quic.recv_stream(stream(id)).stop(VarInt::from_u64(code).unwrap()).unwrap();
+        // It may have ended.
+        let _ = self.quic.recv_stream(stream(id)).stop(VarInt::from_u64(code).unwrap());
         self.pump(Duration::ZERO);
     }
 
