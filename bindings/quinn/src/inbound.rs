@@ -33,6 +33,11 @@ impl Prefix {
         read_varint(self.known()).map(|(signal, _)| signal)
     }
 
+    /// Whether the id of a session that follows the signal is whole.
+    fn has_session(&self) -> bool {
+        read_varint(self.known()).map_or(false, |(_, rest)| read_varint(rest).is_some())
+    }
+
     fn has_whole_frame(&self) -> bool {
         let frame = read_varint(self.known()).and_then(|(_, rest)| read_varint(rest));
         frame.map_or(false, |(length, rest)| {
@@ -90,14 +95,19 @@ impl Inbound {
             Reader::Unknown(prefix) => {
                 prefix.add(bytes);
                 match prefix.signal() {
-                    Some(found) if found == signal => self.reader = Reader::Application,
-                    Some(_) => self.reader = Reader::Core(std::mem::take(prefix)),
-                    None => {}
+                    Some(found) if found != signal => self.reader = Reader::Core(std::mem::take(prefix)),
+                    Some(_) if prefix.has_session() => self.reader = Reader::Application,
+                    _ => {}
                 }
             }
             Reader::Core(prefix) => prefix.add(bytes),
             Reader::Application => {}
         }
+    }
+
+    /// Whether the core reads it.
+    pub fn is_of_core(&self) -> bool {
+        matches!(self.reader, Reader::Core(_))
     }
 
     /// Whether the application reads it, or will.
@@ -145,7 +155,9 @@ mod tests {
         assert!(stream.is_cut_short());
         stream.learn(&[0x40]);
         assert!(stream.is_cut_short() && !stream.is_of_application());
-        stream.learn(&[0x41, 0]);
+        stream.learn(&[0x41, 0x40]);
+        assert!(stream.is_cut_short() && !stream.is_of_application());
+        stream.learn(&[4, 0]);
         assert!(stream.is_of_application() && !stream.is_cut_short());
     }
 
@@ -155,7 +167,7 @@ mod tests {
         stream.learn(&[0x01, 0x03, 0, 0]);
         assert!(stream.is_cut_short());
         stream.learn(&[0]);
-        assert!(!stream.is_cut_short() && !stream.is_of_application());
+        assert!(!stream.is_cut_short() && stream.is_of_core());
     }
 
     #[test]

@@ -13,9 +13,12 @@ use std::net::SocketAddr;
 use std::time::{Duration, Instant};
 use zevombu::{Action, ConnectFailed, Core, Datagrams, Fields, Lookup, Loss, Outcome, Refused, Reply, Side, Turn};
 
-/// How many turns a pump makes at most: the core keeps 16 streams and 16 datagrams for an application that doesn't take them, so it
-/// has to be asked between fewer.
+/// How many turns a pump makes at most: the core keeps 16 datagrams for an application that doesn't take them, so it has to be asked
+/// between fewer.
 const BATCH: u64 = 8;
+/// How many streams of a kind the core has that the peer opened and the application hasn't: it keeps 16 of both, and turns further
+/// ones away. One turn may make many of them ready, where it brings a header that others waited for.
+const UNCLAIMED: usize = 8;
 /// How many bytes of a stream a turn has at most.
 const PIECE: u64 = 16 * 1024;
 /// How many streams of a kind are opened ahead: quinn-proto doesn't tell how many may be, and opening sends nothing.
@@ -76,6 +79,8 @@ pub struct Link<A = Plain> {
     accepts: [bool; 2],
     readable: VecDeque<u64>,
     has_datagrams: bool,
+    /// Streams of each kind that the peer opened, as long as they may still be given to the application.
+    unclaimed: [BTreeSet<u64>; 2],
     news: BTreeSet<u64>,
     turns: u64,
     observer: Option<Observer>,
@@ -120,6 +125,7 @@ impl<A: Adapter> Link<A> {
             accepts: [false; 2],
             readable: VecDeque::new(),
             has_datagrams: false,
+            unclaimed: [BTreeSet::new(), BTreeSet::new()],
             news: BTreeSet::new(),
             turns: 0,
             observer: None,
@@ -318,7 +324,7 @@ impl<A: Adapter> Link<A> {
 
     /// Takes the next stream that the peer opened.
     fn accept(&mut self, quic: &mut Connection, now: Instant, dir: Dir) -> Result<bool, Refused> {
-        if !self.accepts[dir as usize] {
+        if !self.accepts[dir as usize] || self.unclaimed[dir as usize].len() >= UNCLAIMED {
             return Ok(false);
         }
         let id = match quic.streams().accept(dir) {
@@ -329,9 +335,17 @@ impl<A: Adapter> Link<A> {
             }
         };
         self.inbound.insert(id, Inbound::of_peer(dir == Dir::Bi));
+        self.unclaimed[dir as usize].insert(id);
         self.event(quic, now, if dir == Dir::Bi { &Turn::PeerBi } else { &Turn::PeerUni })?;
         self.read(quic, now, id)?;
         Ok(true)
+    }
+
+    /// The application has the stream, or won't.
+    fn claim(&mut self, id: u64) {
+        for unclaimed in &mut self.unclaimed {
+            unclaimed.remove(&id);
+        }
     }
 
     /// Whether this end opened the stream.
@@ -384,16 +398,19 @@ impl<A: Adapter> Link<A> {
 
     fn deliver(&mut self, quic: &mut Connection, now: Instant, id: u64, bytes: Bytes) -> Done {
         let is_request = is_bidirectional(id) && !self.is_own(id);
-        let bytes = match self.inbound.get_mut(&id) {
+        let (bytes, is_of_core) = match self.inbound.get_mut(&id) {
             Some(half) => {
                 let was_given = half.is_of_application();
                 half.learn(&bytes);
                 let bytes = if is_request && !was_given { self.adapter.received(id, bytes) } else { bytes };
                 half.delivered(bytes.len());
-                bytes
+                (bytes, half.is_of_core())
             }
             None => return Ok(()),
         };
+        if is_of_core {
+            self.claim(id);
+        }
         if bytes.is_empty() {
             return Ok(());
         }
@@ -416,8 +433,11 @@ impl<A: Adapter> Link<A> {
             End::Finished => self.event(quic, now, &Turn::End { id })?,
             End::Reset(code) => self.event(quic, now, &Turn::Reset { id, code: code_from_peer(*code) })?,
         }
-        if is_request && half.is_cut_short() && !self.outbound.contains_key(&id) {
-            self.turn_away(quic, id, REQUEST_INCOMPLETE);
+        if half.is_cut_short() {
+            self.claim(id);
+            if is_request && !self.outbound.contains_key(&id) {
+                self.turn_away(quic, id, REQUEST_INCOMPLETE);
+            }
         }
         Ok(())
     }
@@ -548,6 +568,7 @@ impl<A: Adapter> Link<A> {
     }
 
     fn stop(&mut self, quic: &mut Connection, id: u64, code: u64) {
+        self.claim(id);
         if self.inbound.remove(&id).is_some() && is_bidirectional(id) && !self.is_own(id) {
             // Nothing more of it comes.
             self.adapter.ended(id);
@@ -568,7 +589,9 @@ impl<A: Adapter> Link<A> {
         match (call, &reply) {
             (Turn::Read { id, .. }, Reply::Read(Some(bytes))) => self.consumed(*id, bytes.len()),
             (Turn::ReadExact { id, .. }, Reply::Exact(bytes) | Reply::ExactFailed(_, bytes)) => self.consumed(*id, bytes.len()),
+            (_, Reply::Uni(id)) => self.claim(*id),
             (_, Reply::Bi(id)) => {
+                self.claim(*id);
                 self.outbound.entry(*id).or_default();
             }
             (Turn::OpenBi(_), Reply::Opening(id)) => {

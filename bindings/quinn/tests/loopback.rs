@@ -41,6 +41,8 @@ struct Echo {
     session: Option<u64>,
     streams: BTreeMap<u64, Writing>,
     ended: Option<Ended>,
+    /// The client's close may be lost.
+    has_loss: bool,
 }
 
 impl Echo {
@@ -109,8 +111,9 @@ impl Application for Echo {
     fn gone(&mut self, turns: u64, refused: Option<Refused>) {
         println!("server: {:?} after {turns} turns", self.ended);
         assert_eq!(refused, None);
-        let code = 17;
-        assert_eq!(self.ended, Some(Ended::ApplicationClosed { code, reason: b"done".to_vec() }));
+        let closed = Some(Ended::ApplicationClosed { code: 17, reason: b"done".to_vec() });
+        let is_lost = self.has_loss && self.ended == Some(Ended::TimedOut);
+        assert!(self.ended == closed || is_lost, "{:?}", self.ended);
     }
 }
 
@@ -242,7 +245,7 @@ impl Application for Sender {
 }
 
 /// A server of one connection, which ends with it.
-fn serve(name: &str) -> (SocketAddr, JoinHandle<()>) {
+fn serve(name: &str, has_loss: bool) -> (SocketAddr, JoinHandle<()>) {
     let mut host = Host::<Echo>::new(common::socket(), Some(common::server_config(name)));
     let address = host.local_addr().unwrap();
     let thread = std::thread::spawn(move || {
@@ -250,7 +253,7 @@ fn serve(name: &str) -> (SocketAddr, JoinHandle<()>) {
         while !came || !host.is_empty() {
             let mut accept = |_| {
                 came = true;
-                Some((Link::server(Plain)?, Echo::default()))
+                Some((Link::server(Plain)?, Echo { has_loss, ..Echo::default() }))
             };
             host.round(Duration::from_secs(1), &mut accept).unwrap();
         }
@@ -260,7 +263,7 @@ fn serve(name: &str) -> (SocketAddr, JoinHandle<()>) {
 
 fn send(name: &str, streams: usize, length: usize, datagrams: usize, loss: u64) {
     let begun = Instant::now();
-    let (server, thread) = serve(name);
+    let (server, thread) = serve(name, loss > 0);
     let address = common::lossy_link(server, loss);
     let url = format!("https://localhost:{}/echo", address.port());
     let (link, dial) = Link::client(&url, &[("origin", "https://localhost")], address, Plain).unwrap();

@@ -27,7 +27,7 @@ impl ServerCertVerifier for AnyCertificate {
 
 fn transport() -> Arc<TransportConfig> {
     let mut config = TransportConfig::default();
-    config.max_idle_timeout(Some(VarInt::from_u32(20_000).into())).datagram_receive_buffer_size(Some(1 << 20));
+    config.max_idle_timeout(Some(VarInt::from_u32(10_000).into())).datagram_receive_buffer_size(Some(1 << 20));
     Arc::new(config)
 }
 
@@ -96,7 +96,7 @@ impl Lossy {
 pub fn lossy_link(server: SocketAddr, per_thousand: u64) -> SocketAddr {
     let link = socket();
     let address = link.local_addr().unwrap();
-    link.set_read_timeout(Some(Duration::from_secs(10))).unwrap();
+    link.set_read_timeout(Some(Duration::from_secs(30))).unwrap();
     std::thread::spawn(move || {
         let mut lossy = Lossy { seed: 88_172_645_463_325_252, per_thousand };
         let mut client = None;
