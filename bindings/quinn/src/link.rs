@@ -233,7 +233,7 @@ impl<A: Adapter> Link<A> {
                 Ok(())
             }
             StreamEvent::Readable { id } => {
-                self.to_read(number(id));
+                self.queue(number(id));
                 Ok(())
             }
             StreamEvent::Writable { id } => {
@@ -361,7 +361,7 @@ impl<A: Adapter> Link<A> {
 
     // ---- receiving halves
 
-    fn to_read(&mut self, id: u64) {
+    fn queue(&mut self, id: u64) {
         if let Some(half) = self.inbound.get_mut(&id) {
             if !half.is_queued {
                 half.is_queued = true;
@@ -390,7 +390,7 @@ impl<A: Adapter> Link<A> {
         match chunk.end {
             Some(end) => self.ended(quic, now, id, &end),
             None => {
-                self.to_read(id);
+                self.queue(id);
                 Ok(())
             }
         }
@@ -630,7 +630,7 @@ impl<A: Adapter> Link<A> {
     fn consumed(&mut self, id: u64, count: usize) {
         let resumes = self.inbound.get_mut(&id).map_or(false, |half| half.consumed(count));
         if resumes {
-            self.to_read(id);
+            self.queue(id);
         }
     }
 

@@ -180,7 +180,7 @@ fn do_something(peer: &mut Peer, random: &mut Random, own: &mut Vec<u64>, sessio
             let bytes = [headers[random.below(headers.len())], &random.bytes(40)].concat();
             own.extend(peer.try_open(dir, &bytes, random.below(3) == 0));
         }
-        (1 | 2 | 3, _) => {
+        (1..=3, _) => {
             let header = headers[if dir == Dir::Bi { 0 } else { 1 }];
             own.extend(peer.try_open(dir, &[header, &random.bytes(3000)].concat(), random.below(2) == 0));
         }
