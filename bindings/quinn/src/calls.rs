@@ -34,7 +34,7 @@ impl<'a, A: Adapter> Calls<'a, A> {
         self.link.call(self.quic, self.now, call)
     }
 
-    /// Ends a session with a code and a reason, of at most 1,024 bytes. They go out in a capsule of the link's, since the core
+    /// Ends a session with a code and a reason, which is cut at 1,024 bytes. They go out in a capsule of the link's, since the core
     /// has none: its `EndSession` ends the session's stream, which the peer takes for code 0 without a reason.
     pub fn end_session(&mut self, session: u64, code: u32, reason: &str) -> Result<Reply, Refused> {
         self.link.close_capsule(session, code, reason);

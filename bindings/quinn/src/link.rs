@@ -34,6 +34,8 @@ const REQUEST_INCOMPLETE: u64 = 0x10d;
 /// The capsule that closes a session (draft-ietf-webtrans-http3, section 6), and the frame that it goes in.
 const CLOSE_SESSION: u64 = 0x2843;
 const DATA_FRAME: u64 = 0;
+/// How many bytes its reason has at most.
+const LONGEST_REASON: usize = 1024;
 
 type Done = Result<(), Refused>;
 type Observer = Box<dyn FnMut(&Turn<'_>, &Reply, &[Action]) + Send>;
@@ -640,17 +642,24 @@ impl<A: Adapter> Link<A> {
             Some(half) if half.is_open() => half,
             _ => return,
         };
-        let mut capsule = Vec::new();
-        put_varint(CLOSE_SESSION, &mut capsule);
-        put_varint(4 + reason.len() as u64, &mut capsule);
-        capsule.extend(code.to_be_bytes());
-        capsule.extend(reason.as_bytes());
-        let mut frame = Vec::new();
-        put_varint(DATA_FRAME, &mut frame);
-        put_varint(capsule.len() as u64, &mut frame);
-        frame.extend(capsule);
-        half.push(frame.into());
+        let payload = [&code.to_be_bytes(), shortened(reason).as_bytes()].concat();
+        half.push(framed(DATA_FRAME, &framed(CLOSE_SESSION, &payload)).into());
     }
+}
+
+/// A frame, or a capsule: its type, its length, and its bytes.
+fn framed(kind: u64, bytes: &[u8]) -> Vec<u8> {
+    let mut out = Vec::new();
+    put_varint(kind, &mut out);
+    put_varint(bytes.len() as u64, &mut out);
+    out.extend(bytes);
+    out
+}
+
+/// As much of a text as a capsule may have.
+fn shortened(reason: &str) -> &str {
+    let end = (0..=LONGEST_REASON.min(reason.len())).rev().find(|end| reason.is_char_boundary(*end));
+    &reason[..end.unwrap_or(0)]
 }
 
 /// A code on the wire: an application's own is mapped, those of the core are HTTP/3's or the draft's.

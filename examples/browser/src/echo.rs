@@ -89,8 +89,6 @@ fn command(payload: &[u8]) -> Option<Command> {
     }
 }
 
-type Link<'a> = Calls<'a, PlainHeaders>;
-
 impl Echo {
     /// An application whose lines begin with this name.
     pub fn new(name: String) -> Echo {
@@ -112,7 +110,7 @@ impl Echo {
     }
 
     /// Asks for requests, and answers them, until none waits.
-    fn answer_requests(&mut self, calls: &mut Link<'_>) -> Result<(), Refused> {
+    fn answer_requests(&mut self, calls: &mut Calls<'_, PlainHeaders>) -> Result<(), Refused> {
         loop {
             let (id, reply) = match &self.handshake {
                 Handshake::Over => return Ok(()),
@@ -130,7 +128,7 @@ impl Echo {
     }
 
     /// Asks for a request, and begins the answer to it.
-    fn ask(&mut self, calls: &mut Link<'_>) -> Result<Option<(u64, Reply)>, Refused> {
+    fn ask(&mut self, calls: &mut Calls<'_, PlainHeaders>) -> Result<Option<(u64, Reply)>, Refused> {
         let (id, fields) = match calls.make(&Turn::Incoming)? {
             Reply::Request { id, fields } => (id, fields),
             Reply::Pending => return Ok(None),
@@ -162,7 +160,7 @@ impl Echo {
     }
 
     /// Takes what came for a session; whether something did.
-    fn take(&mut self, calls: &mut Link<'_>, session: u64) -> Result<bool, Refused> {
+    fn take(&mut self, calls: &mut Calls<'_, PlainHeaders>, session: u64) -> Result<bool, Refused> {
         let mut goes_on = false;
         loop {
             match calls.make(&Turn::AcceptUni(Some(session)))? {
@@ -191,7 +189,7 @@ impl Echo {
         self.moving.insert(id);
     }
 
-    fn datagram(&mut self, calls: &mut Link<'_>, session: u64, payload: &[u8]) -> Result<(), Refused> {
+    fn datagram(&mut self, calls: &mut Calls<'_, PlainHeaders>, session: u64, payload: &[u8]) -> Result<(), Refused> {
         self.say(&format!("datagram of session {session}: {:?}", String::from_utf8_lossy(payload)));
         let echoed = [b"echo: ", payload].concat();
         calls.make(&Turn::SendDatagram { payload: &echoed, session: Some(session) })?;
@@ -208,7 +206,7 @@ impl Echo {
         Ok(())
     }
 
-    fn leave(&mut self, calls: &mut Link<'_>, session: u64, leave: &Leave) -> Result<(), Refused> {
+    fn leave(&mut self, calls: &mut Calls<'_, PlainHeaders>, session: u64, leave: &Leave) -> Result<(), Refused> {
         let reply = match leave {
             Leave::Plainly => calls.make(&Turn::EndSession(Some(session)))?,
             Leave::With { code, reason } => calls.end_session(session, *code, reason)?,
@@ -229,7 +227,7 @@ impl Echo {
     }
 
     /// Opens streams for the pipes that have none.
-    fn name_pipes(&mut self, calls: &mut Link<'_>) -> Result<(), Refused> {
+    fn name_pipes(&mut self, calls: &mut Calls<'_, PlainHeaders>) -> Result<(), Refused> {
         for mut pipe in std::mem::take(&mut self.unnamed) {
             let is_done = pipe.go_on(calls)?;
             match pipe.sink() {
@@ -241,7 +239,7 @@ impl Echo {
         Ok(())
     }
 
-    fn go_on(&mut self, calls: &mut Link<'_>, key: u64) -> Result<(), Refused> {
+    fn go_on(&mut self, calls: &mut Calls<'_, PlainHeaders>, key: u64) -> Result<(), Refused> {
         let pipe = match self.pipes.get_mut(&key) {
             Some(pipe) => pipe,
             None => return Ok(()),
@@ -264,7 +262,7 @@ impl Echo {
     }
 
     /// Goes on with the pipes that something happened to, or that wait for a stream.
-    fn move_on(&mut self, calls: &mut Link<'_>) -> Result<(), Refused> {
+    fn move_on(&mut self, calls: &mut Calls<'_, PlainHeaders>) -> Result<(), Refused> {
         let mut keys = std::mem::take(&mut self.moving);
         keys.extend(calls.take_news().into_iter().map(|id| self.sinks.get(&id).copied().unwrap_or(id)));
         for key in keys {
@@ -274,7 +272,7 @@ impl Echo {
     }
 
     /// Closes the connection where no session has lived on it for a while.
-    fn close_if_idle(&mut self, calls: &mut Link<'_>) -> Result<(), Refused> {
+    fn close_if_idle(&mut self, calls: &mut Calls<'_, PlainHeaders>) -> Result<(), Refused> {
         let is_idle =
             self.had_sessions && self.sessions.is_empty() && matches!(self.handshake, Handshake::Asking) && !calls.is_over();
         self.idle_since = if is_idle { self.idle_since.or_else(|| Some(calls.now())) } else { None };
@@ -290,7 +288,7 @@ impl Echo {
 impl Application for Echo {
     type Adapter = PlainHeaders;
 
-    fn poll(&mut self, calls: &mut Link<'_>) -> Result<bool, Refused> {
+    fn poll(&mut self, calls: &mut Calls<'_, PlainHeaders>) -> Result<bool, Refused> {
         self.answer_requests(calls)?;
         let mut goes_on = false;
         for session in self.sessions.keys().copied().collect::<Vec<_>>() {
