@@ -355,7 +355,7 @@ fn recorded(path: &str) -> Vec<Case> {
         *whole &= !line.contains('\\');
         let (out, text) = match line.split_at(1) {
             (">", text) => (&mut case.script, text),
-            (_, text) => (case.wanted.get_or_insert_default(), text),
+            (_, text) => (case.wanted.get_or_insert_with(String::new), text),
         };
         out.push_str(text);
         out.push('\n');
@@ -385,7 +385,7 @@ fn run(case: &Case) -> (usize, Option<String>) {
         let got = turn(&mut core, &words);
         let want = wanted.as_mut().map(|lines| lines.next().unwrap_or("no turn"));
         match got {
-            Ok(got) if want.is_none_or(|want| want == got) => turns += 1,
+            Ok(got) if want.map_or(true, |want| want == got) => turns += 1,
             got => return (turns, Some(format!("{}: {line}\n  got  {got:?}\n  want {want:?}", case.name))),
         }
     }

@@ -148,7 +148,10 @@ fn what_may_not_come_is_unlawful_and_changes_nothing() {
 #[test]
 fn what_is_written_goes_out() {
     let mut core = server();
-    let Reply::Opening(id) = reply(&mut core, Turn::OpenUni(None)) else { panic!("no stream is opened") };
+    let id = match reply(&mut core, Turn::OpenUni(None)) {
+        Reply::Opening(id) => id,
+        other => panic!("no stream is opened: {other:?}"),
+    };
     assert_eq!(reply(&mut core, Turn::PollOpening { id }), Reply::SendReady(id));
     let answer = core.turn(&Turn::WriteAll { id, bytes: b"hello" }).unwrap();
     assert_eq!(answer.reply(), Reply::AllWritten);
