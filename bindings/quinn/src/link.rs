@@ -186,14 +186,15 @@ impl<A: Adapter> Link<A> {
             return Ok(false);
         }
         if let Some(id) = self.readable.pop_front() {
-            self.read(quic, now, id)?;
-        } else if self.accept(quic, now, Dir::Uni)? || self.accept(quic, now, Dir::Bi)? || self.receive(quic, now)? {
-        } else if let Some(event) = quic.poll() {
-            self.report(quic, now, event)?;
-        } else {
-            return self.report_datagram_limit(quic, now);
+            return self.read(quic, now, id).map(|()| true);
         }
-        Ok(true)
+        if self.accept(quic, now, Dir::Uni)? || self.accept(quic, now, Dir::Bi)? || self.receive(quic, now)? {
+            return Ok(true);
+        }
+        match quic.poll() {
+            Some(event) => self.report(quic, now, event).map(|()| true),
+            None => self.report_datagram_limit(quic, now),
+        }
     }
 
     fn after_the_end(&mut self, quic: &mut Connection, event: Event) {
