@@ -9,7 +9,7 @@ use Rattle.wt_trace.specs.Outcome.{Outcome}
 use Rattle.wt_trace.specs.Outside.{Outside}
 use Rattle.wt_trace.specs.Program.{asked_by}
 
-chosen : Option (List ℕ → Outcome) → Option (List ℕ → Outcome) → Option (List ℕ → Outcome)
+abbrev chosen : Option (List ℕ → Outcome) → Option (List ℕ → Outcome) → Option (List ℕ → Outcome)
 chosen first second = elim first [ Some asked ↦ Some asked | None ↦ second ]
 
 first_chosen : (first second : Option (List ℕ → Outcome)) → is_some first ≡ true → first ≡ chosen first second
