@@ -103,14 +103,14 @@ fn run_command<R: Threads + Wait + Sync, S: Source, K: Sink>(
     ensures no_words { words.now ≡ [] → (result ≡ 1) ⊎ (result ≡ 5) }
     ensures usage_text { result ≡ 1 → Appends (K.took sink.old) (K.took sink.new) usage.text }
 {
+    if asks_check(words) {
+        return run_check_program(alloc, words, source, sink);
+    }
     if is_named(words, b"shared") {
         return run_shared(rt, alloc, words, sink, &mut OpenGate, &mut OpenGate);
     }
     if is_named(words, b"pair") {
         return run_pair_program(alloc, words, source, sink);
-    }
-    if asks_check(words) {
-        return run_check_program(alloc, words, source, sink);
     }
     run_program(alloc, words, source, sink)
 }
